@@ -1,0 +1,11 @@
+pub mod AnswerLaws
+pub mod NameLaws
+pub mod FieldLaws
+pub mod ContentLaws
+pub mod RefusalLaws
+pub mod RecordRoundTrip
+pub mod RecordUnique
+pub mod RecordWellFormed
+pub mod SizeLaws
+pub mod BytesLaws
+pub mod DiagramUnique

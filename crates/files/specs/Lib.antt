@@ -1,0 +1,14 @@
+pub mod Field
+pub mod Refusal
+pub mod Name
+pub mod Content
+pub mod Diagram
+pub mod DiagramLayout
+pub mod DiagramFile
+pub mod DiagramBytes
+pub mod Record
+pub mod RecordLayout
+pub mod RecordFile
+pub mod RecordBytes
+pub mod WellFormedRecord
+pub mod WellFormedDiagram

@@ -1,0 +1,4 @@
+pub mod ConnectiveLaws
+pub mod BoundedLaws
+pub mod OrderLaws
+pub mod JoinedLaws

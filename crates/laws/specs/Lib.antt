@@ -1,0 +1,4 @@
+pub mod Connective
+pub mod Bounded
+pub mod Lists
+pub mod Order

@@ -1,0 +1,6 @@
+// How two byte strings compare.
+pub enum Order {
+    Less,
+    Equal,
+    Greater,
+}
