@@ -12,3 +12,4 @@ pub mod RecordFile
 pub mod RecordBytes
 pub mod WellFormedRecord
 pub mod WellFormedDiagram
+pub mod FileCases

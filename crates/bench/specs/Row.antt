@@ -1,0 +1,45 @@
+-- 01 "The bench": rows of calls, "refused ones included".
+-- Assumes nothing.
+use mathlib.Core.Bool.{Bool, false, not, true}
+use mathlib.Core.List.{List, [], _∷_}
+use mathlib.Core.Path.{_≡_}
+use Rattle.bench.specs.Bench.{Bench, Call, Clear, Compare, Compile, Evaluate, HandOut, Judge, Load, Outcome, Reply, difference, done, firstFalse, fresh, noDifference, records, refusal, rule, written}
+use Rattle.bench.specs.Step.{Step}
+
+pub record Event : Type 0 where
+  pub call : Call
+  pub outcome : Outcome
+
+-- each call gets the bench that the one before returned, "refused ones included"
+abbrev pub Row : Bench → List Event → Bench → Type 0
+Row b [] last = b ≡ last
+Row b (e ∷ es) last = Step b (e .call) (e .outcome) × Row (e .outcome .bench) es last
+
+-- "A bench is the fresh one or one that a call returned."
+abbrev pub Reached : Bench → Type 0
+Reached b = (es : List Event) × Row fresh es b
+
+unfoldable pub isRefusal : Reply → Bool
+isRefusal (refusal n) = true
+isRefusal done = false
+isRefusal (rule n) = false
+isRefusal (records n list) = false
+isRefusal (firstFalse n) = false
+isRefusal noDifference = false
+isRefusal (difference n) = false
+isRefusal (written n) = false
+
+-- the call "drops or stores a witness": an accepted load, clear or compare
+unfoldable pub dropsOrStores : Call → Reply → Bool
+dropsOrStores (Load p file) reply = not (isRefusal reply)
+dropsOrStores (Clear p) reply = not (isRefusal reply)
+dropsOrStores (Judge p file) reply = false
+dropsOrStores (Compile p) reply = false
+dropsOrStores (Evaluate p file) reply = false
+dropsOrStores (Compare bound) reply = not (isRefusal reply)
+dropsOrStores (HandOut buffer) reply = false
+
+-- "none of which drops or stores a witness"
+abbrev pub Keeps : List Event → Type 0
+Keeps [] = Unit {0}
+Keeps (e ∷ es) = (dropsOrStores (e .call) (e .outcome .reply) ≡ false) × Keeps es

@@ -1,0 +1,1 @@
+// What 01 "The bench" means, as definitions and theorems about them.

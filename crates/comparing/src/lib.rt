@@ -1,0 +1,1 @@
+// What compare promises, as a definition.

@@ -1,0 +1,5 @@
+pub mod InstanceLaws
+pub mod PredicateLaws
+pub mod CompileLaws
+pub mod SiteLaws
+pub mod DemandTwo

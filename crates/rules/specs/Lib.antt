@@ -1,0 +1,13 @@
+pub mod Site
+pub mod Instance
+pub mod Arrow
+pub mod TypeRules
+pub mod ValueRules
+pub mod LinkRules
+pub mod WholeRule
+pub mod Judge
+pub mod Compile
+pub mod Evaluate
+pub mod Marked
+pub mod RuleCases
+pub mod CompileCases
