@@ -13,6 +13,8 @@ use lib.Dec.{leb, ltb}
 use lib.ListN.{drop, length, take}
 use lib.Seq.{drop-append-seam, take-append-seam}
 use borrow.Author.Tests.{le-leb}
+use borrow.Fn.PlainCycle.{is}
+use Rattle.laws.specs.Connective.{same}
 use Rattle.laws.specs.Lists.{over}
 use Rattle.files.specs.Diagram.{Diagram}
 use Rattle.files.specs.DiagramFile.{readDiagram}

@@ -6,7 +6,6 @@ use mathlib.Core.List.{List}
 use mathlib.Core.Option.{Option, none, some}
 use mathlib.Core.Path.{_≡_}
 use Rattle.files.specs.Diagram.{Diagram}
-use Rattle.files.specs.Field.{Bytes}
 use Rattle.files.specs.Record.{Record, objectCount}
 use Rattle.files.specs.RecordBytes.{writeRecord}
 use Rattle.files.specs.RecordFile.{readRecord}
@@ -15,7 +14,6 @@ use Rattle.rules.specs.Judge.{Illegal, Legal}
 
 -- a site record, "one whose file follows this document", legal for old and illegal for new
 pub record Gap (old new : Diagram) (file : List ℕ) (r : Record) : Type 0 where
-  pub bytes : Bytes file
   pub reads : readRecord file ≡ accepted r
   pub legal : Legal old r
   pub illegal : Illegal new r

@@ -9,3 +9,9 @@ pub mod RecordWellFormed
 pub mod SizeLaws
 pub mod BytesLaws
 pub mod DiagramUnique
+pub mod DiagramWellFormed
+pub mod DiagramContents
+pub mod DiagramRoundTrip
+pub mod DiagramSize
+pub mod AcceptedBytes
+pub mod AncestorLaws

@@ -3,6 +3,7 @@ pub mod Refusal
 pub mod Name
 pub mod Content
 pub mod Diagram
+pub mod Ancestor
 pub mod DiagramLayout
 pub mod DiagramFile
 pub mod DiagramBytes

@@ -1,13 +1,14 @@
--- Laws of the tests over the indices below a bound.
+-- Laws of the tests over the indices below a bound: what `all`, `any` and `firstNot` say of each index, and from each index.
 -- Assumes nothing.
 use mathlib.Core.Path.{_≡_, refl, sym, ap, ap₂, _∙_}
-use mathlib.Core.Bool.{Bool, true, false, cond, _&&_, _||_, false≢true}
+use mathlib.Core.Bool.{Bool, true, false, cond, _&&_, _||_, false≢true, and-assoc, and-comm, and-false}
 use mathlib.Core.Logic.{⊎-elim, _⊎_}
 use Prim.Native.Nat.{ℕ, zero, suc, _+_, _<_, _≤_}
-use native.Mathlib.Nat.{not-suc-le-zero, eq-or-lt-of-le, le-of-suc-le-suc, le-refl, le-step, lt-suc-self}
+use native.Mathlib.Nat.{not-suc-le-zero, eq-or-lt-of-le, le-of-suc-le-suc, le-refl, le-step, lt-suc-self, ne-of-lt}
+use native.Mathlib.Numerals.{add-one}
 use native.Mathlib.Omega.{arith}
 use lib.Dec.{eqb}
-use borrow.Author.Tests.{eq-eqb, eqb-true}
+use borrow.Author.Tests.{eq-eqb, ne-eqb, eqb-true}
 use Rattle.laws.specs.Bounded.{one, all, any, tally, firstNot}
 use Rattle.laws.proofs.ConnectiveLaws.{same-test, and-left, and-right, and-both, or-left, or-right, or-cases}
 
@@ -42,6 +43,26 @@ module _ (p : ℕ → Bool) where
   any-none zero f = refl
   any-none (suc n) f = ap₂ (λ (a b : Bool). a || b) (any-none n (λ k l. f k (le-step l))) (f n (lt-suc-self n))
 
+  pub tally-none : (n : ℕ) → ((k : ℕ) → k < n → p k ≡ false) → tally p n ≡ 0
+  unfolding tally
+  tally-none zero f = refl
+  tally-none (suc n) f = ap₂ (λ (a : ℕ) (b : Bool). a + one b) (tally-none n (λ k l. f k (le-step l))) (f n (lt-suc-self n))
+
+  pub all-not : (n k : ℕ) → k < n → p k ≡ false → all p n ≡ false
+  all-not n k h e = same-test (all p n) false (λ a. sym e ∙ all-at n a k h) (λ a. absurd (false≢true a))
+
+  pub any-no : (n : ℕ) → any p n ≡ false → (k : ℕ) → k < n → p k ≡ false
+  any-no n e k h = same-test (p k) false (λ t. sym e ∙ any-of n k h t) (λ t. absurd (false≢true t))
+
+  -- one index more, as a loop counts
+  pub all-more : (n : ℕ) → all p (n + 1) ≡ all p n && p n
+  unfolding all
+  all-more n = ap (all p) (add-one n)
+
+  pub any-more : (n : ℕ) → any p (n + 1) ≡ any p n || p n
+  unfolding any
+  any-more n = ap (any p) (add-one n)
+
 module _ (p q : ℕ → Bool) where
   pub all-ext : (n : ℕ) → ((k : ℕ) → k < n → p k ≡ q k) → all p n ≡ all q n
   unfolding all
@@ -53,16 +74,22 @@ module _ (p q : ℕ → Bool) where
   any-ext zero f = refl
   any-ext (suc n) f = ap₂ (λ (a b : Bool). a || b) (any-ext n (λ k l. f k (le-step l))) (f n (lt-suc-self n))
 
+-- the first index taken off, in place of the last
+pub all-front : (p : ℕ → Bool) (n : ℕ) → all p (suc n) ≡ p 0 && all (λ k. p (suc k)) n
+unfolding all
+all-front p zero = and-comm true (p 0)
+all-front p (suc n) = ap (λ (b : Bool). b && p (suc n)) (all-front p n) ∙ and-assoc (p 0) (all (λ k. p (suc k)) n) (p (suc n))
+
 -- ---- the first index at which a test fails
 
-module _ (p : ℕ → Bool) where
-  step-of : (k n : ℕ) (b : Bool) → k ≤ n → cond (eqb k n && b) (suc n) k ≤ suc n
-  step-of k n b h = go (eqb k n && b)
-    where
-      go : (t : Bool) → cond t (suc n) k ≤ suc n
-      go true = le-refl (suc n)
-      go false = le-step h
+step-of : (k n : ℕ) (b : Bool) → k ≤ n → cond (eqb k n && b) (suc n) k ≤ suc n
+step-of k n b h = go (eqb k n && b)
+  where
+    go : (t : Bool) → cond t (suc n) k ≤ suc n
+    go true = le-refl (suc n)
+    go false = le-step h
 
+module _ (p : ℕ → Bool) where
   pub firstNot-le : (n : ℕ) → firstNot p n ≤ n
   unfolding firstNot
   firstNot-le zero = le-refl 0
@@ -87,26 +114,15 @@ module _ (p : ℕ → Bool) where
           (and-right (eqb (firstNot p n) n) (p n) q)
       go below false q h = let l = firstNot-le n in absurd (omega arith)
 
--- ---- more of `any`, `tally` and `all`
-
-module _ (p : ℕ → Bool) where
-  pub any-no : (n : ℕ) → any p n ≡ false → (k : ℕ) → k < n → p k ≡ false
-  any-no n e k h = same-test (p k) false (λ t. sym e ∙ any-of p n k h t) (λ t. absurd (false≢true t))
-
-  pub tally-none : (n : ℕ) → ((k : ℕ) → k < n → p k ≡ false) → tally p n ≡ 0
-  unfolding tally
-  tally-none zero f = refl
-  tally-none (suc n) f = ap₂ (λ (a : ℕ) (b : Bool). a + one b) (tally-none n (λ k l. f k (le-step l))) (f n (lt-suc-self n))
-
-and-assoc : (a b c : Bool) → (a && b) && c ≡ a && (b && c)
-and-assoc true b c = refl
-and-assoc false b c = refl
-
-pub all-front : (p : ℕ → Bool) (n : ℕ) → all p (suc n) ≡ p 0 && all (λ k. p (suc k)) n
-unfolding all
-all-front p zero = go (p 0)
-  where
-    go : (b : Bool) → true && b ≡ b && true
-    go true = refl
-    go false = refl
-all-front p (suc n) = ap (λ (b : Bool). b && p (suc n)) (all-front p n) ∙ and-assoc (p 0) (all (λ k. p (suc k)) n) (p (suc n))
+  -- it is k, where p fails at k and not before
+  pub firstNot-at : (n k : ℕ) → k < n → all p k ≡ true → p k ≡ false → firstNot p n ≡ k
+  unfolding firstNot
+  firstNot-at zero k h a e = absurd (not-suc-le-zero h)
+  firstNot-at (suc n) k h a e =
+      ⊎-elim
+      (λ q.
+      let b : eqb (firstNot p n) n && p n ≡ false = ap (λ (t : Bool). eqb (firstNot p n) n && t) (ap p (sym q) ∙ e) ∙ and-false (eqb (firstNot p n) n) in
+      ap (λ (t : Bool). cond t (suc n) (firstNot p n)) b ∙ firstNot-none n (ap (all p) (sym q) ∙ a) ∙ sym q)
+      (λ l.
+      let i : firstNot p n ≡ k = firstNot-at n k l a e in
+      ap (λ (m : ℕ). cond (eqb m n && p n) (suc n) m) i ∙ ap (λ (t : Bool). cond (t && p n) (suc n) k) (ne-eqb k n (ne-of-lt l))) (last h)

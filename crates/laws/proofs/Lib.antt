@@ -1,4 +1,15 @@
 pub mod ConnectiveLaws
 pub mod BoundedLaws
-pub mod OrderLaws
+pub mod CountLaws
+pub mod FirstLaws
+pub mod LoopLaws
+pub mod SearchLaws
+pub mod ForallLaws
+pub mod BitLaws
+pub mod MaskLaws
+pub mod ListLaws
+pub mod PickedLaws
 pub mod JoinedLaws
+pub mod OverLaws
+pub mod OrderLaws
+pub mod CompareLaws

@@ -1,4 +1,5 @@
 pub mod Connective
 pub mod Bounded
+pub mod Bits
 pub mod Lists
 pub mod Order

@@ -1,4 +1,3 @@
-pub mod InstanceLaws
 pub mod PredicateLaws
 pub mod CompileLaws
 pub mod SiteLaws

@@ -9,6 +9,7 @@ use Rattle.laws.specs.Bounded.{all, any, first, firstNot, tally}
 use Rattle.laws.specs.Connective.{both, either, imp, same, unless}
 use Rattle.laws.specs.Lists.{joined}
 use Rattle.laws.specs.Order.{order}
+use Rattle.files.specs.Ancestor.{reaches, reachesBy}
 use Rattle.files.specs.Diagram.{Diagram, isComposition, isConcrete, isSingleton}
 use Rattle.files.specs.FileCases.{diagramFile, recordFile}
 use Rattle.files.specs.Name.{sameName}
@@ -17,7 +18,7 @@ use Rattle.files.specs.Refusal.{Answer, accepted, refused}
 use Rattle.rules.specs.Arrow.{carriesLeft, carriesRight, countedLeft, countedRight, mirrors, notAbove, within}
 use Rattle.rules.specs.Compile.{compile, entriesOf, entryFor, limited, rowOf}
 use Rattle.rules.specs.Evaluate.{evaluate, firstFailing, holds, oneWhole, sourcesHold, targetsHold}
-use Rattle.rules.specs.Instance.{hasType, isInstance, reaches, reachesBy}
+use Rattle.rules.specs.Instance.{hasType, isInstance}
 use Rattle.rules.specs.Judge.{judge, lowestBroken}
 use Rattle.rules.specs.LinkRules.{incoming, mirrorAt, mirrored, permits, rule5, rule5At, rule6, rule6For, rule7, rule7For, rule8, rule8For, sources, sourcesAt, targets, targetsAt}
 use Rattle.rules.specs.Site.{hasLink, hasValue, siteOf}
