@@ -1,13 +1,14 @@
 // Refusal 3 for each tag: whether a content is on its layout. All reads are total, so that nothing is asked of the content.
 ghost use mathlib.Core.Path.{_≡_};
+ghost use mathlib.Core.Bool.{not};
 ghost use mathlib.Core.List.{_∷_, []};
 ghost use Prim.Native.Nat.{_≤_};
-ghost use Rattle.laws.specs.Connective.{both};
 ghost use Rattle.laws.specs.Bounded.{all, any};
 ghost use Rattle.laws.specs.Lists.{joined};
 ghost use Rattle.files.specs.Name.{sameName, differ};
-ghost use Rattle.files.specs.Content.{nameIn, pastNames, startsName, atEnd};
+ghost use Rattle.files.specs.Content.{nameIn, pastNames};
 ghost use Rattle.files.specs.DiagramLayout.{editionLaid, valueTypeLaid, typeLaid, attributeLaid, limitsLaid, endLaid, pastEnd, associationLaid};
+ghost use Rattle.layouts.specs.Names.{namesLaid};
 ghost use Rattle.files.specs.RecordLayout.{countLaid, objectLaid, valueLaid, linkLaid};
 
 // ---- rows of names
@@ -28,7 +29,7 @@ pub fn past_names(c: &[u8], n: u8) -> &[u8]
 
 // n names, and nothing behind them.
 pub fn names_laid(c: &[u8], n: u8) -> bool
-    ensures { λ r. ⌜ r ≡ both (all (λ i. startsName (pastNames i (now (c .entry)))) n) (atEnd (pastNames n (now (c .entry)))) ⌝ }
+    ensures { λ r. ⌜ r ≡ namesLaid (now (c .entry)) n ⌝ }
 {
     let mut rest = c;
     let mut i: u8 = 0;
@@ -43,14 +44,20 @@ pub fn names_laid(c: &[u8], n: u8) -> bool
     rest.len() == 0
 }
 
+// Names i and j are the same.
+fn same_names(c: &[u8], i: u8, j: u8) -> bool
+    ensures { λ r. ⌜ r ≡ sameName (nameIn (pastNames i (now (c .entry)))) (nameIn (pastNames j (now (c .entry)))) ⌝ }
+{
+    fields::same_name(fields::name_in(past_names(c, i)), fields::name_in(past_names(c, j)))
+}
+
 // Name i is the same as one before it.
 fn repeats(c: &[u8], i: u8) -> bool
     ensures { λ r. ⌜ r ≡ any (λ j. sameName (nameIn (pastNames j (now (c .entry)))) (nameIn (pastNames i (now (c .entry))))) i ⌝ }
 {
-    let w = fields::name_in(past_names(c, i));
     let mut j: u8 = 0;
     while j < i {
-        if fields::same_name(fields::name_in(past_names(c, j)), w) {
+        if same_names(c, j, i) {
             return true;
         }
         j += 1;
@@ -58,18 +65,32 @@ fn repeats(c: &[u8], i: u8) -> bool
     false
 }
 
-// No two of the first n names are the same.
-pub fn names_differ(c: &[u8], n: u8) -> bool
-    ensures { λ r. ⌜ r ≡ differ (joined (λ i. nameIn (pastNames i (now (c .entry))) ∷ []) n) ⌝ }
+// Name i is none of those before it.
+fn is_new(c: &[u8], i: u8) -> bool
+    ensures { λ r. ⌜ r ≡ not (any (λ j. sameName (nameIn (pastNames j (now (c .entry)))) (nameIn (pastNames i (now (c .entry))))) i) ⌝ }
+{
+    !repeats(c, i)
+}
+
+// Each of the first n names is none of those before it.
+fn all_new(c: &[u8], n: u8) -> bool
+    ensures { λ r. ⌜ r ≡ all (λ i. not (any (λ j. sameName (nameIn (pastNames j (now (c .entry)))) (nameIn (pastNames i (now (c .entry))))) i)) n ⌝ }
 {
     let mut i: u8 = 0;
     while i < n {
-        if repeats(c, i) {
+        if !is_new(c, i) {
             return false;
         }
         i += 1;
     }
     true
+}
+
+// No two of the first n names are the same.
+pub fn names_differ(c: &[u8], n: u8) -> bool
+    ensures { λ r. ⌜ r ≡ differ (joined (λ i. nameIn (pastNames i (now (c .entry))) ∷ []) n) ⌝ }
+{
+    all_new(c, n)
 }
 
 // ---- diagram files

@@ -1,0 +1,57 @@
+use Rattle.fields.specs.Slot.{slotName}
+use borrow.Author.Needs.{needs}
+use Rattle.fields.proofs.slot_name.Statement.{statement}
+use Rattle.fields.proofs.slot_name.Tie as tie
+use Rattle.fields.proofs.slot_name.Reads as reads
+use Rattle.fields.proofs.slot_name.Lts as lts
+use Rattle.fields.proofs.at_most_16.Reads as at-most-16-reads
+use Rattle.laws.proofs.byte.Reads as byte-reads
+use Rattle.laws.proofs.front.Reads as front-reads
+use Rattle.laws.proofs.past.Reads as past-reads
+use Rattle.laws.proofs.wide.Reads as wide-reads
+
+-- src/lib.rt:140:14
+wide-requires : tie.Need-wide-requires
+wide-requires c κs = search needs
+
+-- src/lib.rt:140:14
+mul-at : tie.Need-mul-at
+mul-at c = search needs
+
+-- src/lib.rt:141:35
+add-past : tie.Need-add-past
+add-past c = search needs
+
+-- src/lib.rt:141:17
+past-requires : tie.Need-past-requires
+past-requires c κs = search needs
+
+-- src/lib.rt:141:55
+byte-requires : tie.Need-byte-requires
+byte-requires c κs = search needs
+
+-- src/lib.rt:141:44
+at-most-16-requires : tie.Need-at-most-16-requires
+at-most-16-requires c κs = search needs
+
+-- src/lib.rt:141:5
+front-requires : tie.Need-front-requires
+front-requires c κs = search needs
+
+-- src/lib.rt:137:1
+returns : tie.Need-returns
+unfolding slotName
+returns c = cc
+
+pub slot-name-spec : {M : Type 1} → statement M
+slot-name-spec =
+    tie.close
+    (tie.spec
+    wide-requires
+    mul-at
+    add-past
+    past-requires
+    byte-requires
+    at-most-16-requires
+    front-requires
+    returns)

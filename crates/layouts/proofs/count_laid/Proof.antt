@@ -1,0 +1,21 @@
+use Rattle.files.specs.RecordLayout.{countLaid}
+use Rattle.files.specs.Content.{atEnd}
+use Rattle.laws.specs.Connective.{both, either}
+use borrow.Author.Needs.{needs}
+use Rattle.layouts.proofs.count_laid.Statement.{statement}
+use Rattle.layouts.proofs.count_laid.Tie as tie
+use Rattle.layouts.proofs.count_laid.Reads as reads
+use Rattle.layouts.proofs.count_laid.Lts as lts
+use Rattle.laws.proofs.byte.Reads as byte-reads
+
+-- src/lib.rt:147:23
+byte-requires : tie.Need-byte-requires
+byte-requires c κs = search needs
+
+-- src/lib.rt:144:1
+returns : tie.Need-returns
+unfolding countLaid both either atEnd
+returns c = cc
+
+pub count-laid-spec : {M : Type 1} → statement M
+count-laid-spec = tie.close (tie.spec byte-requires returns)

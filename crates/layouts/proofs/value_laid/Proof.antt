@@ -1,0 +1,58 @@
+use Rattle.files.specs.RecordLayout.{valueLaid}
+use Rattle.files.specs.Content.{atEnd}
+use Rattle.laws.specs.Connective.{both, either}
+use borrow.Author.Needs.{needs}
+use Rattle.layouts.proofs.value_laid.Statement.{statement}
+use Rattle.layouts.proofs.value_laid.Tie as tie
+use Rattle.layouts.proofs.value_laid.Reads as reads
+use Rattle.layouts.proofs.value_laid.Lts as lts
+use Rattle.fields.proofs.past_name.Reads as past-name-reads
+use Rattle.fields.proofs.starts_constant.Reads as starts-constant-reads
+use Rattle.fields.proofs.starts_name.Reads as starts-name-reads
+use Rattle.laws.proofs.past.Reads as past-reads
+
+-- src/lib.rt:161:9
+past-requires : tie.Need-past-requires
+past-requires c κs = search needs
+
+-- src/lib.rt:162:9
+past-name-requires : tie.Need-past-name-requires
+past-name-requires c κs = search needs
+
+-- src/lib.rt:163:9
+past-name-requires-2 : tie.Need-past-name-requires-2
+past-name-requires-2 c κs = search needs
+
+-- src/lib.rt:164:5
+starts-name-requires : tie.Need-starts-name-requires
+starts-name-requires c κs = search needs
+
+-- src/lib.rt:165:12
+starts-name-requires-2 : tie.Need-starts-name-requires-2
+starts-name-requires-2 c κs = search needs
+
+-- src/lib.rt:166:16
+starts-constant-requires : tie.Need-starts-constant-requires
+starts-constant-requires c κs = search needs
+
+-- src/lib.rt:166:53
+past-name-requires-3 : tie.Need-past-name-requires-3
+past-name-requires-3 c κs = search needs
+
+-- src/lib.rt:158:1
+returns : tie.Need-returns
+unfolding valueLaid both either atEnd
+returns c = cc
+
+pub value-laid-spec : {M : Type 1} → statement M
+value-laid-spec =
+    tie.close
+    (tie.spec
+    past-requires
+    past-name-requires
+    past-name-requires-2
+    starts-name-requires
+    starts-name-requires-2
+    starts-constant-requires
+    past-name-requires-3
+    returns)
