@@ -48,7 +48,10 @@ pub fn names_laid(c: &[u8], n: u8) -> bool
 fn same_names(c: &[u8], i: u8, j: u8) -> bool
     ensures { λ r. ⌜ r ≡ sameName (nameIn (pastNames i (now (c .entry)))) (nameIn (pastNames j (now (c .entry)))) ⌝ }
 {
-    fields::same_name(fields::name_in(past_names(c, i)), fields::name_in(past_names(c, j)))
+    fields::same_name(
+        fields::name_in(past_names(c, i)),
+        fields::name_in(past_names(c, j)),
+    )
 }
 
 // Name i is the same as one before it.
@@ -117,7 +120,8 @@ pub fn type_laid(c: &[u8]) -> bool
 {
     let rest = fields::past_name(laws::past(c, 1));
     let n = laws::byte(rest, 0);
-    (laws::byte(c, 0) <= 3) & (fields::starts_name(laws::past(c, 1)) & ((n <= 4) & (rest.len() == 1 + laws::wide(n))))
+    (laws::byte(c, 0) <= 3)
+        & (fields::starts_name(laws::past(c, 1)) & ((n <= 4) & (rest.len() == 1 + laws::wide(n))))
 }
 
 // 0x40: owner, name, value type.
@@ -156,7 +160,8 @@ pub fn association_laid(c: &[u8]) -> bool
     let right = past_end(left);
     let arrow = laws::byte(c, 1);
     (laws::byte(c, 0) <= 1)
-        & (((1 <= arrow) & (arrow <= 4)) & (end_laid(left) & (end_laid(right) & (past_end(right).len() == 0))))
+        & (((1 <= arrow) & (arrow <= 4))
+            & (end_laid(left) & (end_laid(right) & (past_end(right).len() == 0))))
 }
 
 // ---- record files

@@ -63,7 +63,7 @@ same-length c = c .before .out .given .1 ∙ simp length-set
 -- src/lib.rt:160:1
 returns : tie.Need-returns
 unfolding field over
-returns c = 
+returns c =
     let a = c .before .before .before .before .before .before .before .before .args in
     let h = c .before .before .before .before .before .high .result in
     let l = c .before .before .before .before .low .result in

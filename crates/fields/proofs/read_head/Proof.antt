@@ -34,13 +34,13 @@ shared-slice-read-t12 c = search needs
 
 -- src/lib.rt:29:1
 returns-2 : tie.Need-returns-2
-returns-2 c = 
+returns-2 c =
     let a = c .before .before .before .before .before .before .before in
     sym (head-whole (a .args .s .now) _ (omega arith) (c .before .before .number .ensures .0) (omega arith))
 
 -- src/lib.rt:29:1
 returns-3 : tie.Need-returns-3
-returns-3 c = 
+returns-3 c =
     let a = c .before .before .before .before .before .before in
     sym (head-past (a .args .s .now) (c .before .number .result) (omega arith) (c .before .number .ensures .0) (omega arith))
 
