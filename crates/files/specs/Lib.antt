@@ -8,6 +8,7 @@ pub mod DiagramLayout
 pub mod DiagramFile
 pub mod DiagramBytes
 pub mod Record
+pub mod Membership
 pub mod RecordLayout
 pub mod RecordFile
 pub mod RecordBytes

@@ -12,6 +12,7 @@ use Rattle.laws.specs.Order.{order}
 use Rattle.files.specs.Ancestor.{reaches, reachesBy}
 use Rattle.files.specs.Diagram.{Diagram, isComposition, isConcrete, isSingleton}
 use Rattle.files.specs.FileCases.{diagramFile, recordFile}
+use Rattle.files.specs.Membership.{hasLink, hasValue}
 use Rattle.files.specs.Name.{sameName}
 use Rattle.files.specs.Record.{Record, objectCount}
 use Rattle.files.specs.Refusal.{Answer, accepted, refused}
@@ -21,7 +22,7 @@ use Rattle.rules.specs.Evaluate.{evaluate, firstFailing, holds, oneWhole
 use Rattle.rules.specs.Instance.{hasType, isInstance}
 use Rattle.rules.specs.Judge.{judge, lowestBroken}
 use Rattle.rules.specs.LinkRules.{incoming, mirrorAt, mirrored, permits, rule5, rule5At, rule6, rule6For, rule7, rule7For, rule8, rule8For, sources, sourcesAt, targets, targetsAt}
-use Rattle.rules.specs.Site.{hasLink, hasValue, siteOf}
+use Rattle.rules.specs.Site.{siteOf}
 use Rattle.rules.specs.TypeRules.{rule1, rule1At, rule2, rule2At}
 use Rattle.rules.specs.ValueRules.{belongs, declared, declares, rule3, rule3At, rule3For, rule4, rule4At}
 use Rattle.rules.specs.WholeRule.{isWhole, rule9, rule9At, wholeBy}

@@ -1,0 +1,3 @@
+pub mod Slots
+pub mod Represents
+pub mod Written
