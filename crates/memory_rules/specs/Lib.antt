@@ -1,0 +1,2 @@
+pub mod SiteIn
+pub mod JudgeIn
