@@ -1,0 +1,18 @@
+use mathlib.Core.Path.{refl}
+use Rattle.laws.proofs.SearchLaws.{same-yes, same-no}
+use borrow.Author.Needs.{needs}
+use Rattle.masks.proofs.is_same.Statement.{statement}
+use Rattle.masks.proofs.is_same.Tie as tie
+use Rattle.masks.proofs.is_same.Reads as reads
+use Rattle.masks.proofs.is_same.Lts as lts
+
+-- src/lib.rt:137:1
+returns : tie.Need-returns
+returns c = search (same-yes, same-no)
+
+-- src/lib.rt:137:1
+returns-2 : tie.Need-returns-2
+returns-2 c = search (same-yes, same-no)
+
+pub is-same-spec : {M : Type 1} → statement M
+is-same-spec = tie.close (tie.spec returns returns-2)

@@ -1,0 +1,62 @@
+use Rattle.masks.specs.Masks.{limitsOf, rowAtFits, rowsFit}
+use Rattle.laws.proofs.LoopLaws.{each}
+use Rattle.laws.specs.Bounded.{all}
+use mathlib.Core.Bool.{true}
+use mathlib.Core.Path.{_≡_}
+use Prim.Native.Nat.{_≤_, _-_}
+use borrow.Author.Needs.{needs}
+use Rattle.masks.proofs.rows_fit.Statement.{statement}
+use Rattle.masks.proofs.rows_fit.Tie as tie
+use Rattle.masks.proofs.rows_fit.Reads as reads
+use Rattle.masks.proofs.rows_fit.Lts as lts
+use Rattle.masks.proofs.row_at_fits.Reads as row-at-fits-reads
+
+abbrev Inv-loop : tie.InvT-loop
+Inv-loop links s from to low up n o₀ o = (o ≤ n) × (all (rowAtFits links s from to (limitsOf low up) n) o ≡ true)
+
+abbrev μ-loop : tie.MeasureT-loop
+μ-loop links s from to low up n o₀ o = n - o
+
+-- src/lib.rt:72:5
+loop-holds : tie.Need-loop-holds Inv-loop μ-loop
+loop-holds c = search each
+
+-- src/lib.rt:73:13
+row-at-fits-requires : tie.Need-row-at-fits-requires Inv-loop μ-loop
+row-at-fits-requires c κs = search needs
+
+-- src/lib.rt:74:13
+returns : tie.Need-returns Inv-loop μ-loop
+unfolding rowsFit
+returns c = search each
+
+-- src/lib.rt:76:9
+add-o : tie.Need-add-o Inv-loop μ-loop
+add-o c = search needs
+
+-- src/lib.rt:72:5
+loop-less : tie.Need-loop-less Inv-loop μ-loop
+loop-less c = search needs
+
+-- src/lib.rt:72:5
+loop-again : tie.Need-loop-again Inv-loop μ-loop
+loop-again c = search each
+
+-- src/lib.rt:67:1
+returns-2 : tie.Need-returns-2 Inv-loop μ-loop
+unfolding rowsFit
+returns-2 c = search each
+
+pub rows-fit-spec : {M : Type 1} → statement M
+rows-fit-spec =
+    tie.close
+    (tie.spec
+    Inv-loop
+    μ-loop
+    loop-holds
+    row-at-fits-requires
+    returns
+    add-o
+    loop-less
+    loop-again
+    returns-2)
