@@ -1,0 +1,1 @@
+// Tables that a record in memory is judged by.
