@@ -75,3 +75,40 @@ fn decode(s: &[u8], out: &mut [u8]) -> usize
     }
     n
 }
+
+// Prints the case's name and its reply.
+fn say(what: &[u8], line: &[u8], at: usize, reply: u8) {
+    io::write_all(STDOUT_FILENO, what);
+    io::write_all(STDOUT_FILENO, laws::past(laws::front(line, at), 2));
+    io::write_all(STDOUT_FILENO, b": ");
+    io::print_decimal(STDOUT_FILENO, reply as u64);
+    io::write_all(STDOUT_FILENO, b"\n");
+}
+
+// One line: a diagram file (D) or a record file (R), and its refusal, 0 where it is accepted.
+fn run(line: &[u8], space: &mut [u8]) {
+    let at = before(line, 58);
+    let n = decode(laws::past(laws::past(line, at), 1), space);
+    let kind = laws::byte(line, 0);
+    if kind == 68 {
+        say(b"diagram, ", line, at, loading::read_diagram(&space[..n]).no);
+    }
+    if kind == 82 {
+        say(b"record, ", line, at, checking::check_record(&space[..n]));
+    }
+}
+
+fn main() {
+    let mut text = input();
+    let all: &mut [u8] = &mut text;
+    let n = io::read_full(0, all);
+    let mut space = room();
+    let one: &mut [u8] = &mut space;
+    let mut rest = &all[..n];
+    while 0 < rest.len() {
+        let k = before(rest, 10);
+        run(laws::front(rest, k), one);
+        let next = laws::past(laws::past(rest, k), 1);
+        rest = next;
+    }
+}

@@ -1,2 +1,4 @@
 pub mod SiteIn
 pub mod JudgeIn
+pub mod Stands
+pub mod Agree

@@ -1,0 +1,4 @@
+pub mod ChoiceLaws
+pub mod LastLaws
+pub mod SeenLaws
+pub mod ReadingLaws

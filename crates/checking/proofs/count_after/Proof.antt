@@ -1,0 +1,22 @@
+use Rattle.checking.proofs.ChoiceLaws.{choice}
+use borrow.Author.Needs.{needs}
+use Rattle.checking.proofs.count_after.Statement.{statement}
+use Rattle.checking.proofs.count_after.Tie as tie
+use Rattle.checking.proofs.count_after.Reads as reads
+use Rattle.checking.proofs.count_after.Lts as lts
+use Rattle.laws.proofs.byte.Reads as byte-reads
+
+-- src/lib.rt:163:22
+byte-requires : tie.Need-byte-requires
+byte-requires c κs = search needs
+
+-- src/lib.rt:160:1
+returns : tie.Need-returns
+returns c = search choice depth 8 fits 20000
+
+-- src/lib.rt:160:1
+returns-2 : tie.Need-returns-2
+returns-2 c = search choice depth 8 fits 20000
+
+pub count-after-spec : {M : Type 1} → statement M
+count-after-spec = tie.close (tie.spec byte-requires returns returns-2)

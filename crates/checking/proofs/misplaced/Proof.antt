@@ -1,0 +1,16 @@
+use Rattle.laws.specs.Bounded.{any}
+use Rattle.laws.specs.Connective.{both, either}
+use Rattle.files.specs.Refusal.{misplaced}
+use borrow.Author.Needs.{needs}
+use Rattle.checking.proofs.misplaced.Statement.{statement}
+use Rattle.checking.proofs.misplaced.Tie as tie
+use Rattle.checking.proofs.misplaced.Reads as reads
+use Rattle.checking.proofs.misplaced.Lts as lts
+
+-- src/lib.rt:84:1
+returns : tie.Need-returns
+unfolding misplaced both either any
+returns c = cc
+
+pub misplaced-spec : {M : Type 1} → statement M
+misplaced-spec = tie.close (tie.spec returns)

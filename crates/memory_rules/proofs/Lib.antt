@@ -1,0 +1,10 @@
+pub mod FirstNotLaws
+pub mod AgreeLaws
+pub mod SlotLaws
+pub mod RiseLaws
+pub mod CodeLaws
+pub mod AmongLaws
+pub mod SiteInLaws
+pub mod ValueLaws
+pub mod LinkLaws
+pub mod JudgeInLaws

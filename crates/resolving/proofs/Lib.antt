@@ -1,0 +1,9 @@
+pub mod GeneralLaws
+pub mod LookupLaws
+pub mod SlotLaws
+pub mod StoreLaws
+pub mod ValueLaws
+pub mod LinkLaws
+pub mod StoredLaws
+pub mod TakeLaws
+pub mod ReadLaws

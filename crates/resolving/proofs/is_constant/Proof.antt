@@ -1,0 +1,25 @@
+use Rattle.resolving.specs.Lookup.{isConstantIn}
+use Rattle.laws.specs.Connective.{both, either}
+use borrow.Author.Needs.{needs}
+use Rattle.resolving.proofs.is_constant.Statement.{statement}
+use Rattle.resolving.proofs.is_constant.Tie as tie
+use Rattle.resolving.proofs.is_constant.Reads as reads
+use Rattle.resolving.proofs.is_constant.Lts as lts
+use Rattle.fields.proofs.same_name.Reads as same-name-reads
+use Rattle.fields.proofs.slot_name.Reads as slot-name-reads
+
+-- src/lib.rt:45:41
+slot-name-requires : tie.Need-slot-name-requires
+slot-name-requires c κs = search needs
+
+-- src/lib.rt:45:23
+same-name-requires : tie.Need-same-name-requires
+same-name-requires c κs = search needs
+
+-- src/lib.rt:42:1
+returns : tie.Need-returns
+unfolding isConstantIn both either
+returns c = cc
+
+pub is-constant-spec : {M : Type 1} → statement M
+is-constant-spec = tie.close (tie.spec slot-name-requires same-name-requires returns)

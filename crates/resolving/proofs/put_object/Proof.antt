@@ -1,0 +1,33 @@
+use native.Mathlib.Omega.{arith}
+use borrow.Author.Needs.{needs}
+use Rattle.resolving.proofs.put_object.Statement.{statement}
+use Rattle.resolving.proofs.put_object.Tie as tie
+use Rattle.resolving.proofs.put_object.Reads as reads
+use Rattle.resolving.proofs.put_object.Lts as lts
+use Rattle.fields.proofs.name_in.Reads as name-in-reads
+use Rattle.resolving.proofs.slot_of.Reads as slot-of-reads
+use Rattle.resolving.proofs.with_type.Reads as with-type-reads
+
+-- src/lib.rt:152:9
+returns : tie.Need-returns
+returns c = λ h. absurd (omega arith)
+
+-- src/lib.rt:154:36
+name-in-requires : tie.Need-name-in-requires
+name-in-requires c κs = search needs
+
+-- src/lib.rt:154:18
+slot-of-requires : tie.Need-slot-of-requires
+slot-of-requires c κs = search needs
+
+-- src/lib.rt:154:5
+with-type-requires : tie.Need-with-type-requires
+with-type-requires c κs = search needs
+
+-- src/lib.rt:148:1
+returns-2 : tie.Need-returns-2
+returns-2 c = λ h. cc
+
+pub put-object-spec : {M : Type 1} → statement M
+put-object-spec =
+    tie.close (tie.spec returns name-in-requires slot-of-requires with-type-requires returns-2)
