@@ -91,24 +91,32 @@ fn run(line: &[u8], space: &mut [u8]) {
     let n = decode(laws::past(laws::past(line, at), 1), space);
     let kind = laws::byte(line, 0);
     if kind == 68 {
-        say(b"diagram, ", line, at, loading::read_diagram(&space[..n]).no);
+        say(
+            b"diagram, ",
+            line,
+            at,
+            loading::read_diagram(&space[..n]).no,
+        );
     }
     if kind == 82 {
         say(b"record, ", line, at, checking::check_record(&space[..n]));
     }
 }
 
-fn main() {
-    let mut text = input();
-    let all: &mut [u8] = &mut text;
-    let n = io::read_full(0, all);
-    let mut space = room();
-    let one: &mut [u8] = &mut space;
-    let mut rest = &all[..n];
+// All lines.
+fn run_all(text: &[u8], space: &mut [u8]) {
+    let mut rest = text;
     while 0 < rest.len() {
         let k = before(rest, 10);
-        run(laws::front(rest, k), one);
+        run(laws::front(rest, k), space);
         let next = laws::past(laws::past(rest, k), 1);
         rest = next;
     }
+}
+
+fn main() {
+    let mut text = input();
+    let n = io::read_full(0, &mut text);
+    let mut space = room();
+    run_all(&text[..n], &mut space);
 }

@@ -143,14 +143,14 @@ pub fn slot_name(names: &[u8], i: u8) -> &[u8]
 
 // ---- written
 
-fn high(n: usize) -> u8
+pub fn high(n: usize) -> u8
     requires { ⌜ n < 65536 ⌝ }
     ensures { λ r. ⌜ r ≡ n / 256 ⌝ }
 {
     (n / 256) as u8
 }
 
-fn low(n: usize) -> u8
+pub fn low(n: usize) -> u8
     ensures { λ r. ⌜ r ≡ n % 256 ⌝ }
 {
     (n % 256) as u8

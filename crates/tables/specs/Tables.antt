@@ -13,9 +13,11 @@ use Rattle.records.specs.Written.{IsValue, valueIn}
 use Rattle.rules.specs.Instance.{isInstance}
 use Rattle.memory_rules.specs.SiteIn.{siteIn}
 
--- the mask at t holds the instances of type t among the objects
+-- the mask at t holds the instances of type t among the objects; a place past the last object, to which a link may lead, counts by
+-- the type index that stands there
 pub record Instances (d : Diagram) (m : MemoryRecord) (masks : List ℕ) : Type 0 where
   pub exact : (t o : ℕ) → t < length (d .types) → o < m .count → bit o (getD masks t 0) ≡ isInstance d (siteIn d m) t o
+  pub beyond : (t o : ℕ) → t < length (d .types) → m .count ≤ o → o < 8 → bit o (getD masks t 0) ≡ isInstance d (siteIn d m) t o
 
 -- the slot of each end's role name
 pub record RoleSlots (d : Diagram) (slots : List ℕ) : Type 0 where

@@ -1,0 +1,6 @@
+pub mod AppendLaws
+pub mod TableLaws
+pub mod EntryLaws
+pub mod GatherLaws
+pub mod SmallLaws
+pub mod ByteLaws

@@ -1,0 +1,14 @@
+use mathlib.Core.Path.{refl}
+use Rattle.compiling.specs.View.{noEntries}
+use Rattle.compiling.proofs.no_entries.Statement.{statement}
+use Rattle.compiling.proofs.no_entries.Tie as tie
+use Rattle.compiling.proofs.no_entries.Reads as reads
+use Rattle.compiling.proofs.no_entries.Lts as lts
+
+-- src/lib.rt:111:1
+returns : tie.Need-returns
+unfolding noEntries
+returns c = refl
+
+pub no-entries-spec : {M : Type 1} → statement M
+no-entries-spec = tie.close (tie.spec returns)

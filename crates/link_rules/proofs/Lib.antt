@@ -1,0 +1,4 @@
+pub mod EndLaws
+pub mod SideLaws
+pub mod WholeLaws
+pub mod JudgedLaws

@@ -1,0 +1,15 @@
+use Rattle.laws.specs.Connective.{either}
+use Rattle.rules.specs.Arrow.{carriesLeft}
+use borrow.Author.Needs.{needs}
+use Rattle.link_rules.proofs.carries_left.Statement.{statement}
+use Rattle.link_rules.proofs.carries_left.Tie as tie
+use Rattle.link_rules.proofs.carries_left.Reads as reads
+use Rattle.link_rules.proofs.carries_left.Lts as lts
+
+-- src/lib.rt:27:1
+returns : tie.Need-returns
+unfolding carriesLeft either
+returns c = cc
+
+pub carries-left-spec : {M : Type 1} → statement M
+carries-left-spec = tie.close (tie.spec returns)

@@ -1,0 +1,15 @@
+use Rattle.laws.specs.Connective.{either}
+use Rattle.rules.specs.Arrow.{carriesRight}
+use borrow.Author.Needs.{needs}
+use Rattle.link_rules.proofs.carries_right.Statement.{statement}
+use Rattle.link_rules.proofs.carries_right.Tie as tie
+use Rattle.link_rules.proofs.carries_right.Reads as reads
+use Rattle.link_rules.proofs.carries_right.Lts as lts
+
+-- src/lib.rt:20:1
+returns : tie.Need-returns
+unfolding carriesRight either
+returns c = cc
+
+pub carries-right-spec : {M : Type 1} → statement M
+carries-right-spec = tie.close (tie.spec returns)

@@ -1,0 +1,14 @@
+use Rattle.rules.specs.Arrow.{countedRight}
+use borrow.Author.Needs.{needs}
+use Rattle.link_rules.proofs.counted_right.Statement.{statement}
+use Rattle.link_rules.proofs.counted_right.Tie as tie
+use Rattle.link_rules.proofs.counted_right.Reads as reads
+use Rattle.link_rules.proofs.counted_right.Lts as lts
+
+-- src/lib.rt:34:1
+returns : tie.Need-returns
+unfolding countedRight
+returns c = cc
+
+pub counted-right-spec : {M : Type 1} → statement M
+counted-right-spec = tie.close (tie.spec returns)

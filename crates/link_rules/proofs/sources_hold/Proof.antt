@@ -1,0 +1,35 @@
+use Rattle.link_rules.specs.LinksIn.{sourcesIn}
+use borrow.Author.Needs.{needs}
+use Rattle.link_rules.proofs.sources_hold.Statement.{statement}
+use Rattle.link_rules.proofs.sources_hold.Tie as tie
+use Rattle.link_rules.proofs.sources_hold.Reads as reads
+use Rattle.link_rules.proofs.sources_hold.Lts as lts
+use Rattle.link_rules.proofs.instances.Reads as instances-reads
+use Rattle.link_rules.proofs.slot.Reads as slot-reads
+use Rattle.masks.proofs.columns_fit.Reads as columns-fit-reads
+
+-- src/lib.rt:209:9
+instances-requires : tie.Need-instances-requires
+instances-requires c κs = search needs
+
+-- src/lib.rt:210:9
+instances-requires-2 : tie.Need-instances-requires-2
+instances-requires-2 c κs = search needs
+
+-- src/lib.rt:211:31
+slot-requires : tie.Need-slot-requires
+slot-requires c κs = search needs
+
+-- src/lib.rt:211:5
+columns-fit-requires : tie.Need-columns-fit-requires
+columns-fit-requires c κs = search needs
+
+-- src/lib.rt:195:1
+returns : tie.Need-returns
+unfolding sourcesIn
+returns c = cc
+
+pub sources-hold-spec : {M : Type 1} → statement M
+sources-hold-spec =
+    tie.close
+    (tie.spec instances-requires instances-requires-2 slot-requires columns-fit-requires returns)

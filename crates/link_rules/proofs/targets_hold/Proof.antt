@@ -1,0 +1,35 @@
+use Rattle.link_rules.specs.LinksIn.{targetsIn}
+use borrow.Author.Needs.{needs}
+use Rattle.link_rules.proofs.targets_hold.Statement.{statement}
+use Rattle.link_rules.proofs.targets_hold.Tie as tie
+use Rattle.link_rules.proofs.targets_hold.Reads as reads
+use Rattle.link_rules.proofs.targets_hold.Lts as lts
+use Rattle.link_rules.proofs.instances.Reads as instances-reads
+use Rattle.link_rules.proofs.slot.Reads as slot-reads
+use Rattle.masks.proofs.rows_fit.Reads as rows-fit-reads
+
+-- src/lib.rt:88:9
+instances-requires : tie.Need-instances-requires
+instances-requires c κs = search needs
+
+-- src/lib.rt:89:9
+instances-requires-2 : tie.Need-instances-requires-2
+instances-requires-2 c κs = search needs
+
+-- src/lib.rt:90:28
+slot-requires : tie.Need-slot-requires
+slot-requires c κs = search needs
+
+-- src/lib.rt:90:5
+rows-fit-requires : tie.Need-rows-fit-requires
+rows-fit-requires c κs = search needs
+
+-- src/lib.rt:74:1
+returns : tie.Need-returns
+unfolding targetsIn
+returns c = cc
+
+pub targets-hold-spec : {M : Type 1} → statement M
+targets-hold-spec =
+    tie.close
+    (tie.spec instances-requires instances-requires-2 slot-requires rows-fit-requires returns)

@@ -1,0 +1,3 @@
+pub mod LinksIn
+pub mod WholesIn
+pub mod Judged

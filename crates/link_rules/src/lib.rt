@@ -1,0 +1,473 @@
+// Rules 6 to 9 on a record in memory, by its diagram's associations and the tables: for each type a mask of its instances, for
+// each end the slot of its role. The left end of association i is end i * 2, the right one end i * 2 + 1.
+ghost use mathlib.Core.Path.{_≡_};
+ghost use Prim.Native.Nat.{ℕ, _<_, _≤_, _*_, _+_};
+ghost use lib.ListN.{getD};
+ghost use Rattle.laws.specs.Bits.{Marks};
+ghost use Rattle.masks.specs.Masks.{limitsOf};
+ghost use Rattle.rules.specs.Arrow.{carriesRight, carriesLeft, countedRight, countedLeft, mirrors};
+ghost use Rattle.rules.specs.LinkRules.{rule6, rule7, rule8};
+ghost use Rattle.rules.specs.WholeRule.{rule9};
+ghost use Rattle.link_rules.specs.Judged.{Says};
+ghost use Rattle.link_rules.specs.LinksIn.{Fits, instancesIn, targetsIn, rule6RightIn, rule6LeftIn, rule6AtIn, rule6In, sourcesIn, rule7RightIn, rule7LeftIn, rule7AtIn, rule7In, mirroredIn, rule8AtIn, rule8In};
+ghost use Rattle.link_rules.specs.WholesIn.{wholeByIn, isWholeIn, rule9AtIn, rule9In, oneWholeAtIn, oneWholeIn};
+use diagrams::Associations;
+
+// ---- arrows
+
+// r2 links, from the left to the right.
+pub fn carries_right(arrow: u8) -> bool
+    ensures { λ r. ⌜ r ≡ carriesRight arrow ⌝ }
+{
+    (arrow == 1) | ((arrow == 3) | (arrow == 4))
+}
+
+// r1 links, from the right to the left.
+pub fn carries_left(arrow: u8) -> bool
+    ensures { λ r. ⌜ r ≡ carriesLeft arrow ⌝ }
+{
+    (arrow == 2) | ((arrow == 3) | (arrow == 4))
+}
+
+// The sources of r2 links are counted.
+pub fn counted_right(arrow: u8) -> bool
+    ensures { λ r. ⌜ r ≡ countedRight arrow ⌝ }
+{
+    arrow == 1
+}
+
+// The sources of r1 links are counted.
+pub fn counted_left(arrow: u8) -> bool
+    ensures { λ r. ⌜ r ≡ countedLeft arrow ⌝ }
+{
+    arrow == 2
+}
+
+// Each link of the one role has its mirror of the other.
+pub fn is_mirrored(arrow: u8) -> bool
+    ensures { λ r. ⌜ r ≡ mirrors arrow ⌝ }
+{
+    arrow == 3
+}
+
+// ---- ends
+
+// The instances of an end's type.
+fn instances<'a>(a: Associations, masks: &'a [u8; 24], e: usize) -> u8
+    requires { ⌜ e < 32 ⌝ }
+    ensures { λ r. ⌜ r ≡ instancesIn a (now (masks .entry)) e ⌝ }
+{
+    laws::byte(masks, laws::wide(a.types[e]))
+}
+
+// The slot of an end's role.
+fn slot<'a>(a: Associations, slots: &'a [u8; 32], n: u8, e: usize) -> u8
+    requires { ⌜ Fits a (now slots) n × (e < a .count * 2) ⌝ }
+    ensures { λ r. ⌜ (r ≡ getD (now (slots .entry)) e 0) × (r < 32) ⌝ }
+{
+    slots[e]
+}
+
+// ---- rule 6
+
+// Each instance of the one end has only instances of the other as targets, and as many as the limits say.
+pub fn targets_hold<'a>(
+    a: Associations,
+    links: &'a [u8; 256],
+    masks: &'a [u8; 24],
+    slots: &'a [u8; 32],
+    n: u8,
+    from: usize,
+    to: usize,
+    low: u16,
+    up: u16,
+) -> bool
+    requires { ⌜ Fits a (now slots) n × ((from < a .count * 2) × (to < a .count * 2)) ⌝ }
+    ensures { λ r. ⌜ r ≡ targetsIn a (now (links .entry)) (now (masks .entry)) (now (slots .entry)) n from to (limitsOf low up) ⌝ }
+{
+    let owners = instances(a, masks, from);
+    let targets = instances(a, masks, to);
+    masks::rows_fit(links, slot(a, slots, n, to), owners, targets, low, up, n)
+}
+
+// If r2 is carried: rule 6 from the left end to the right one, with the right end's limits.
+fn rule6_right<'a>(
+    a: Associations,
+    links: &'a [u8; 256],
+    masks: &'a [u8; 24],
+    slots: &'a [u8; 32],
+    n: u8,
+    i: usize,
+) -> bool
+    requires { ⌜ Fits a (now slots) n × (i < a .count) ⌝ }
+    ensures { λ r. ⌜ r ≡ rule6RightIn a (now (links .entry)) (now (masks .entry)) (now (slots .entry)) n i ⌝ }
+{
+    if !carries_right(a.arrows[i]) {
+        return true;
+    }
+    let left = i * 2;
+    let right = i * 2 + 1;
+    let low = a.lows[right];
+    let up = a.ups[right];
+    targets_hold(a, links, masks, slots, n, left, right, low, up)
+}
+
+// If r1 is carried: rule 6 from the right end to the left one, with the left end's limits.
+fn rule6_left<'a>(
+    a: Associations,
+    links: &'a [u8; 256],
+    masks: &'a [u8; 24],
+    slots: &'a [u8; 32],
+    n: u8,
+    i: usize,
+) -> bool
+    requires { ⌜ Fits a (now slots) n × (i < a .count) ⌝ }
+    ensures { λ r. ⌜ r ≡ rule6LeftIn a (now (links .entry)) (now (masks .entry)) (now (slots .entry)) n i ⌝ }
+{
+    if !carries_left(a.arrows[i]) {
+        return true;
+    }
+    let left = i * 2;
+    let right = i * 2 + 1;
+    let low = a.lows[left];
+    let up = a.ups[left];
+    targets_hold(a, links, masks, slots, n, right, left, low, up)
+}
+
+// Rule 6 for association i.
+fn rule6_at<'a>(
+    a: Associations,
+    links: &'a [u8; 256],
+    masks: &'a [u8; 24],
+    slots: &'a [u8; 32],
+    n: u8,
+    i: usize,
+) -> bool
+    requires { ⌜ Fits a (now slots) n × (i < a .count) ⌝ }
+    ensures { λ r. ⌜ r ≡ rule6AtIn a (now (links .entry)) (now (masks .entry)) (now (slots .entry)) n i ⌝ }
+{
+    if !rule6_right(a, links, masks, slots, n, i) {
+        return false;
+    }
+    rule6_left(a, links, masks, slots, n, i)
+}
+
+// Rule 6, for each association.
+pub fn rule6<'a>(
+    a: Associations,
+    links: &'a [u8; 256],
+    masks: &'a [u8; 24],
+    slots: &'a [u8; 32],
+    n: u8,
+) -> bool
+    requires { ⌜ Fits a (now slots) n ⌝ }
+    ensures { λ r. ⌜ (r ≡ rule6In a (now (links .entry)) (now (masks .entry)) (now (slots .entry)) n) × Says rule6 a (now (links .entry)) (now (masks .entry)) (now (slots .entry)) n r ⌝ }
+{
+    let mut i = 0;
+    while i < a.count {
+        if !rule6_at(a, links, masks, slots, n, i) {
+            return false;
+        }
+        i += 1;
+    }
+    true
+}
+
+// ---- rule 7
+
+// Each instance of the other end is the target of as many instances of the one as the limits say.
+pub fn sources_hold<'a>(
+    a: Associations,
+    links: &'a [u8; 256],
+    masks: &'a [u8; 24],
+    slots: &'a [u8; 32],
+    n: u8,
+    from: usize,
+    to: usize,
+    low: u16,
+    up: u16,
+) -> bool
+    requires { ⌜ Fits a (now slots) n × ((from < a .count * 2) × (to < a .count * 2)) ⌝ }
+    ensures { λ r. ⌜ r ≡ sourcesIn a (now (links .entry)) (now (masks .entry)) (now (slots .entry)) n from to (limitsOf low up) ⌝ }
+{
+    let sources = instances(a, masks, from);
+    let targets = instances(a, masks, to);
+    masks::columns_fit(links, slot(a, slots, n, to), sources, targets, low, up, n)
+}
+
+// Arrow 1: rule 7 from the left end to the right one, with the left end's limits.
+fn rule7_right<'a>(
+    a: Associations,
+    links: &'a [u8; 256],
+    masks: &'a [u8; 24],
+    slots: &'a [u8; 32],
+    n: u8,
+    i: usize,
+) -> bool
+    requires { ⌜ Fits a (now slots) n × (i < a .count) ⌝ }
+    ensures { λ r. ⌜ r ≡ rule7RightIn a (now (links .entry)) (now (masks .entry)) (now (slots .entry)) n i ⌝ }
+{
+    if !counted_right(a.arrows[i]) {
+        return true;
+    }
+    let left = i * 2;
+    let right = i * 2 + 1;
+    let least = a.lows[left];
+    let most = a.ups[left];
+    sources_hold(a, links, masks, slots, n, left, right, least, most)
+}
+
+// Arrow 2: rule 7 from the right end to the left one, with the right end's limits.
+fn rule7_left<'a>(
+    a: Associations,
+    links: &'a [u8; 256],
+    masks: &'a [u8; 24],
+    slots: &'a [u8; 32],
+    n: u8,
+    i: usize,
+) -> bool
+    requires { ⌜ Fits a (now slots) n × (i < a .count) ⌝ }
+    ensures { λ r. ⌜ r ≡ rule7LeftIn a (now (links .entry)) (now (masks .entry)) (now (slots .entry)) n i ⌝ }
+{
+    if !counted_left(a.arrows[i]) {
+        return true;
+    }
+    let left = i * 2;
+    let right = i * 2 + 1;
+    let least = a.lows[right];
+    let most = a.ups[right];
+    sources_hold(a, links, masks, slots, n, right, left, least, most)
+}
+
+// Rule 7 for association i.
+fn rule7_at<'a>(
+    a: Associations,
+    links: &'a [u8; 256],
+    masks: &'a [u8; 24],
+    slots: &'a [u8; 32],
+    n: u8,
+    i: usize,
+) -> bool
+    requires { ⌜ Fits a (now slots) n × (i < a .count) ⌝ }
+    ensures { λ r. ⌜ r ≡ rule7AtIn a (now (links .entry)) (now (masks .entry)) (now (slots .entry)) n i ⌝ }
+{
+    if !rule7_right(a, links, masks, slots, n, i) {
+        return false;
+    }
+    rule7_left(a, links, masks, slots, n, i)
+}
+
+// Rule 7, for each association.
+pub fn rule7<'a>(
+    a: Associations,
+    links: &'a [u8; 256],
+    masks: &'a [u8; 24],
+    slots: &'a [u8; 32],
+    n: u8,
+) -> bool
+    requires { ⌜ Fits a (now slots) n ⌝ }
+    ensures { λ r. ⌜ (r ≡ rule7In a (now (links .entry)) (now (masks .entry)) (now (slots .entry)) n) × Says rule7 a (now (links .entry)) (now (masks .entry)) (now (slots .entry)) n r ⌝ }
+{
+    let mut i = 0;
+    while i < a.count {
+        if !rule7_at(a, links, masks, slots, n, i) {
+            return false;
+        }
+        i += 1;
+    }
+    true
+}
+
+// ---- rule 8
+
+// For instances of the two ends of association i, the r2 link is there exactly when the r1 link is.
+pub fn mirror_holds<'a>(
+    a: Associations,
+    links: &'a [u8; 256],
+    masks: &'a [u8; 24],
+    slots: &'a [u8; 32],
+    n: u8,
+    i: usize,
+) -> bool
+    requires { ⌜ Fits a (now slots) n × (i < a .count) ⌝ }
+    ensures { λ r. ⌜ r ≡ mirroredIn a (now (links .entry)) (now (masks .entry)) (now (slots .entry)) n i ⌝ }
+{
+    let left = i * 2;
+    let right = i * 2 + 1;
+    masks::mirrors_fit(
+        links,
+        slot(a, slots, n, right),
+        slot(a, slots, n, left),
+        instances(a, masks, left),
+        instances(a, masks, right),
+        n,
+    )
+}
+
+// Rule 8 for association i.
+fn rule8_at<'a>(
+    a: Associations,
+    links: &'a [u8; 256],
+    masks: &'a [u8; 24],
+    slots: &'a [u8; 32],
+    n: u8,
+    i: usize,
+) -> bool
+    requires { ⌜ Fits a (now slots) n × (i < a .count) ⌝ }
+    ensures { λ r. ⌜ r ≡ rule8AtIn a (now (links .entry)) (now (masks .entry)) (now (slots .entry)) n i ⌝ }
+{
+    if !is_mirrored(a.arrows[i]) {
+        return true;
+    }
+    mirror_holds(a, links, masks, slots, n, i)
+}
+
+// Rule 8, for each association.
+pub fn rule8<'a>(
+    a: Associations,
+    links: &'a [u8; 256],
+    masks: &'a [u8; 24],
+    slots: &'a [u8; 32],
+    n: u8,
+) -> bool
+    requires { ⌜ Fits a (now slots) n ⌝ }
+    ensures { λ r. ⌜ (r ≡ rule8In a (now (links .entry)) (now (masks .entry)) (now (slots .entry)) n) × Says rule8 a (now (links .entry)) (now (masks .entry)) (now (slots .entry)) n r ⌝ }
+{
+    let mut i = 0;
+    while i < a.count {
+        if !rule8_at(a, links, masks, slots, n, i) {
+            return false;
+        }
+        i += 1;
+    }
+    true
+}
+
+// ---- rule 9
+
+// The wholes that p has by association i, if it is a composition.
+fn wholes_at<'a>(
+    a: Associations,
+    links: &'a [u8; 256],
+    masks: &'a [u8; 24],
+    slots: &'a [u8; 32],
+    n: u8,
+    p: u8,
+    i: usize,
+) -> u8
+    requires { ⌜ Fits a (now slots) n × ((p < 8) × (i < a .count)) ⌝ }
+    ensures { λ r. ⌜ Marks (wholeByIn a (now (links .entry)) (now (masks .entry)) (now (slots .entry)) p i) n r ⌝ }
+{
+    if a.forms[i] != 1 {
+        return 0;
+    }
+    let left = i * 2;
+    let right = i * 2 + 1;
+    let role = slot(a, slots, n, right);
+    masks::wholes_by(
+        links,
+        role,
+        instances(a, masks, left),
+        instances(a, masks, right),
+        p,
+        n,
+    )
+}
+
+// The wholes that p has over all compositions.
+fn whole_mask<'a>(
+    a: Associations,
+    links: &'a [u8; 256],
+    masks: &'a [u8; 24],
+    slots: &'a [u8; 32],
+    n: u8,
+    p: u8,
+) -> u8
+    requires { ⌜ Fits a (now slots) n × (p < 8) ⌝ }
+    ensures { λ r. ⌜ Marks (isWholeIn a (now (links .entry)) (now (masks .entry)) (now (slots .entry)) p) n r ⌝ }
+{
+    let mut wholes: u8 = 0;
+    let mut i = 0;
+    while i < a.count {
+        wholes = wholes | wholes_at(a, links, masks, slots, n, p, i);
+        i += 1;
+    }
+    wholes
+}
+
+// Object p has at most one whole.
+fn rule9_at<'a>(
+    a: Associations,
+    links: &'a [u8; 256],
+    masks: &'a [u8; 24],
+    slots: &'a [u8; 32],
+    n: u8,
+    p: u8,
+) -> bool
+    requires { ⌜ Fits a (now slots) n × (p < 8) ⌝ }
+    ensures { λ r. ⌜ r ≡ rule9AtIn a (now (links .entry)) (now (masks .entry)) (now (slots .entry)) n p ⌝ }
+{
+    laws::count8(whole_mask(a, links, masks, slots, n, p)) <= 1
+}
+
+// Rule 9, for each object.
+pub fn rule9<'a>(
+    a: Associations,
+    links: &'a [u8; 256],
+    masks: &'a [u8; 24],
+    slots: &'a [u8; 32],
+    n: u8,
+) -> bool
+    requires { ⌜ Fits a (now slots) n ⌝ }
+    ensures { λ r. ⌜ (r ≡ rule9In a (now (links .entry)) (now (masks .entry)) (now (slots .entry)) n) × Says rule9 a (now (links .entry)) (now (masks .entry)) (now (slots .entry)) n r ⌝ }
+{
+    let mut p: u8 = 0;
+    while p < n {
+        if !rule9_at(a, links, masks, slots, n, p) {
+            return false;
+        }
+        p += 1;
+    }
+    true
+}
+
+// Object p has at most one whole, if it is an instance of the right end of association i.
+fn one_whole_at<'a>(
+    a: Associations,
+    links: &'a [u8; 256],
+    masks: &'a [u8; 24],
+    slots: &'a [u8; 32],
+    n: u8,
+    i: usize,
+    p: u8,
+) -> bool
+    requires { ⌜ Fits a (now slots) n × ((i < a .count) × (p < 8)) ⌝ }
+    ensures { λ r. ⌜ r ≡ oneWholeAtIn a (now (links .entry)) (now (masks .entry)) (now (slots .entry)) n i p ⌝ }
+{
+    if !laws::has8(instances(a, masks, i * 2 + 1), p) {
+        return true;
+    }
+    rule9_at(a, links, masks, slots, n, p)
+}
+
+// Each instance of the right end of association i has at most one whole over all compositions.
+pub fn one_whole<'a>(
+    a: Associations,
+    links: &'a [u8; 256],
+    masks: &'a [u8; 24],
+    slots: &'a [u8; 32],
+    n: u8,
+    i: usize,
+) -> bool
+    requires { ⌜ Fits a (now slots) n × (i < a .count) ⌝ }
+    ensures { λ r. ⌜ r ≡ oneWholeIn a (now (links .entry)) (now (masks .entry)) (now (slots .entry)) n i ⌝ }
+{
+    let mut p: u8 = 0;
+    while p < n {
+        if !one_whole_at(a, links, masks, slots, n, i, p) {
+            return false;
+        }
+        p += 1;
+    }
+    true
+}

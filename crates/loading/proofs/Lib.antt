@@ -1,0 +1,4 @@
+pub mod NumberLaws
+pub mod FieldLaws
+pub mod GrownLaws
+pub mod ReaderLaws

@@ -1,0 +1,60 @@
+use Rattle.loading.specs.Numbers.{associationNo}
+use Rattle.loading.proofs.NumberLaws.{numbers}
+use borrow.Author.Needs.{needs}
+use Rattle.loading.proofs.association_no.Statement.{statement}
+use Rattle.loading.proofs.association_no.Tie as tie
+use Rattle.loading.proofs.association_no.Reads as reads
+use Rattle.loading.proofs.association_no.Lts as lts
+use Rattle.layouts.proofs.association_laid.Reads as association-laid-reads
+use Rattle.loading.proofs.ends_known.Reads as ends-known-reads
+use Rattle.loading.proofs.whole_right.Reads as whole-right-reads
+
+-- src/lib.rt:237:9
+returns : tie.Need-returns
+unfolding associationNo
+returns c = search numbers depth 14 fits 20000
+
+-- src/lib.rt:239:9
+association-laid-requires : tie.Need-association-laid-requires
+association-laid-requires c κs = search needs
+
+-- src/lib.rt:240:9
+returns-2 : tie.Need-returns-2
+unfolding associationNo
+returns-2 c = search numbers depth 14 fits 20000
+
+-- src/lib.rt:242:9
+ends-known-requires : tie.Need-ends-known-requires
+ends-known-requires c κs = search needs
+
+-- src/lib.rt:243:9
+returns-3 : tie.Need-returns-3
+unfolding associationNo
+returns-3 c = search numbers depth 14 fits 20000
+
+-- src/lib.rt:245:8
+whole-right-requires : tie.Need-whole-right-requires
+whole-right-requires c κs = search needs
+
+-- src/lib.rt:246:9
+returns-4 : tie.Need-returns-4
+unfolding associationNo
+returns-4 c = search numbers depth 14 fits 20000
+
+-- src/lib.rt:233:1
+returns-5 : tie.Need-returns-5
+unfolding associationNo
+returns-5 c = search numbers depth 14 fits 20000
+
+pub association-no-spec : {M : Type 1} → statement M
+association-no-spec =
+    tie.close
+    (tie.spec
+    returns
+    association-laid-requires
+    returns-2
+    ends-known-requires
+    returns-3
+    whole-right-requires
+    returns-4
+    returns-5)

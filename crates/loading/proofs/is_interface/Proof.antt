@@ -1,0 +1,26 @@
+use borrow.Author.Needs.{needs}
+use Rattle.loading.proofs.is_interface.Statement.{statement}
+use Rattle.loading.proofs.is_interface.Tie as tie
+use Rattle.loading.proofs.is_interface.Reads as reads
+use Rattle.loading.proofs.is_interface.Lts as lts
+use Rattle.laws.proofs.byte.Reads as byte-reads
+use Rattle.laws.proofs.wide.Reads as wide-reads
+
+-- src/lib.rt:158:24
+byte-requires : tie.Need-byte-requires
+byte-requires c κs = search needs
+
+-- src/lib.rt:158:9
+wide-requires : tie.Need-wide-requires
+wide-requires c κs = search needs
+
+-- src/lib.rt:159:16
+byte-requires-2 : tie.Need-byte-requires-2
+byte-requires-2 c κs = search needs
+
+-- src/lib.rt:155:1
+returns : tie.Need-returns
+returns c = cc
+
+pub is-interface-spec : {M : Type 1} → statement M
+is-interface-spec = tie.close (tie.spec byte-requires wide-requires byte-requires-2 returns)

@@ -1,0 +1,16 @@
+use Rattle.laws.specs.Bounded.{any}
+use Rattle.files.specs.Refusal.{misplaced}
+use Rattle.laws.specs.Connective.{both, either}
+use borrow.Author.Needs.{needs}
+use Rattle.loading.proofs.is_misplaced.Statement.{statement}
+use Rattle.loading.proofs.is_misplaced.Tie as tie
+use Rattle.loading.proofs.is_misplaced.Reads as reads
+use Rattle.loading.proofs.is_misplaced.Lts as lts
+
+-- src/lib.rt:254:1
+returns : tie.Need-returns
+unfolding misplaced both either any
+returns c = cc
+
+pub is-misplaced-spec : {M : Type 1} → statement M
+is-misplaced-spec = tie.close (tie.spec returns)

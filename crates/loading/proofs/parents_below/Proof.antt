@@ -1,0 +1,22 @@
+use borrow.Author.Needs.{needs}
+use Rattle.loading.proofs.parents_below.Statement.{statement}
+use Rattle.loading.proofs.parents_below.Tie as tie
+use Rattle.loading.proofs.parents_below.Reads as reads
+use Rattle.loading.proofs.parents_below.Lts as lts
+use Rattle.loading.proofs.all_below.Reads as all-below-reads
+use Rattle.loading.proofs.type_parents.Reads as type-parents-reads
+
+-- src/lib.rt:174:15
+type-parents-requires : tie.Need-type-parents-requires
+type-parents-requires c κs = search needs
+
+-- src/lib.rt:174:5
+all-below-requires : tie.Need-all-below-requires
+all-below-requires c κs = search needs
+
+-- src/lib.rt:171:1
+returns : tie.Need-returns
+returns c = cc
+
+pub parents-below-spec : {M : Type 1} → statement M
+parents-below-spec = tie.close (tie.spec type-parents-requires all-below-requires returns)

@@ -1,0 +1,22 @@
+use borrow.Author.Needs.{needs}
+use Rattle.loading.proofs.parents_rise.Statement.{statement}
+use Rattle.loading.proofs.parents_rise.Tie as tie
+use Rattle.loading.proofs.parents_rise.Reads as reads
+use Rattle.loading.proofs.parents_rise.Lts as lts
+use Rattle.loading.proofs.rises.Reads as rises-reads
+use Rattle.loading.proofs.type_parents.Reads as type-parents-reads
+
+-- src/lib.rt:168:11
+type-parents-requires : tie.Need-type-parents-requires
+type-parents-requires c κs = search needs
+
+-- src/lib.rt:168:5
+rises-requires : tie.Need-rises-requires
+rises-requires c κs = search needs
+
+-- src/lib.rt:165:1
+returns : tie.Need-returns
+returns c = cc
+
+pub parents-rise-spec : {M : Type 1} → statement M
+parents-rise-spec = tie.close (tie.spec type-parents-requires rises-requires returns)

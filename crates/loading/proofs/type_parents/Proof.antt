@@ -1,0 +1,28 @@
+use Rattle.files.specs.DiagramLayout.{typeOf}
+use borrow.Author.Needs.{needs}
+use Rattle.loading.proofs.type_parents.Statement.{statement}
+use Rattle.loading.proofs.type_parents.Tie as tie
+use Rattle.loading.proofs.type_parents.Reads as reads
+use Rattle.loading.proofs.type_parents.Lts as lts
+use Rattle.fields.proofs.past_name.Reads as past-name-reads
+use Rattle.laws.proofs.past.Reads as past-reads
+
+-- src/lib.rt:98:34
+past-requires : tie.Need-past-requires
+past-requires c κs = search needs
+
+-- src/lib.rt:98:16
+past-name-requires : tie.Need-past-name-requires
+past-name-requires c κs = search needs
+
+-- src/lib.rt:98:5
+past-requires-2 : tie.Need-past-requires-2
+past-requires-2 c κs = search needs
+
+-- src/lib.rt:95:1
+returns : tie.Need-returns
+unfolding typeOf
+returns c = cc
+
+pub type-parents-spec : {M : Type 1} → statement M
+type-parents-spec = tie.close (tie.spec past-requires past-name-requires past-requires-2 returns)

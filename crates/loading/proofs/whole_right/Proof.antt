@@ -1,0 +1,26 @@
+use Rattle.loading.specs.Numbers.{wholeRight}
+use Rattle.files.specs.Diagram.{isComposition}
+use Rattle.files.specs.DiagramLayout.{associationOf}
+use Rattle.laws.specs.Connective.{both}
+use borrow.Author.Needs.{needs}
+use Rattle.loading.proofs.whole_right.Statement.{statement}
+use Rattle.loading.proofs.whole_right.Tie as tie
+use Rattle.loading.proofs.whole_right.Reads as reads
+use Rattle.loading.proofs.whole_right.Lts as lts
+use Rattle.laws.proofs.byte.Reads as byte-reads
+
+-- src/lib.rt:230:6
+byte-requires : tie.Need-byte-requires
+byte-requires c κs = search needs
+
+-- src/lib.rt:230:32
+byte-requires-2 : tie.Need-byte-requires-2
+byte-requires-2 c κs = search needs
+
+-- src/lib.rt:227:1
+returns : tie.Need-returns
+unfolding wholeRight associationOf isComposition both
+returns c = cc
+
+pub whole-right-spec : {M : Type 1} → statement M
+whole-right-spec = tie.close (tie.spec byte-requires byte-requires-2 returns)

@@ -1,0 +1,3 @@
+pub mod Loads
+pub mod Numbers
+pub mod Grown

@@ -1,0 +1,6 @@
+pub mod UnderLaws
+pub mod StepLaws
+pub mod TypeLaws
+pub mod BelongLaws
+pub mod ValueLaws
+pub mod LinkLaws

@@ -1,0 +1,13 @@
+use Rattle.laws.specs.Connective.{either}
+use Rattle.rules.specs.Arrow.{carriesLeft}
+use Rattle.object_rules.proofs.carries_left.Statement.{statement}
+use Rattle.object_rules.proofs.carries_left.Tie as tie
+use Rattle.object_rules.proofs.carries_left.Reads as reads
+use Rattle.object_rules.proofs.carries_left.Lts as lts
+
+returns : tie.Need-returns
+unfolding carriesLeft either
+returns c = cc
+
+pub carries-left-spec : {M : Type 1} → statement M
+carries-left-spec = tie.close (tie.spec returns)

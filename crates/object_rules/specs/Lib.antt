@@ -1,0 +1,3 @@
+pub mod TypesIn
+pub mod ValuesIn
+pub mod LinksIn

@@ -1,0 +1,5 @@
+pub mod SlotLaws
+pub mod StoredLaws
+pub mod AssociationLaws
+pub mod AncestorSetLaws
+pub mod TypeLaws

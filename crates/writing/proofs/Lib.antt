@@ -1,0 +1,8 @@
+pub mod RankLaws
+pub mod IndexLaws
+pub mod WrittenLaws
+pub mod PutLaws
+pub mod PieceLaws
+pub mod StoredLaws
+pub mod NumberLaws
+pub mod FileLaws

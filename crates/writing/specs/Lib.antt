@@ -1,0 +1,4 @@
+pub mod Places
+pub mod Put
+pub mod Pieces
+pub mod Writes
