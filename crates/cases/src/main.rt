@@ -1,9 +1,10 @@
 // Runs worked cases: each line of standard input asks for one, and each line of standard output is its reply.
 // A line is a letter for what is asked, a blank, the case's name up to a colon, and bytes as pairs of hexadecimal digits, each
-// behind a blank.
+// behind a blank; where two files are asked for, a blank and a slash stand between them.
 use libc::STDOUT_FILENO;
 ghost use Prim.Native.Nat.{_<_, _≤_};
 ghost use lib.ListN.{length};
+ghost use Rattle.diagrams.specs.Held.{Held};
 
 // Room for the whole input.
 fn input() -> [u8; 262144] {
@@ -85,30 +86,120 @@ fn say(what: &[u8], line: &[u8], at: usize, reply: u8) {
     io::write_all(STDOUT_FILENO, b"\n");
 }
 
-// One line: a diagram file (D) or a record file (R), and its refusal, 0 where it is accepted.
-fn run(line: &[u8], space: &mut [u8]) {
-    let at = before(line, 58);
+// A diagram file, and its refusal, 0 where it is accepted.
+fn run_diagram(line: &[u8], at: usize, space: &mut [u8]) {
     let n = decode(laws::past(laws::past(line, at), 1), space);
+    say(
+        b"diagram, ",
+        line,
+        at,
+        loading::read_diagram(&space[..n]).no,
+    );
+}
+
+// A record file, and its refusal, 0 where it is accepted.
+fn run_record(line: &[u8], at: usize, space: &mut [u8]) {
+    let n = decode(laws::past(laws::past(line, at), 1), space);
+    say(b"record, ", line, at, checking::check_record(&space[..n]));
+}
+
+// The replies of judge and evaluate to a record file under a diagram.
+fn reply(line: &[u8], at: usize, d: diagrams::StoredDiagram, file: &[u8])
+    requires { ⌜ Held d ⌝ }
+{
+    let j = judging::judge(d, file);
+    let v = evaluating::evaluate(d, file);
+    say(b"judge, ", line, at, j.rule);
+    io::write_all(STDOUT_FILENO, b"evaluate, ");
+    io::write_all(STDOUT_FILENO, laws::past(laws::front(line, at), 2));
+    io::write_all(STDOUT_FILENO, b": ");
+    io::print_decimal(STDOUT_FILENO, v.first as u64);
+    io::write_all(STDOUT_FILENO, b"\n");
+}
+
+// A diagram file and, behind a slash, a record file.
+fn run_site(line: &[u8], at: usize, space: &mut [u8], other: &mut [u8]) {
+    let slash = before(line, 47);
+    let n = decode(
+        laws::past(laws::past(laws::front(line, slash), at), 1),
+        space,
+    );
+    let k = decode(laws::past(laws::past(line, slash), 1), other);
+    let l = loading::read_diagram(&space[..n]);
+    if l.no == 0 {
+        let d = l.diagram;
+        reply(line, at, d, &other[..k]);
+    }
+}
+
+// The five numbers of entry k.
+fn print_entry(list: [u8; 320], k: usize)
+    requires { ⌜ k < 64 ⌝ }
+{
+    let mut j = 0;
+    while j < 5 {
+        io::write_all(STDOUT_FILENO, b" ");
+        io::print_decimal(STDOUT_FILENO, list[k * 5 + j] as u64);
+        j += 1;
+    }
+}
+
+// The entries of a compiled list.
+fn print_entries(list: [u8; 320], number: usize) {
+    let mut k = 0;
+    while k < 64 {
+        if number <= k {
+            return;
+        }
+        print_entry(list, k);
+        k += 1;
+    }
+}
+
+// A diagram file, the number of its compiled predicates, and their bytes.
+fn run_compile(line: &[u8], at: usize, space: &mut [u8]) {
+    let n = decode(laws::past(laws::past(line, at), 1), space);
+    let l = loading::read_diagram(&space[..n]);
+    if l.no == 0 {
+        let d = l.diagram;
+        let c = compiling::compile(d);
+        io::write_all(STDOUT_FILENO, b"compile, ");
+        io::write_all(STDOUT_FILENO, laws::past(laws::front(line, at), 2));
+        io::write_all(STDOUT_FILENO, b": ");
+        io::print_decimal(STDOUT_FILENO, c.number as u64);
+        let list = c.list;
+        print_entries(list, c.number);
+        io::write_all(STDOUT_FILENO, b"\n");
+    }
+}
+
+// One line: a diagram file (D), a record file (R), a record file under a diagram (J), or a diagram to compile (C).
+fn run(line: &[u8], space: &mut [u8], other: &mut [u8]) {
+    let at = before(line, 58);
     let kind = laws::byte(line, 0);
     if kind == 68 {
-        say(
-            b"diagram, ",
-            line,
-            at,
-            loading::read_diagram(&space[..n]).no,
-        );
+        run_diagram(line, at, space);
+        return;
     }
     if kind == 82 {
-        say(b"record, ", line, at, checking::check_record(&space[..n]));
+        run_record(line, at, space);
+        return;
+    }
+    if kind == 67 {
+        run_compile(line, at, space);
+        return;
+    }
+    if kind == 74 {
+        run_site(line, at, space, other);
     }
 }
 
 // All lines.
-fn run_all(text: &[u8], space: &mut [u8]) {
+fn run_all(text: &[u8], space: &mut [u8], other: &mut [u8]) {
     let mut rest = text;
     while 0 < rest.len() {
         let k = before(rest, 10);
-        run(laws::front(rest, k), space);
+        run(laws::front(rest, k), space, other);
         let next = laws::past(laws::past(rest, k), 1);
         rest = next;
     }
@@ -118,5 +209,6 @@ fn main() {
     let mut text = input();
     let n = io::read_full(0, &mut text);
     let mut space = room();
-    run_all(&text[..n], &mut space);
+    let mut other = room();
+    run_all(&text[..n], &mut space, &mut other);
 }

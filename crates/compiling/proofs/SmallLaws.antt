@@ -23,17 +23,17 @@ use Rattle.compiling.proofs.GatherLaws.{compiled-at}
 -- ---- what holds of each element of two lists, and of rows one behind the other
 
 module _ {ℓ} {A : Type ℓ} (P : A → Type 0) (d : A) where
-  append-each : (xs ys : List A) → ((k : ℕ) → P (getD xs k d)) → ((k : ℕ) → P (getD ys k d)) → (k : ℕ) → P (getD (xs ++ ys) k d)
+  pub append-each : (xs ys : List A) → ((k : ℕ) → P (getD xs k d)) → ((k : ℕ) → P (getD ys k d)) → (k : ℕ) → P (getD (xs ++ ys) k d)
   append-each [] ys f g k = g k
   append-each (x ∷ xs) ys f g zero = f zero
   append-each (x ∷ xs) ys f g (suc k) = append-each xs ys (λ j. f (suc j)) g k
 
-  joined-each : P d → (g : ℕ → List A) (n : ℕ) → ((i : ℕ) → i < n → (k : ℕ) → P (getD (g i) k d)) → (k : ℕ) → P (getD (joined g n) k d)
+  pub joined-each : P d → (g : ℕ → List A) (n : ℕ) → ((i : ℕ) → i < n → (k : ℕ) → P (getD (g i) k d)) → (k : ℕ) → P (getD (joined g n) k d)
   unfolding joined
   joined-each p g zero f k = p
   joined-each p g (suc n) f k = append-each (joined g n) (g n) (joined-each p g n (λ i l. f i (le-step l))) (f n (lt-suc-self n)) k
 
-  one-each : P d → (x : A) → P x → (k : ℕ) → P (getD (x ∷ []) k d)
+  pub one-each : P d → (x : A) → P x → (k : ℕ) → P (getD (x ∷ []) k d)
   one-each p x q zero = q
   one-each p x q (suc k) = p
 

@@ -1,0 +1,3 @@
+pub mod TabledLaws
+pub mod CodedLaws
+pub mod FileLaws
