@@ -2,7 +2,6 @@
 ghost use mathlib.Core.Path.{_≡_};
 ghost use Prim.Native.Nat.{_*_, _-_, _/_, _<_, _≤_};
 ghost use Rattle.laws.specs.Bounded.{all, any, tally};
-ghost use Rattle.rules.specs.Arrow.{carriesLeft, carriesRight};
 ghost use Rattle.rules.specs.TypeRules.{rule1, rule2};
 ghost use Rattle.rules.specs.ValueRules.{rule4};
 ghost use Rattle.memory_rules.specs.SiteIn.{siteIn};
@@ -375,20 +374,6 @@ pub fn values_belong<'a>(
 
 // ---- rule 5
 
-// An association with this arrow carries links from left to right.
-fn carries_right(arrow: u8) -> bool
-    ensures { λ r. ⌜ r ≡ carriesRight arrow ⌝ }
-{
-    (arrow == 1) | ((arrow == 3) | (arrow == 4))
-}
-
-// An association with this arrow carries links from right to left.
-fn carries_left(arrow: u8) -> bool
-    ensures { λ r. ⌜ r ≡ carriesLeft arrow ⌝ }
-{
-    (arrow == 2) | ((arrow == 3) | (arrow == 4))
-}
-
 // The links of one side: they are carried, the role in slot s is that of end `to`, o is an instance of `from`, and p of `to`.
 fn is_joining<'a>(
     carried: bool,
@@ -430,7 +415,7 @@ fn is_permitting<'a>(
     let left = a * 2;
     let right = a * 2 + 1;
     is_joining(
-        carries_right(arrow),
+        link_rules::carries_right(arrow),
         types,
         masks,
         slots,
@@ -441,7 +426,7 @@ fn is_permitting<'a>(
         right,
     )
         | is_joining(
-            carries_left(arrow),
+            link_rules::carries_left(arrow),
             types,
             masks,
             slots,
