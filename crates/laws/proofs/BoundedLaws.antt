@@ -126,3 +126,12 @@ module _ (p : ℕ → Bool) where
       (λ l.
       let i : firstNot p n ≡ k = firstNot-at n k l a e in
       ap (λ (m : ℕ). cond (eqb m n && p n) (suc n) m) i ∙ ap (λ (t : Bool). cond (t && p n) (suc n) k) (ne-eqb k n (ne-of-lt l))) (last h)
+
+-- two tests that agree below a bound first fail at the same index
+pub firstNot-ext : (p q : ℕ → Bool) (n : ℕ) → ((k : ℕ) → k < n → p k ≡ q k) → firstNot p n ≡ firstNot q n
+unfolding firstNot
+firstNot-ext p q zero f = refl
+firstNot-ext p q (suc n) f =
+    let a : firstNot p n ≡ firstNot q n = firstNot-ext p q n (λ k l. f k (le-step l)) in
+    let e : p n ≡ q n = f n (lt-suc-self n) in
+    cc

@@ -25,7 +25,7 @@ use Rattle.rules.specs.WholeRule.{isWhole, rule9, rule9At, wholeBy}
 use Rattle.memory_rules.specs.Agree.{Agree}
 use Rattle.laws.proofs.BoundedLaws.{all-ext, any-ext}
 use Rattle.laws.proofs.CountLaws.{tally-ext}
-use Rattle.memory_rules.proofs.FirstNotLaws.{firstNot-ext}
+use Rattle.laws.proofs.BoundedLaws.{firstNot-ext}
 
 module _ (d : Diagram) (x y : Site) (h : Agree d x y) where
   -- ---- over the objects

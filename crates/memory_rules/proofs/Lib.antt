@@ -1,4 +1,3 @@
-pub mod FirstNotLaws
 pub mod AgreeLaws
 pub mod SlotLaws
 pub mod RiseLaws

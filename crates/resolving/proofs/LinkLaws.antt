@@ -23,7 +23,7 @@ use Rattle.files.specs.RecordFile.{withLink}
 use Rattle.records.specs.declared.MemoryRecord.{MemoryRecord}
 use Rattle.records.specs.Slots.{ownRole, roleCount, roleName, roleSlot}
 use Rattle.records.specs.Represents.{linkBit, strayLink, strayValue}
-use Rattle.resolving.specs.Stored.{Stands, linkStored, withMaskAt, withStrayLink}
+use Rattle.resolving.specs.Stored.{StandsSoFar, linkStored, withMaskAt, withStrayLink}
 use Rattle.resolving.proofs.SlotLaws.{own-below, own-same, slot-own}
 use Rattle.resolving.proofs.GeneralLaws.{any-snoc, both-false, eqb-swap, set-place}
 use Rattle.resolving.proofs.StoreLaws.{byte-same}
@@ -136,7 +136,7 @@ mask-place ms f a t o s p long hf ha hs =
 
 -- ---- the store
 
-module _ (d : Diagram) (q : Record) (m : MemoryRecord) (st : Stands d q m) (l : Link) where
+module _ (d : Diagram) (q : Record) (m : MemoryRecord) (st : StandsSoFar d q m) (l : Link) where
   abbrev slot : ℕ
   slot = roleSlot d (l .role)
 
@@ -144,7 +144,7 @@ module _ (d : Diagram) (q : Record) (m : MemoryRecord) (st : Stands d q m) (l : 
   place = l .from * 32 + slot
 
   link-hit : slot < roleCount d → roleCount d ≤ 32 → l .from < 8 → length (m .links) ≡ 256
-      → Stands d (withLink q l) (withMaskAt m place (bitOr (getD (m .links) place 0) (2 ^ (l .to))))
+      → StandsSoFar d (withLink q l) (withMaskAt m place (bitOr (getD (m .links) place 0) (2 ^ (l .to))))
   unfolding objectCount withLink strayValue
   link-hit h few hf long = record {
     count = st .count;
@@ -161,7 +161,7 @@ module _ (d : Diagram) (q : Record) (m : MemoryRecord) (st : Stands d q m) (l : 
     };
   }
 
-  link-miss : roleCount d ≤ slot → Stands d (withLink q l) (withStrayLink m)
+  link-miss : roleCount d ≤ slot → StandsSoFar d (withLink q l) (withStrayLink m)
   unfolding objectCount withLink strayValue
   link-miss h =
       let k : slot ≤ roleCount d = role-le d (l .role) in
@@ -182,11 +182,11 @@ module _ (d : Diagram) (q : Record) (m : MemoryRecord) (st : Stands d q m) (l : 
       always false = refl
 
   pub link-stands : roleCount d ≤ 32 → l .from < 8 → length (m .links) ≡ 256
-      → Stands d (withLink q l) (linkStored m slot (roleCount d) (l .from) (l .to))
+      → StandsSoFar d (withLink q l) (linkStored m slot (roleCount d) (l .from) (l .to))
   unfolding linkStored
   link-stands few hf long = go (ltb slot (roleCount d)) refl
     where
       go : (b : Bool) → ltb slot (roleCount d) ≡ b
-          → Stands d (withLink q l) (cond b (withMaskAt m place (bitOr (getD (m .links) place 0) (2 ^ (l .to)))) (withStrayLink m))
+          → StandsSoFar d (withLink q l) (cond b (withMaskAt m place (bitOr (getD (m .links) place 0) (2 ^ (l .to)))) (withStrayLink m))
       go true e = link-hit (ltb-true _ _ e) few hf long
       go false e = link-miss (ltb-false _ _ e)

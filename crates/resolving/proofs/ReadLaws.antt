@@ -23,7 +23,7 @@ use Rattle.files.specs.Refusal.{accepted, orRefused, refused}
 use Rattle.files.proofs.AnswerLaws.{accepted-is, refused-not}
 use Rattle.records.specs.declared.MemoryRecord.{MemoryRecord}
 use Rattle.resolving.specs.Resolves.{Resolves}
-use Rattle.resolving.specs.Stored.{Stands, Takes, emptyMemory}
+use Rattle.resolving.specs.Stored.{StandsSoFar, Takes, emptyMemory}
 use Rattle.resolving.proofs.StoreLaws.{nothing-stands}
 use Rattle.resolving.proofs.TakeLaws.{count-few}
 
@@ -33,7 +33,7 @@ pub record Reading (d : Diagram) (m : MemoryRecord) (rest : Rows) (r : Record) :
   pub count : ℕ
   pub sofar : Record
   pub few : count ≤ 8
-  pub stands : Stands d sofar m
+  pub stands : StandsSoFar d sofar m
   pub is : recordFrom last count sofar rest ≡ accepted r
 
 pub record Reads (d : Diagram) (file : List ℕ) (m : MemoryRecord) (rest : List ℕ) : Type 0 where
@@ -117,10 +117,10 @@ module _ {d : Diagram} {file : List ℕ} where
   pub reads-end : {m : MemoryRecord} {s : List ℕ} → Reads d file m s → length s ≤ 0 → Resolves d file m
   reads-end {m} {s} f l = record { count = λ r a. whole r a .count; stands = λ r a. whole r a .stands }
     where
-      whole : (r : Record) → readRecord file ≡ accepted r → Stands d r m
+      whole : (r : Record) → readRecord file ≡ accepted r → StandsSoFar d r m
       whole r a =
           let g = f .on r a in
-          subst (λ (q : Record). Stands d q m)
+          subst (λ (q : Record). StandsSoFar d q m)
           (from-end (g .last) (g .count) (g .sofar) r (ap (recordFrom (g .last) (g .count) (g .sofar)) (sym (rows-end s l)) ∙ g .is)) (g .stands)
 
 -- for `search`

@@ -23,11 +23,11 @@ use Rattle.files.specs.RecordFile.{withObject}
 use Rattle.records.specs.declared.MemoryRecord.{MemoryRecord}
 use Rattle.records.specs.Slots.{codeOf, ownAttribute, ownRole, typeIndex}
 use Rattle.records.specs.Represents.{codeAmong, linkBit, strayLink, strayValue, valueByte, valueFor}
-use Rattle.resolving.specs.Stored.{Stands, emptyMemory, withType}
+use Rattle.resolving.specs.Stored.{StandsSoFar, emptyMemory, withType}
 
 -- ---- nothing
 
-pub nothing-stands : (d : Diagram) → Stands d noRecord emptyMemory
+pub nothing-stands : (d : Diagram) → StandsSoFar d noRecord emptyMemory
 unfolding emptyMemory objectCount valueByte codeAmong linkBit hasLink strayValue strayLink any
 nothing-stands d = record {
   count = refl;
@@ -62,8 +62,8 @@ byte-same d q r o s e =
 
 -- ---- an object more
 
-module _ (d : Diagram) (q : Record) (m : MemoryRecord) (st : Stands d q m) where
-  pub object-stands : (w : Name) → m .count < 8 → length (m .types) ≡ 8 → Stands d (withObject q w) (withType m (typeIndex d w))
+module _ (d : Diagram) (q : Record) (m : MemoryRecord) (st : StandsSoFar d q m) where
+  pub object-stands : (w : Name) → m .count < 8 → length (m .types) ≡ 8 → StandsSoFar d (withObject q w) (withType m (typeIndex d w))
   unfolding withObject objectCount linkBit hasLink strayValue strayLink
   object-stands w few long =
       let n : m .count ≡ length (q .objects) = st .count in

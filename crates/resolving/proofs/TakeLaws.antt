@@ -20,7 +20,7 @@ use Rattle.diagrams.proofs.ViewLaws.{attribute-count}
 use Rattle.records.specs.declared.MemoryRecord.{MemoryRecord}
 use Rattle.records.specs.Slots.{attributeSlot, roleCount}
 use Rattle.resolving.specs.Lookup.{isCodeIn, slotOf}
-use Rattle.resolving.specs.Stored.{Stands, Takes, linkStored, valueStored, withType}
+use Rattle.resolving.specs.Stored.{StandsSoFar, Takes, linkStored, valueStored, withType}
 use Rattle.resolving.proofs.LookupLaws.{attribute-slot, code-of, role-count, role-slot, type-index}
 use Rattle.resolving.proofs.LinkLaws.{link-stands}
 use Rattle.resolving.proofs.StoreLaws.{object-stands}
@@ -82,7 +82,7 @@ module _ (d : StoredDiagram) (m n : MemoryRecord) (t : ℕ) (c : List ℕ) where
             let l : objectCount r < count = object-room last count r c ok in
             let k : m .count ≡ objectCount r = st .count in
             let h : m .count < 8 = omega arith in
-            subst (Stands (diagramOf d) (recordWith r 0x61 c)) (sym (f h ∙ ap (withType m) (sym (type-index d (nameIn c)))))
+            subst (StandsSoFar (diagramOf d) (recordWith r 0x61 c)) (sym (f h ∙ ap (withType m) (sym (type-index d (nameIn c)))))
             (object-stands (diagramOf d) r m st (nameIn c) h (size .types));
       })
 
@@ -99,7 +99,7 @@ module _ (d : StoredDiagram) (m n : MemoryRecord) (t : ℕ) (c : List ℕ) where
             let l : valueOf c .object < count = value-below last count r c ok in
             let h : valueOf c .object < 8 = omega arith in
             let fits : length (diagramOf d .attributes) ≤ 32 = omega (arith, attribute-count d, counts .attributes) in
-            subst (Stands (diagramOf d) (recordWith r 0x62 c))
+            subst (StandsSoFar (diagramOf d) (recordWith r 0x62 c))
             (sym (f h ∙ ap₂ (λ (s k : ℕ). valueStored m s k (valueOf c .object) code) (sym (attribute-slot d (valueOf c .attribute))) (sym (attribute-count d))
             ∙ ap (valueStored m (attributeSlot (diagramOf d) (valueOf c .attribute)) (length (diagramOf d .attributes)) (valueOf c .object))
             (q ∙ sym (code-of d (valueOf c .valueType) (valueOf c .constant)))))
@@ -116,8 +116,8 @@ module _ (d : StoredDiagram) (m n : MemoryRecord) (t : ℕ) (c : List ℕ) where
         let h : linkOf c .from < 8 = omega (arith, b .0) in
         let g : linkOf c .to < 8 = omega (arith, b .1) in
         let fits : roleCount (diagramOf d) ≤ 32 = omega (arith, role-count d, counts .associations) in
-        subst (λ (x : Record). Stands (diagramOf d) x n) (sym (link-with last count r c t n60 n61 n62))
-        (subst (Stands (diagramOf d) (withLink r (linkOf c)))
+        subst (λ (x : Record). StandsSoFar (diagramOf d) x n) (sym (link-with last count r c t n60 n61 n62))
+        (subst (StandsSoFar (diagramOf d) (withLink r (linkOf c)))
         (sym (f h g ∙ ap₂ (λ (s k : ℕ). linkStored m s k (linkOf c .from) (linkOf c .to)) (sym (role-slot d (linkOf c .role))) (sym (role-count d))))
         (link-stands (diagramOf d) r m st (linkOf c) fits h (size .links)));
   }

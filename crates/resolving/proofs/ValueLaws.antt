@@ -20,7 +20,7 @@ use Rattle.files.specs.RecordFile.{withValue}
 use Rattle.records.specs.declared.MemoryRecord.{MemoryRecord}
 use Rattle.records.specs.Slots.{attributeSlot, codeOf, ownAttribute}
 use Rattle.records.specs.Represents.{codeAmong, linkBit, strayLink, strayValue, valueByte, valueFor}
-use Rattle.resolving.specs.Stored.{Stands, valueStored, withStrayValue, withValueAt}
+use Rattle.resolving.specs.Stored.{StandsSoFar, valueStored, withStrayValue, withValueAt}
 use Rattle.resolving.proofs.SlotLaws.{own-below, own-same, slot-own}
 use Rattle.resolving.proofs.GeneralLaws.{any-snoc, both-false, length-snoc, set-place}
 use Rattle.resolving.proofs.StoreLaws.{code-same}
@@ -103,12 +103,12 @@ module _ (d : Diagram) (q : Record) (v : Value) where
 
 -- ---- the store
 
-module _ (d : Diagram) (q : Record) (m : MemoryRecord) (st : Stands d q m) (v : Value) where
+module _ (d : Diagram) (q : Record) (m : MemoryRecord) (st : StandsSoFar d q m) (v : Value) where
   abbrev slot : ℕ
   slot = attributeSlot d (v .attribute)
 
   value-hit : slot < length (d .attributes) → length (d .attributes) ≤ 32 → v .object < 8 → length (m .values) ≡ 256
-      → Stands d (withValue q v) (withValueAt m (v .object * 32 + slot) (code d q v))
+      → StandsSoFar d (withValue q v) (withValueAt m (v .object * 32 + slot) (code d q v))
   unfolding objectCount withValue linkBit hasLink strayLink
   value-hit h few ho long = record {
     count = st .count;
@@ -125,7 +125,7 @@ module _ (d : Diagram) (q : Record) (m : MemoryRecord) (st : Stands d q m) (v : 
     };
   }
 
-  value-miss : length (d .attributes) ≤ slot → Stands d (withValue q v) (withStrayValue m)
+  value-miss : length (d .attributes) ≤ slot → StandsSoFar d (withValue q v) (withStrayValue m)
   unfolding objectCount withValue linkBit hasLink strayLink
   value-miss h =
       let l : slot ≤ length (d .attributes) = attribute-le d (v .attribute) in
@@ -146,11 +146,11 @@ module _ (d : Diagram) (q : Record) (m : MemoryRecord) (st : Stands d q m) (v : 
       always false = refl
 
   pub value-stands : length (d .attributes) ≤ 32 → v .object < 8 → length (m .values) ≡ 256
-      → Stands d (withValue q v) (valueStored m slot (length (d .attributes)) (v .object) (codeOf d (v .valueType) (v .constant)))
+      → StandsSoFar d (withValue q v) (valueStored m slot (length (d .attributes)) (v .object) (codeOf d (v .valueType) (v .constant)))
   unfolding valueStored
   value-stands few ho long = go (ltb slot (length (d .attributes))) refl
     where
       go : (b : Bool) → ltb slot (length (d .attributes)) ≡ b
-          → Stands d (withValue q v) (cond b (withValueAt m (v .object * 32 + slot) (code d q v)) (withStrayValue m))
+          → StandsSoFar d (withValue q v) (cond b (withValueAt m (v .object * 32 + slot) (code d q v)) (withStrayValue m))
       go true e = value-hit (ltb-true _ _ e) few ho long
       go false e = value-miss (ltb-false _ _ e)

@@ -73,10 +73,10 @@ linkStored m s k from to =
 -- ---- what a record in memory is to a record of names, and what a field that is not refused keeps
 
 -- it has as many objects, and stands for it
-pub record Stands (d : Diagram) (r : Record) (m : MemoryRecord) : Type 0 where
+pub record StandsSoFar (d : Diagram) (r : Record) (m : MemoryRecord) : Type 0 where
   pub count : m .count ≡ objectCount r
   pub stands : Represents d r m
 
 -- where m stands for what was read, n stands for that and the field of tag t and content c
 pub record Takes (d : Diagram) (t : ℕ) (c : List ℕ) (m n : MemoryRecord) : Type 0 where
-  pub more : (last count : ℕ) (r : Record) → count ≤ 8 → Stands d r m → recordRefusal last count r t c ≡ 0 → Stands d (recordWith r t c) n
+  pub more : (last count : ℕ) (r : Record) → count ≤ 8 → StandsSoFar d r m → recordRefusal last count r t c ≡ 0 → StandsSoFar d (recordWith r t c) n
