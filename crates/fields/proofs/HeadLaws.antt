@@ -1,6 +1,6 @@
 -- What the head of an unread rest says of its fields: a loop over the fields of a file goes by these.
 -- Assumes nothing.
-use Prim.Native.Nat.{ℕ, suc, _+_, _*_, _-_, _<_, _≤_}
+use Prim.Native.Nat.{ℕ, suc, _%_, _+_, _*_, _-_, _/_, _<_, _≤_}
 use native.Mathlib.Omega.{arith}
 use mathlib.Core.Bool.{Bool, true, false, cond}
 use mathlib.Core.List.{List, [], _∷_}
@@ -79,3 +79,8 @@ rows-whole (a ∷ u ∷ v ∷ s) t n e =
       fits = omega (arith, f .1 .1);
       is = rw (f .0, rows-after s (u * 256 + v), f .1 .0, f .1 .1);
     }
+
+-- ---- a length that has two bytes
+
+pub high-whole : (n : ℕ) → n < 65536 → n / 256 % 256 ≡ n / 256
+high-whole n l = omega arith

@@ -143,13 +143,14 @@ pub fn slot_name(names: &[u8], i: u8) -> &[u8]
 
 // ---- written
 
+// The high byte of a number of two bytes.
 pub fn high(n: usize) -> u8
-    requires { ⌜ n < 65536 ⌝ }
-    ensures { λ r. ⌜ r ≡ n / 256 ⌝ }
+    ensures { λ r. ⌜ r ≡ n / 256 % 256 ⌝ }
 {
-    (n / 256) as u8
+    (n / 256 % 256) as u8
 }
 
+// Its low byte.
 pub fn low(n: usize) -> u8
     ensures { λ r. ⌜ r ≡ n % 256 ⌝ }
 {

@@ -1,6 +1,7 @@
 use Rattle.laws.specs.Lists.{over}
 use Rattle.files.specs.Field.{field}
 use Rattle.laws.proofs.OverLaws.{put-on, sets-over}
+use Rattle.fields.proofs.HeadLaws.{high-whole}
 use lib.Seq.{take-length}
 use lib.ListN.{length, drop, take, set, length-set, length-take, length-drop}
 use native.Mathlib.Omega.{arith}
@@ -73,7 +74,7 @@ returns c =
     let d = set (set (set (a .out .now) 0 (a .tag)) 1 h) 2 l in
     let p = put-on head (a .c .now) (a .out .now) d (k .last .1 .0) 3 refl (omega arith) (sets-over head (a .out .now) (omega arith))
     (k .ensures .1 ∙ ap (λ (x : List ℕ). x ++ drop n (take (length d - 3) (drop 3 d))) (take-length (a .c .now))) in
-    (ap (λ (m : ℕ). 3 + m) (k .ensures .0), p ∙ rw (c .before .before .before .before .before .high .ensures, c .before .before .before .before .low .ensures))
+    (ap (λ (m : ℕ). 3 + m) (k .ensures .0), p ∙ rw (c .before .before .before .before .before .high .ensures, high-whole n (search needs), c .before .before .before .before .low .ensures))
 
 pub put-field-spec : {M : Type 1} → statement M
 put-field-spec =
