@@ -1,2 +1,3 @@
 pub mod Head
 pub mod Slot
+pub mod Puts

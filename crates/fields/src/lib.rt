@@ -8,6 +8,7 @@ ghost use Rattle.files.specs.Name.{nameByte, validName, sameName, before};
 ghost use Rattle.files.specs.Content.{nameIn, pastName, startsName, startsConstant};
 ghost use Rattle.fields.specs.Head.{headOf};
 ghost use Rattle.fields.specs.Slot.{slotName};
+ghost use Rattle.fields.specs.Puts.{fieldFits, PutsField};
 
 // ---- a field at the front
 
@@ -157,8 +158,18 @@ pub fn low(n: usize) -> u8
     (n % 256) as u8
 }
 
-// One field at the front of the unused rest, whose later bytes stay; its length is returned.
-pub fn put_field(out: &mut [u8], tag: u8, c: &[u8]) -> usize
+// A content of n bytes is a field, and a buffer of `room` bytes holds it.
+fn field_fits(n: usize, room: usize) -> bool
+    ensures { λ r. ⌜ r ≡ fieldFits n room ⌝ }
+{
+    if 65536 <= n {
+        return false;
+    }
+    3 + n <= room
+}
+
+// A field that fits, at the front of the unused rest, whose later bytes stay; its length is returned.
+fn put_fitting(out: &mut [u8], tag: u8, c: &[u8]) -> usize
     requires { ⌜ (3 + length (now c) ≤ length (now out)) × (length (now c) < 65536) ⌝ }
     ensures { λ r. ⌜ (r ≡ 3 + length (now (c .entry))) × (now (out .exit) ≡ over (field tag (now (c .entry))) (now (out .entry))) ⌝ }
 {
@@ -168,4 +179,15 @@ pub fn put_field(out: &mut [u8], tag: u8, c: &[u8]) -> usize
     out[2] = low(n);
     let m = bytes::copy(c, &mut out[3..]);
     3 + m
+}
+
+// One field at the front of the unused rest, whose later bytes stay; its length is returned, or 0 where it does not fit.
+pub fn put_field(out: &mut [u8], tag: u8, c: &[u8]) -> usize
+    ensures { λ r. ⌜ PutsField tag (now (c .entry)) (now (out .entry)) r (now (out .exit)) ⌝ }
+{
+    if field_fits(c.len(), out.len()) {
+        put_fitting(out, tag, c)
+    } else {
+        0
+    }
 }

@@ -1,94 +1,36 @@
-use Rattle.laws.specs.Lists.{over}
-use Rattle.files.specs.Field.{field}
-use Rattle.laws.proofs.OverLaws.{put-on, sets-over}
-use Rattle.fields.proofs.HeadLaws.{high-whole}
-use lib.Seq.{take-length}
-use lib.ListN.{length, drop, take, set, length-set, length-take, length-drop}
-use native.Mathlib.Omega.{arith}
-use mathlib.Core.List.{List, [], _∷_, _++_}
-use mathlib.Core.Path.{_≡_, ap, _∙_, refl}
-use Prim.Native.Nat.{ℕ, _+_, _-_}
+use Rattle.fields.proofs.PutsLaws.{fits-short, fits-room, field-put, field-left}
+use mathlib.Core.Path.{sym, _∙_}
+use lib.ListN.{length}
 use borrow.Author.Needs.{needs}
 use Rattle.fields.proofs.put_field.Statement.{statement}
 use Rattle.fields.proofs.put_field.Tie as tie
 use Rattle.fields.proofs.put_field.Reads as reads
 use Rattle.fields.proofs.put_field.Lts as lts
-use Rattle.bytes.proofs.copy.Reads as copy-reads
-use Rattle.fields.proofs.high.Reads as high-reads
-use Rattle.fields.proofs.low.Reads as low-reads
+use Rattle.fields.proofs.field_fits.Reads as field-fits-reads
+use Rattle.fields.proofs.put_fitting.Reads as put-fitting-reads
 
--- src/lib.rt:165:5
-slice-write-out : tie.Need-slice-write-out
-slice-write-out c = search needs
+field-fits-requires : tie.Need-field-fits-requires
+field-fits-requires c κs = search needs
 
--- src/lib.rt:166:14
-high-requires : tie.Need-high-requires
-high-requires c κs = search needs
+put-fitting-requires : tie.Need-put-fitting-requires
+put-fitting-requires c κs =
+    let a = c .before .before .before .before .before .args in
+    let f = c .before .before .field-fits in
+    let h = sym (f .ensures) ∙ c .before .if1 .taken in
+    (fits-room (length (a .c .now)) (length (a .out .now)) h, fits-short (length (a .c .now)) (length (a .out .now)) h)
 
--- src/lib.rt:166:5
-slice-write-out-2 : tie.Need-slice-write-out-2
-slice-write-out-2 c = simp length-set (omega arith)
-
--- src/lib.rt:167:14
-low-requires : tie.Need-low-requires
-low-requires c κs = search needs
-
--- src/lib.rt:167:5
-slice-write-out-3 : tie.Need-slice-write-out-3
-slice-write-out-3 c = simp length-set (omega arith)
-
--- src/lib.rt:168:28
-sub-copy : tie.Need-sub-copy
-sub-copy c = simp length-set (omega arith)
-
--- src/lib.rt:168:28
-part-copy-start : tie.Need-part-copy-start
-part-copy-start c = simp length-set (omega arith)
-
--- src/lib.rt:168:28
-part-copy-end : tie.Need-part-copy-end
-part-copy-end c = search needs
-
--- src/lib.rt:168:9
-copy-requires : tie.Need-copy-requires
-copy-requires c κs = simp (length-set, length-take, length-drop) (omega arith)
-
--- src/lib.rt:169:5
-add-result : tie.Need-add-result
-add-result c = search needs
-
--- src/lib.rt:160:1
 same-length : tie.Need-same-length
-same-length c = c .before .out .given .1 ∙ simp length-set
+same-length c = search needs
 
--- src/lib.rt:160:1
 returns : tie.Need-returns
-unfolding field over
 returns c =
-    let a = c .before .before .before .before .before .before .before .before .args in
-    let h = c .before .before .before .before .before .high .result in
-    let l = c .before .before .before .before .low .result in
-    let k = c .before .before .copy in
-    let n = length (a .c .now) in
-    let head : List ℕ = a .tag ∷ h ∷ l ∷ [] in
-    let d = set (set (set (a .out .now) 0 (a .tag)) 1 h) 2 l in
-    let p = put-on head (a .c .now) (a .out .now) d (k .last .1 .0) 3 refl (omega arith) (sets-over head (a .out .now) (omega arith))
-    (k .ensures .1 ∙ ap (λ (x : List ℕ). x ++ drop n (take (length d - 3) (drop 3 d))) (take-length (a .c .now))) in
-    (ap (λ (m : ℕ). 3 + m) (k .ensures .0), p ∙ rw (c .before .before .before .before .before .high .ensures, high-whole n (search needs), c .before .before .before .before .low .ensures))
+    let f = c .before .before .before .before .before .field-fits in
+    let p = c .before .before .put-fitting .ensures in
+    field-put _ _ _ (sym (f .ensures) ∙ c .before .before .before .before .if1 .taken) (p .0) (p .1)
+
+returns-2 : tie.Need-returns-2
+returns-2 c = field-left _ _ _ (sym (c .before .field-fits .ensures) ∙ c .if1 .left)
 
 pub put-field-spec : {M : Type 1} → statement M
 put-field-spec =
-    tie.close
-    (tie.spec
-    slice-write-out
-    high-requires
-    slice-write-out-2
-    low-requires
-    slice-write-out-3
-    sub-copy
-    part-copy-start
-    part-copy-end
-    copy-requires
-    add-result
-    same-length
-    returns)
+    tie.close (tie.spec field-fits-requires put-fitting-requires same-length returns returns-2)
