@@ -1,3 +1,4 @@
 pub mod Slots
 pub mod Represents
 pub mod Written
+pub mod WithinTest

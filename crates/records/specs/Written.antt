@@ -71,10 +71,18 @@ recordOf d m = record {
   links = picked (linkOn d m) (linkIs d) (m .count * 256);
 }
 
+-- ---- what can be written
+
+-- k % 8 is a constant of value type k / 8, or the unnamed value of a plain one
+abbrev pub constantKnown : Diagram → ℕ → Bool
+constantKnown d k =
+    either (ltb (k % 8) (length (valueTypeAt d (k / 8) .constants)))
+    (both (eqb (length (valueTypeAt d (k / 8) .constants)) 0) (eqb (k % 8) 0))
+
 -- code k is a constant of a value type, or the unnamed value of a plain one
 pub record IsValue (d : Diagram) (k : ℕ) : Type 0 where
   pub type-known : k / 8 < length (d .valueTypes)
-  pub constant-known : either (ltb (k % 8) (length (valueTypeAt d (k / 8) .constants))) (both (eqb (length (valueTypeAt d (k / 8) .constants)) 0) (eqb (k % 8) 0)) ≡ true
+  pub constant-known : constantKnown d k ≡ true
 
 -- it has an index for everything: known types, values that are constants, targets that are objects
 pub record Within (d : Diagram) (m : MemoryRecord) : Type 0 where

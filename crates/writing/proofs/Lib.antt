@@ -6,3 +6,4 @@ pub mod PieceLaws
 pub mod StoredLaws
 pub mod NumberLaws
 pub mod FileLaws
+pub mod KnownLaws

@@ -1,0 +1,83 @@
+-- The test `within` says exactly what `Within` does, for every diagram and every record in memory. Links are the one step that is
+-- not word for word: the targets are all below the count exactly when the mask is below its power of two.
+-- Assumes nothing.
+use Prim.Native.Nat.{ℕ, _*_, _+_, _-_, _/_, _^_, _<_}
+use native.Mathlib.Decide.{decLt}
+use native.Mathlib.Omega.{arith}
+use mathlib.Core.Bool.{Bool, true, false}
+use mathlib.Core.Logic.{_↔_, _≢_, ⊎-elim}
+use mathlib.Core.Path.{_≡_, sym, _∙_}
+use lib.Dec.{eqb, leb, ltb}
+use lib.ListN.{getD, length}
+use borrow.Author.Tests.{eq-eqb, eqb-true, le-leb, leb-true, lt-ltb, ltb-true}
+use Rattle.laws.specs.Bits.{bit}
+use Rattle.laws.specs.Bounded.{all}
+use Rattle.laws.specs.Connective.{both, either}
+use Rattle.laws.proofs.BitLaws.{bit-above, bits-below}
+use Rattle.laws.proofs.BoundedLaws.{all-at, all-of}
+use Rattle.laws.proofs.ConnectiveLaws.{both-left, both-of, both-right, either-cases, either-left, either-right, known, true-false}
+use Rattle.records.specs.declared.MemoryRecord.{MemoryRecord}
+use Rattle.files.specs.Diagram.{Diagram}
+use Rattle.records.specs.Slots.{roleCount}
+use Rattle.records.specs.Written.{IsValue, Within, constantKnown, linkIn, valueIn}
+use Rattle.records.specs.WithinTest.{objectKnown, targetsKnown, valueKnown, valuesKnown, within}
+
+-- a bit of a number below 2 ^ n is below n
+below-of : (n x p : ℕ) → x < 2 ^ n → bit p x ≡ true → p < n
+below-of n x p h t = go (decLt p n)
+  where
+    go : Dec (p < n) → p < n
+    go (yes l) = l
+    go (no l) = absurd (true-false t (bit-above n p x h (omega arith)))
+
+module _ (d : Diagram) where
+  value-known : (v : ℕ) → (valueKnown d v ≡ true) ↔ (v ≢ 0 → IsValue d (v - 1))
+  unfolding valueKnown
+  value-known v = (there, back)
+    where
+      named : Bool
+      named = both (ltb ((v - 1) / 8) (length (d .valueTypes))) (constantKnown d (v - 1))
+
+      is : named ≡ true → IsValue d (v - 1)
+      is h = record {
+        type-known = ltb-true _ _ (both-left (ltb ((v - 1) / 8) (length (d .valueTypes))) (constantKnown d (v - 1)) h);
+        constant-known = both-right (ltb ((v - 1) / 8) (length (d .valueTypes))) (constantKnown d (v - 1)) h;
+      }
+
+      there : either (eqb v 0) named ≡ true → v ≢ 0 → IsValue d (v - 1)
+      there h n = ⊎-elim (λ e. absurd (n (eqb-true v 0 e))) is (either-cases (eqb v 0) named h)
+
+      back : (v ≢ 0 → IsValue d (v - 1)) → either (eqb v 0) named ≡ true
+      back f = ⊎-elim (either-left (eqb v 0) named)
+          (λ e. let i = f (λ z. true-false (eq-eqb v 0 z) e) in
+          either-right (eqb v 0) named (both-of _ _ (lt-ltb _ _ (i .type-known)) (i .constant-known))) (known (eqb v 0))
+
+  module _ (m : MemoryRecord) where
+    pub within-sound : within d m ≡ true → Within d m
+    unfolding within objectKnown valuesKnown targetsKnown
+    within-sound h = record {
+      few = leb-true _ _ (both-left (leb (m .count) 8) (all (objectKnown d m) (m .count)) h);
+      types = λ o l. ltb-true _ _ (both-left (ltb (getD (m .types) o 0) (length (d .types))) (both (valuesKnown d m o) (targetsKnown d m o)) (object o l));
+      values = λ o s l k. value-known (valueIn m o s) .0 (all-at _ _ (both-left (valuesKnown d m o) (targetsKnown d m o) (rest o l)) s k);
+      targets = λ o s p l k t.
+          below-of (m .count) (getD (m .links) (o * 32 + s) 0) p (ltb-true _ _ (all-at _ _ (both-right (valuesKnown d m o) (targetsKnown d m o) (rest o l)) s k)) t;
+    }
+      where
+        object : (o : ℕ) → o < m .count → objectKnown d m o ≡ true
+        object o l = all-at (objectKnown d m) (m .count) (both-right (leb (m .count) 8) (all (objectKnown d m) (m .count)) h) o l
+
+        rest : (o : ℕ) → o < m .count → both (valuesKnown d m o) (targetsKnown d m o) ≡ true
+        rest o l = both-right (ltb (getD (m .types) o 0) (length (d .types))) (both (valuesKnown d m o) (targetsKnown d m o)) (object o l)
+
+    pub within-complete : Within d m → within d m ≡ true
+    unfolding within objectKnown valuesKnown targetsKnown
+    within-complete w =
+        both-of _ _ (le-leb _ _ (w .few))
+        (all-of (objectKnown d m) (m .count)
+        (λ o l.
+        both-of _ _ (lt-ltb _ _ (w .types o l))
+        (both-of _ _ (all-of (λ s. valueKnown d (valueIn m o s)) (length (d .attributes)) (λ s k. value-known (valueIn m o s) .1 (w .values o s l k)))
+        (all-of (λ s. ltb (getD (m .links) (o * 32 + s) 0) (2 ^ m .count)) (roleCount d) (λ s k. lt-ltb _ _ (bits-below (m .count) (getD (m .links) (o * 32 + s) 0) (λ p t. w .targets o s p l k t)))))))
+
+    pub within-iff : (within d m ≡ true) ↔ Within d m
+    within-iff = (within-sound, within-complete)

@@ -1,0 +1,96 @@
+-- Whether a record in memory can be written, in the terms of the arrays: one law for each way out of the functions of `known`.
+-- Assumes nothing.
+use Prim.Native.Nat.{ℕ, _%_, _*_, _+_, _-_, _/_, _^_, _<_, _≤_}
+use mathlib.Core.Bool.{Bool, true, false, _&&_, _||_}
+use mathlib.Core.List.{List, []}
+use mathlib.Core.Path.{_≡_, refl, sym, ap, ap₂, _∙_}
+use lib.Dec.{eqb, leb, ltb}
+use lib.ListN.{length, getD}
+use borrow.Author.Tests.{eq-eqb, leb-true, ne-eqb, le-ltb, lt-ltb}
+use Rattle.laws.specs.Bounded.{all}
+use Rattle.laws.specs.Connective.{both, either}
+use Rattle.laws.proofs.ConnectiveLaws.{both-left, both-right, true-false}
+use Rattle.laws.proofs.JoinedLaws.{length-each}
+use Rattle.laws.proofs.SearchLaws.{both-no, both-yes, either-no, either-yes}
+use Rattle.files.specs.Diagram.{Diagram, valueTypeAt}
+use Rattle.fields.specs.Slot.{slotName}
+use Rattle.diagrams.specs.declared.StoredDiagram.{StoredDiagram}
+use Rattle.diagrams.specs.View.{diagramOf, valueTypeIn}
+use Rattle.diagrams.proofs.ViewLaws.{association-count, attribute-count, type-count, value-type-at, value-type-count}
+use Rattle.records.specs.declared.MemoryRecord.{MemoryRecord}
+use Rattle.records.specs.Written.{Within, constantKnown, recordOf, valueIn}
+use Rattle.records.specs.WithinTest.{objectKnown, targetsKnown, valueKnown, valuesKnown, within}
+use Rattle.records.proofs.WithinLaws.{within-sound}
+use Rattle.writing.specs.Writes.{Writes, WritesWithin, writable}
+
+-- the code's strict `|` and `&` are the connectives
+or-either : (a b c : Bool) → a || (b && c) ≡ either a (both b c)
+unfolding either both
+or-either true b c = refl
+or-either false true c = refl
+or-either false false c = refl
+
+module _ (d : StoredDiagram) where
+  -- ---- one value
+
+  pub value-none : (v : ℕ) → v ≡ 0 → true ≡ valueKnown (diagramOf d) v
+  unfolding valueKnown
+  value-none v e = either-yes _ (eq-eqb v 0 e)
+
+  named : ℕ → Bool
+  named v = both (ltb ((v - 1) / 8) (length (diagramOf d .valueTypes))) (constantKnown (diagramOf d) (v - 1))
+
+  pub value-untyped : (v t : ℕ) → (v ≡ 0 → ⊥) → t ≡ (v - 1) / 8 → d .values .count ≤ t → false ≡ valueKnown (diagramOf d) v
+  unfolding valueKnown named
+  value-untyped v t n e l =
+      either-no {b = named v} (ne-eqb v 0 n)
+      (both-no _ (ap₂ ltb (sym e) (value-type-count d) ∙ le-ltb t (d .values .count) l))
+
+  size-of : (i : ℕ) → i < d .values .count → length (valueTypeAt (diagramOf d) i .constants) ≡ getD (d .values .sizes) i 0
+  unfolding valueTypeIn
+  size-of i l = ap (λ v. length (v .constants)) (value-type-at d i l) ∙ length-each (λ k. slotName (d .values .constants) (i * 8 + k)) [] (getD (d .values .sizes) i 0)
+
+  pub value-typed : (v t n : ℕ) → (v ≡ 0 → ⊥) → t ≡ (v - 1) / 8 → t < d .values .count → n ≡ getD (d .values .sizes) t 0
+      → ltb ((v - 1) % 8) n || (eqb n 0 && eqb ((v - 1) % 8) 0) ≡ valueKnown (diagramOf d) v
+  unfolding valueKnown named
+  value-typed v t n z e l q =
+      either-no {b = named v} (ne-eqb v 0 z)
+      (both-yes (ap₂ ltb (sym e) (value-type-count d) ∙ lt-ltb t (d .values .count) l)
+      (or-either (ltb ((v - 1) % 8) n) (eqb n 0) (eqb ((v - 1) % 8) 0)
+      ∙ ap (λ (k : ℕ). either (ltb ((v - 1) % 8) k) (both (eqb k 0) (eqb ((v - 1) % 8) 0))) size))
+    where
+      size : n ≡ length (valueTypeAt (diagramOf d) ((v - 1) / 8) .constants)
+      size = q ∙ sym (size-of t l) ∙ ap (λ (i : ℕ). length (valueTypeAt (diagramOf d) i .constants)) e
+
+  -- ---- one object
+
+  module _ (m : MemoryRecord) (o : ℕ) where
+    pub values-stored : all (λ s. valueKnown (diagramOf d) (valueIn m o s)) (d .attributes .count) ≡ valuesKnown (diagramOf d) m o
+    unfolding valuesKnown
+    values-stored = ap (all (λ s. valueKnown (diagramOf d) (valueIn m o s))) (sym (attribute-count d))
+
+    pub targets-stored : (n : ℕ) → n ≡ 2 ^ m .count → all (λ s. ltb (getD (m .links) (o * 32 + s) 0) n) (d .associations .count * 2) ≡ targetsKnown (diagramOf d) m o
+    unfolding targetsKnown
+    targets-stored n e = ap₂ (λ (k a : ℕ). all (λ s. ltb (getD (m .links) (o * 32 + s) 0) k) (a * 2)) e (sym (association-count d))
+
+    pub object-stored : both (ltb (getD (m .types) o 0) (d .types .count)) (both (valuesKnown (diagramOf d) m o) (targetsKnown (diagramOf d) m o)) ≡ objectKnown (diagramOf d) m o
+    unfolding objectKnown
+    object-stored = ap (λ (n : ℕ). both (ltb (getD (m .types) o 0) n) (both (valuesKnown (diagramOf d) m o) (targetsKnown (diagramOf d) m o))) (sym (type-count d))
+
+-- ---- the record
+
+module _ (d : Diagram) (m : MemoryRecord) where
+  module _ (room : ℕ) (h : writable d m room ≡ true) where
+    pub writable-room : 59300 ≤ room
+    unfolding writable
+    writable-room = leb-true 59300 room (both-left (leb 59300 room) (within d m) h)
+
+    pub writable-within : Within d m
+    unfolding writable
+    writable-within = within-sound d m (both-right (leb 59300 room) (within d m) h)
+
+  pub record-written : {before : List ℕ} {n : ℕ} {after : List ℕ} → writable d m (length before) ≡ true → Writes (recordOf d m) before n after → WritesWithin d m before n after
+  record-written h w = record { written = λ t. w; refused = λ f. absurd (true-false h f) }
+
+  pub record-refused : {before : List ℕ} → writable d m (length before) ≡ false → WritesWithin d m before 0 before
+  record-refused h = record { written = λ t. absurd (true-false t h); refused = λ f. (refl, refl) }
