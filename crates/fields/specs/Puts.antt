@@ -15,6 +15,7 @@ use Rattle.files.specs.Field.{field}
 unfoldable pub fieldFits : ℕ → ℕ → Bool
 fieldFits n room = both (ltb n 65536) (leb (3 + n) room)
 
+-- the reply n, and every byte that the buffer then holds
 pub record PutsField (tag : ℕ) (c before : List ℕ) (n : ℕ) (after : List ℕ) : Type 0 where
   pub length-is : n ≡ cond (fieldFits (length c) (length before)) (3 + length c) 0
   pub bytes : after ≡ cond (fieldFits (length c) (length before)) (over (field tag c) before) before

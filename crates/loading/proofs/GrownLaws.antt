@@ -27,7 +27,7 @@ use Rattle.diagrams.specs.declared.StoredDiagram.{StoredDiagram}
 use Rattle.diagrams.specs.Held.{Counts, Held, Sets, onlyTypes}
 use Rattle.diagrams.specs.View.{diagramOf, typeIn, valueTypeIn}
 use Rattle.diagrams.proofs.ViewLaws.{association-count, attribute-count, type-at, type-count, value-type-at, value-type-count}
-use Rattle.storing.specs.Stored.{AssociationFits, AssociationStored, AttributeFits, AttributeStored, TypeFits, TypeStored, ValueTypeFits, ValueTypeStored}
+use Rattle.loading.specs.Stored.{AssociationFits, AssociationStored, AttributeFits, AttributeStored, TypeFits, TypeStored, ValueTypeFits, ValueTypeStored}
 use Rattle.loading.specs.Grown.{Allowed, Grown}
 
 -- ---- sizes, by what is well formed

@@ -1,3 +1,8 @@
+pub mod SlotLaws
+pub mod StoredLaws
+pub mod AssociationLaws
+pub mod AncestorSetLaws
+pub mod TypeLaws
 pub mod NumberLaws
 pub mod FieldLaws
 pub mod GrownLaws

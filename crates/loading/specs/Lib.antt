@@ -1,3 +1,4 @@
+pub mod Stored
 pub mod Loads
 pub mod Numbers
 pub mod Grown

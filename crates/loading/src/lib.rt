@@ -16,6 +16,9 @@ ghost use Rattle.diagrams.specs.Held.{Counts, onlyTypes};
 ghost use Rattle.loading.specs.Numbers.{onlyValueTypes, below, interfaces, kindBreaks, attributeKnown, attributeNo, endsKnown, wholeRight, associationNo};
 ghost use Rattle.loading.specs.Grown.{Allowed, Grown};
 ghost use Rattle.loading.specs.Loads.{Loads};
+
+mod storing; // storing.rt: a diagram in memory with one field more
+
 use diagrams::StoredDiagram;
 use diagrams::Types;
 use diagrams::ValueTypes;

@@ -23,8 +23,10 @@ valuesKnown d m o = all (λ s. valueKnown d (valueIn m o s)) (length (d .attribu
 unfoldable pub targetsKnown : Diagram → MemoryRecord → ℕ → Bool
 targetsKnown d m o = all (λ s. ltb (getD (m .links) (o * 32 + s) 0) (2 ^ m .count)) (roleCount d)
 
+-- the type of object o, its values and its targets
 unfoldable pub objectKnown : Diagram → MemoryRecord → ℕ → Bool
 objectKnown d m o = both (ltb (getD (m .types) o 0) (length (d .types))) (both (valuesKnown d m o) (targetsKnown d m o))
 
+-- at most 8 objects, and each of them known: exactly `Within`, by `within-iff`
 unfoldable pub within : Diagram → MemoryRecord → Bool
 within d m = both (leb (m .count) 8) (all (objectKnown d m) (m .count))

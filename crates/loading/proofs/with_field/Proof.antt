@@ -4,10 +4,10 @@ use Rattle.loading.proofs.with_field.Statement.{statement}
 use Rattle.loading.proofs.with_field.Tie as tie
 use Rattle.loading.proofs.with_field.Reads as reads
 use Rattle.loading.proofs.with_field.Lts as lts
-use Rattle.storing.proofs.with_association.Reads as with-association-reads
-use Rattle.storing.proofs.with_attribute.Reads as with-attribute-reads
-use Rattle.storing.proofs.with_type.Reads as with-type-reads
-use Rattle.storing.proofs.with_value_type.Reads as with-value-type-reads
+use Rattle.loading.proofs.storing.with_association.Reads as with-association-reads
+use Rattle.loading.proofs.storing.with_attribute.Reads as with-attribute-reads
+use Rattle.loading.proofs.storing.with_type.Reads as with-type-reads
+use Rattle.loading.proofs.storing.with_value_type.Reads as with-value-type-reads
 
 -- src/lib.rt:292:9
 returns : tie.Need-returns

@@ -1,5 +1,0 @@
-pub mod SlotLaws
-pub mod StoredLaws
-pub mod AssociationLaws
-pub mod AncestorSetLaws
-pub mod TypeLaws
