@@ -10,7 +10,7 @@ use mathlib.Core.Logic.{⊎-elim}
 use mathlib.Core.Path.{_∙_, _≡_, ap, ap₂, refl, subst, sym}
 use lib.Dec.{eqb}
 use lib.ListN.{List·getD-eq-default, getD, length}
-use borrow.Author.Tests.{eq-eqb, eqb-true, leb-true, lt-ltb}
+use borrow.Author.Tests.{eq-eqb, eqb-true, leb-true, lt-ltb, ltb-true}
 use Rattle.laws.specs.Bounded.{any}
 use Rattle.laws.specs.Connective.{both, either}
 use Rattle.files.specs.Diagram.{Diagram, ValueType, valueTypeAt}
@@ -70,6 +70,10 @@ module _ (d : Diagram) (wf : WfDiagram d) where
   unfolding isCode
   code-type t c k e = same-equal _ _ (both-left _ _ (both-right _ _ e))
 
+  code-below : (t c : Name) (k : ℕ) → isCode d t c k ≡ true → k / 8 < length (d .valueTypes)
+  unfolding isCode
+  code-below t c k e = ltb-true _ _ (both-left _ _ e)
+
   code-constant : (t c : Name) (k : ℕ) → isCode d t c k ≡ true → getD (valueTypeAt d (k / 8) .constants) (k % 8) [] ≡ c
   unfolding isCode
   code-constant t c k e = constant-is _ _ _ (both-right _ _ (both-right _ _ e))
@@ -98,6 +102,13 @@ module _ (d : Diagram) (wf : WfDiagram d) where
       let small : w .0 < 8 = w .1 in
       first-below (isCode d (v .valueType) (v .constant)) 96 (j * 8 + w .0) (omega arith)
       (is-code (v .valueType) (v .constant) j (w .0) (w .1) l (belongs-name v (valueTypeAt d j) e) (w .2))
+
+  -- its code is one of the diagram's value types
+  pub belongs-below : (v : Value) (j : ℕ) → j < length (d .valueTypes) → belongs v (valueTypeAt d j) ≡ true → codeOf d (v .valueType) (v .constant) < length (d .valueTypes) * 8
+  belongs-below v j l e =
+      let k : codeOf d (v .valueType) (v .constant) / 8 < length (d .valueTypes) =
+      code-below (v .valueType) (v .constant) (codeOf d (v .valueType) (v .constant)) (code-holds (v .valueType) (v .constant) (belongs-coded v j l e)) in
+      omega arith
 
   -- nothing named so belongs to a value type of the diagram
   nameless : (v : Value) (j : ℕ) → j < length (d .valueTypes) → v .valueType ≡ [] → belongs v (valueTypeAt d j) ≡ true → ⊥

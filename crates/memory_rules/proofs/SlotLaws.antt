@@ -55,6 +55,10 @@ module _ (d : Diagram) (wf : WfDiagram d) where
       back e = eq-eqb _ _ (sym (index-of i l) ∙ ap (typeIndex d) (same-equal _ _ e))
 
 module _ (d : Diagram) where
+  pub index-known : (w : Name) (i : ℕ) → i < length (d .types) → sameName (typeAt d i .name) w ≡ true → typeIndex d w < length (d .types)
+  unfolding typeIndex
+  index-known w i l e = slot-known (λ j. typeAt d j .name) (length (d .types)) w i l e
+
   -- ---- attributes
 
   pub attribute-name : (w : Name) → attributeSlot d w < length (d .attributes) → attributeAt d (attributeSlot d w) .name ≡ w

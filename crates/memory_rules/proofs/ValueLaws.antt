@@ -16,6 +16,7 @@ use Rattle.files.specs.Diagram.{Diagram, attributeAt}
 use Rattle.files.specs.Membership.{hasValue}
 use Rattle.files.specs.Name.{Name, sameName}
 use Rattle.files.specs.Record.{Record, Value, objectCount, valueAt}
+use Rattle.files.specs.WellFormedRecord.{WfRecord}
 use Rattle.records.specs.Represents.{codeAmong, strayValue, valueFor}
 use Rattle.records.specs.Slots.{attributeSlot, codeOf, ownAttribute}
 use Rattle.records.specs.Written.{valueIn}
@@ -39,6 +40,18 @@ both-idle : (a b : Bool) → (a ≡ true → b ≡ true) → both a b ≡ a
 unfolding both
 both-idle true b f = f refl
 both-idle false b f = refl
+
+-- rule 3 has each value's attribute declared for its object
+pub value-declared : (d : Diagram) (r : Record) → WfRecord r → rule3 d (siteOf r) ≡ true
+    → (i : ℕ) → i < length (r .values) → declared d (siteOf r) (valueAt r i .object) (valueAt r i .attribute) ≡ true
+unfolding rule3 rule3At rule3For same siteOf hasValue
+value-declared d r wf f i l =
+    let o : ℕ = valueAt r i .object in
+    let w : Name = valueAt r i .attribute in
+    let each = both-right _ _ (all-at (rule3At d (siteOf r)) (objectCount r) f o (wf .value i l .object-below)) in
+    let said : same (hasValue r o w) (declared d (siteOf r) o w) ≡ true = all-at (λ j. rule3For d (siteOf r) o (valueAt r j .attribute)) (length (r .values)) each i l in
+    let has : hasValue r o w ≡ true = any-of (λ j. valueFor (valueAt r j) o w) (length (r .values)) i l (both-of _ _ (eq-eqb o o refl) (same-self w)) in
+    ap (λ (b : Bool). same b (declared d (siteOf r) o w)) (sym has) ∙ said
 
 module _ (d : Diagram) (r : Record) (m : MemoryRecord) (h : Stands d r m) where
   -- ---- values kept and values of the record
@@ -135,16 +148,11 @@ module _ (d : Diagram) (r : Record) (m : MemoryRecord) (h : Stands d r m) where
 
   -- a stray's object has a value that nothing declares
   stray-breaks : strayValue d r ≡ true → rule3 d (siteOf r) ≡ true → ⊥
-  unfolding strayValue rule3 rule3At rule3For same siteOf hasValue
+  unfolding strayValue
   stray-breaks e f =
       let i = any-at _ (length (r .values)) e in
-      let o : ℕ = valueAt r (i .0) .object in
-      let w : Name = valueAt r (i .0) .attribute in
-      let slot : attributeSlot d w ≡ length (d .attributes) = eqb-true _ _ (i .2) in
-      let each = both-right _ _ (all-at (rule3At d (siteOf r)) (objectCount r) f o (h .wf-record .value (i .0) (i .1) .object-below)) in
-      let said : same (hasValue r o w) (declared d (siteOf r) o w) ≡ true = all-at (λ j. rule3For d (siteOf r) o (valueAt r j .attribute)) (length (r .values)) each (i .0) (i .1) in
-      let has : hasValue r o w ≡ true = any-of (λ j. valueFor (valueAt r j) o w) (length (r .values)) (i .0) (i .1) (both-of _ _ (eq-eqb o o refl) (same-self w)) in
-      true-false said (ap₂ same has (undeclared o w (omega arith)))
+      let slot : attributeSlot d (valueAt r (i .0) .attribute) ≡ length (d .attributes) = eqb-true _ _ (i .2) in
+      true-false (value-declared d r (h .wf-record) f (i .0) (i .1)) (undeclared (valueAt r (i .0) .object) (valueAt r (i .0) .attribute) (omega arith))
 
   -- the mark decides; without it the kept values do
   rule3-marked : m .strays .values ≡ true → rule3In d m ≡ false

@@ -1,0 +1,4 @@
+pub mod MemoryLaws
+pub mod SpotLaws
+pub mod LegalLaws
+pub mod ChoiceLaws

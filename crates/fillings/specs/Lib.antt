@@ -1,0 +1,3 @@
+pub mod Memory
+pub mod Spots
+pub mod Wanted

@@ -1,0 +1,4 @@
+pub mod Due
+pub mod Rows
+pub mod Fits
+pub mod TypeTables
