@@ -1,2 +1,4 @@
 pub mod PassedLaws
 pub mod TypeSpotLaws
+pub mod DueLaws
+pub mod ValueSpotLaws
