@@ -24,7 +24,7 @@ use Rattle.memory_rules.proofs.JudgeInLaws.{judge-in}
 use Rattle.tables.specs.Tables.{Coded}
 use Rattle.judging.specs.declared.Judgement.{Judgement}
 use Rattle.judging.specs.Judges.{Judges}
-use Rattle.judging.proofs.CodedLaws.{stands-coded}
+use Rattle.tables.proofs.CodedLaws.{stands-coded}
 
 -- a file without a refusal has a record
 with-record : (a : Answer Record) → Within 6 a → refusalOf a ≡ 0 → (r : Record) × (a ≡ accepted r)

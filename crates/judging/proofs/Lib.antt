@@ -1,3 +1,2 @@
 pub mod TabledLaws
-pub mod CodedLaws
 pub mod FileLaws

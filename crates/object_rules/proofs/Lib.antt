@@ -1,6 +1,4 @@
-pub mod UnderLaws
 pub mod StepLaws
 pub mod TypeLaws
-pub mod BelongLaws
 pub mod ValueLaws
 pub mod LinkLaws

@@ -34,7 +34,7 @@ use Rattle.tables.proofs.OwnLaws.{role-same}
 use Rattle.tables.proofs.TableLaws.{instances-at, role-named}
 use Rattle.object_rules.specs.LinksIn.{joins, linkFits, permitsAt}
 use Rattle.object_rules.specs.ValuesIn.{ownSlot}
-use Rattle.object_rules.proofs.UnderLaws.{both-under, imp-under}
+use Rattle.tables.proofs.UnderLaws.{both-under, imp-under}
 
 module _ (d : StoredDiagram) (held : Held d) (m : MemoryRecord) (few : m .count ≤ 8) (masks : List ℕ) (is : Instances (diagramOf d) m masks) (slots : List ℕ) (at : RoleSlots (diagramOf d) slots) where
   role-count : roleCount (diagramOf d) ≡ d .associations .count * 2

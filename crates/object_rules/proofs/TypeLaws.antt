@@ -21,7 +21,7 @@ use Rattle.rules.specs.TypeRules.{rule1, rule1At, rule2, rule2At}
 use Rattle.memory_rules.specs.SiteIn.{siteIn}
 use Rattle.tables.proofs.OwnLaws.{any-type, has-type}
 use Rattle.object_rules.specs.TypesIn.{concreteAt, singleAt, typedAt}
-use Rattle.object_rules.proofs.UnderLaws.{both-under}
+use Rattle.tables.proofs.UnderLaws.{both-under}
 
 module _ (d : StoredDiagram) (held : Held d) (m : MemoryRecord) where
   concrete-is : (i : ℕ) → i < d .types .count → isConcrete (typeAt (diagramOf d) i) ≡ either (eqb (getD (d .types .kinds) i 0) 0) (eqb (getD (d .types .kinds) i 0) 3)

@@ -15,11 +15,11 @@ use Rattle.laws.specs.Connective.{both, imp, same}
 use Rattle.laws.proofs.BoundedLaws.{all-at, all-ext, all-of, any-ext}
 use Rattle.laws.proofs.ConnectiveLaws.{both-left, both-right, imp-of}
 use Rattle.laws.proofs.SearchLaws.{both-no, both-yes}
-use Rattle.files.specs.Diagram.{Attribute, attributeAt, valueTypeAt}
+use Rattle.files.specs.Diagram.{attributeAt, valueTypeAt}
 use Rattle.diagrams.specs.declared.StoredDiagram.{StoredDiagram}
-use Rattle.diagrams.specs.View.{attributeIn, diagramOf}
+use Rattle.diagrams.specs.View.{diagramOf}
 use Rattle.diagrams.specs.Held.{Held}
-use Rattle.diagrams.proofs.ViewLaws.{attribute-at, attribute-count}
+use Rattle.diagrams.proofs.ViewLaws.{attribute-count}
 use Rattle.records.specs.declared.MemoryRecord.{MemoryRecord}
 use Rattle.records.specs.Slots.{ownAttribute}
 use Rattle.records.specs.Written.{valueIn}
@@ -28,20 +28,12 @@ use Rattle.memory_rules.specs.JudgeIn.{rule3In}
 use Rattle.memory_rules.specs.SiteIn.{keptValue, siteIn, valueKept, valuedIn}
 use Rattle.tables.specs.Tables.{AttributeSlots, Coded, Instances}
 use Rattle.tables.proofs.OwnLaws.{attribute-below, attribute-same}
-use Rattle.tables.proofs.TableLaws.{instances-at}
+use Rattle.tables.proofs.TableLaws.{attribute-owner, attribute-type, instances-at}
 use Rattle.object_rules.specs.ValuesIn.{agreesAt, declaresAt, dueAt, dueFor, ownSlot, valueFits}
-use Rattle.object_rules.proofs.BelongLaws.{belongs-known, belongs-none}
-use Rattle.object_rules.proofs.UnderLaws.{both-implied, both-under, imp-under}
+use Rattle.tables.proofs.BelongLaws.{belongs-known, belongs-none}
+use Rattle.tables.proofs.UnderLaws.{both-implied, both-under, imp-under}
 
 module _ (d : StoredDiagram) (held : Held d) (m : MemoryRecord) (coded : Coded (diagramOf d) m) (masks : List ℕ) (is : Instances (diagramOf d) m masks) (slots : List ℕ) (at : AttributeSlots (diagramOf d) slots) where
-  owner-is : (a : ℕ) → a < d .attributes .count → attributeAt (diagramOf d) a .owner ≡ getD (d .attributes .owners) a 0
-  unfolding attributeIn
-  owner-is a l = ap (λ (x : Attribute). x .owner) (attribute-at d a l)
-
-  type-is : (a : ℕ) → a < d .attributes .count → attributeAt (diagramOf d) a .valueType ≡ getD (d .attributes .types) a 0
-  unfolding attributeIn
-  type-is a l = ap (λ (x : Attribute). x .valueType) (attribute-at d a l)
-
   below : {a : ℕ} → a < d .attributes .count → a < length (diagramOf d .attributes)
   below {a} l = subst (λ (n : ℕ). a < n) (sym (attribute-count d)) l
 
@@ -53,7 +45,7 @@ module _ (d : StoredDiagram) (held : Held d) (m : MemoryRecord) (coded : Coded (
   declares-is o s a lo ls la =
       ap₂ both
       (instances-at (diagramOf d) m masks is (attributeAt (diagramOf d) a .owner) o (held .wf .attribute a (below la) .owner-known) lo
-      ∙ ap (λ (t : ℕ). bit o (getD masks t 0)) (owner-is a la))
+      ∙ ap (λ (t : ℕ). bit o (getD masks t 0)) (attribute-owner d a la))
       (attribute-same (diagramOf d) a s (below la) (below ls) ∙ ap₂ eqb (sym (at .exact a (below la))) (sym (at .exact s (below ls))))
 
   declared-is : (o s : ℕ) → o < 8 → s < d .attributes .count
@@ -117,7 +109,7 @@ module _ (d : StoredDiagram) (held : Held d) (m : MemoryRecord) (coded : Coded (
       ⊎-elim (λ v. belongs-known (diagramOf d) (held .wf) (keptValue (diagramOf d) m x) t k known v refl refl)
       (λ z. belongs-none (diagramOf d) (held .wf) (keptValue (diagramOf d) m x) t k known (let q : k ≡ 96 = omega arith in q) refl)
       (coded .codes (x / 32) (x % 32) lo (below ls) some)
-      ∙ ap (λ (u : ℕ). eqb u (k / 8)) (type-is a la)
+      ∙ ap (λ (u : ℕ). eqb u (k / 8)) (attribute-type d a la)
 
   own-is : (s : ℕ) → ownAttribute (diagramOf d) s ≡ ownSlot slots (d .attributes .count) s
   unfolding ownAttribute ownSlot

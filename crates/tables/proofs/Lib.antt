@@ -1,2 +1,5 @@
 pub mod OwnLaws
 pub mod TableLaws
+pub mod UnderLaws
+pub mod BelongLaws
+pub mod CodedLaws

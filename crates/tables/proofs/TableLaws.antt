@@ -47,7 +47,7 @@ set-unknown sets types n o {i} {j} e q l =
 -- ---- instances
 
 module _ (d : StoredDiagram) (held : Held d) where
-  set-reaches : (i k : ℕ) → i < d .types .count → bit k (getD (d .types .sets) i 0) ≡ reaches (diagramOf d) i k
+  pub set-reaches : (i k : ℕ) → i < d .types .count → bit k (getD (d .types .sets) i 0) ≡ reaches (diagramOf d) i k
   unfolding diagramOf
   set-reaches i k l = held .sets .exact i k l ∙ reaches-types (onlyTypes (d .types)) (diagramOf d) refl i k
 
@@ -87,12 +87,20 @@ instances-at d m masks is t o l h = go (decLt o (m .count))
     go (yes q) = sym (is .exact t o l q)
     go (no q) = sym (is .beyond t o l (omega arith) h)
 
--- ---- slots
+-- ---- declarations, by the arrays, and slots
 
 module _ (d : StoredDiagram) where
   pub attribute-named : (i : ℕ) → i < d .attributes .count → attributeAt (diagramOf d) i .name ≡ slotName (d .attributes .names) i
   unfolding attributeIn
   attribute-named i l = ap (λ (a : Attribute). a .name) (attribute-at d i l)
+
+  pub attribute-owner : (i : ℕ) → i < d .attributes .count → attributeAt (diagramOf d) i .owner ≡ getD (d .attributes .owners) i 0
+  unfolding attributeIn
+  attribute-owner i l = ap (λ (a : Attribute). a .owner) (attribute-at d i l)
+
+  pub attribute-type : (i : ℕ) → i < d .attributes .count → attributeAt (diagramOf d) i .valueType ≡ getD (d .attributes .types) i 0
+  unfolding attributeIn
+  attribute-type i l = ap (λ (a : Attribute). a .valueType) (attribute-at d i l)
 
   pub role-named : (e : ℕ) → e < d .associations .count * 2 → roleName (diagramOf d) e ≡ slotName (d .associations .roles) e
   unfolding roleName associationIn endIn

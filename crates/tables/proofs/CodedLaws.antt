@@ -19,10 +19,9 @@ use Rattle.records.specs.Represents.{codeAmong, valueByte, valueFor}
 use Rattle.records.specs.Slots.{codeOf, isCode, isConstant, ownAttribute}
 use Rattle.records.specs.Written.{IsValue, valueIn}
 use Rattle.memory_rules.specs.Stands.{Stands}
 use Rattle.tables.specs.Tables.{Coded}
 use Rattle.laws.proofs.ConnectiveLaws.{both-left, both-of, both-right, either-cases, either-left, either-right}
 use Rattle.laws.proofs.FirstLaws.{first-holds, first-le}
-use Rattle.resolving.proofs.SlotLaws.{slot}
 
 -- a code that fits is a value
 code-value : (d : Diagram) (t c : Name) (k : ℕ) → isCode d t c k ≡ true → IsValue d k

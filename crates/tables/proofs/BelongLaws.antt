@@ -21,7 +21,7 @@ use Rattle.files.specs.WellFormedDiagram.{WfDiagram}
 use Rattle.files.proofs.NameLaws.{same-equal, same-self}
 use Rattle.records.specs.Written.{IsValue}
 use Rattle.rules.specs.ValueRules.{belongs}
-use Rattle.object_rules.proofs.UnderLaws.{both-implied}
+use Rattle.tables.proofs.UnderLaws.{both-implied}
 
 -- names that differ are told apart by their index
 pub differ-same : (name : ℕ → Name) (n : ℕ) → ((i j : ℕ) → i < j → j < n → sameName (name i) (name j) ≡ false)
