@@ -1,1 +1,3 @@
 pub mod SpotLaws
+pub mod EndLaws
+pub mod LimitLaws
