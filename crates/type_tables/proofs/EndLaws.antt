@@ -3,7 +3,7 @@
 use Prim.Native.Nat.{_%_, _*_, _+_, _-_, _/_, _<_, ℕ}
 use native.Mathlib.Decide.{decLt}
 use native.Mathlib.Omega.{arith}
-use mathlib.Core.Path.{_∙_, _≡_, ap, ap₂, subst}
+use mathlib.Core.Path.{_≡_, ap, ap₂, subst}
 use lib.Dec.{eqb}
 use lib.ListN.{length}
 use Rattle.laws.specs.Connective.{both}

@@ -1,3 +1,4 @@
 pub mod SpotLaws
 pub mod EndLaws
 pub mod LimitLaws
+pub mod RowSpotLaws
