@@ -113,11 +113,11 @@ module _ (d : Diagram) where
   role-most w = first-le _ (roleCount d)
 
   -- the ends of an association
-  abbrev endOf : Side → ℕ → ℕ
+  abbrev pub endOf : Side → ℕ → ℕ
   endOf r2 a = a * 2 + 1
   endOf r1 a = a * 2
 
-  end-role : (s : Side) (a : ℕ) → roleName d (endOf s a) ≡ target s (associationAt d a) .role
+  pub end-role : (s : Side) (a : ℕ) → roleName d (endOf s a) ≡ target s (associationAt d a) .role
   unfolding roleName
   end-role r2 a =
       let half : (a * 2 + 1) / 2 ≡ a = omega arith in
@@ -128,7 +128,7 @@ module _ (d : Diagram) where
       let even : a * 2 % 2 ≡ 0 = omega arith in
       rw (even, half)
 
-  end-below : (s : Side) (a : ℕ) → a < length (d .associations) → endOf s a < roleCount d
+  pub end-below : (s : Side) (a : ℕ) → a < length (d .associations) → endOf s a < roleCount d
   end-below r2 a l = omega arith
   end-below r1 a l = omega arith
 

@@ -2,5 +2,9 @@ pub mod PassedLaws
 pub mod TypeSpotLaws
 pub mod DueLaws
 pub mod ValueSpotLaws
+pub mod EndLaws
+pub mod LimitLaws
+pub mod RowSpotLaws
+pub mod SpotLaws
 pub mod StoredLaws
 pub mod DueInLaws

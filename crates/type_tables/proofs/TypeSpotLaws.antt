@@ -48,7 +48,7 @@ module _ {d : Diagram} {r : Record} {m : MemoryRecord} (kinds : List ℕ) (h : S
   -- rule 2, of singleton class t
   single : (t : ℕ) → t < length (d .types) → getD kinds t 0 ≡ 3 → tally (λ o. hasType d (siteIn d m) o t) (m .count) ≡ 1
   unfolding rule2 rule2At isSingleton siteIn
-  single t l e = eqb-true _ _ (imp-use _ _ (all-at _ (length (d .types)) (passed h legal .rule-2) t l) (eq-eqb _ _ (sym (is .exact t l) ∙ e)))
+  single t l e = eqb-true _ _ (imp-use _ _ (all-at _ (length (d .types)) (passed h legal .second) t l) (eq-eqb _ _ (sym (is .exact t l) ∙ e)))
 
   has : (o t : ℕ) → t < length (d .types) → t ≡ getD (m .types) o 0 → hasType d (siteIn d m) o t ≡ true
   has o t l e = has-type d (h .wf-diagram) m o t l ∙ eq-eqb _ _ e

@@ -68,7 +68,7 @@ module _ {d : Diagram} {r : Record} {m : MemoryRecord} (h : Stands d r m) (legal
 
   rule3-own : same (valuedIn d m o (attributeAt d s .name)) (declared d (siteIn d m) o (attributeAt d s .name)) ≡ true
   unfolding rule3 rule3At rule3For siteIn
-  rule3-own = all-at _ count (both-left _ _ (all-at (rule3At d (siteIn d m)) (m .count) (passed h legal .rule-3) o l)) s slot-below
+  rule3-own = all-at _ count (both-left _ _ (all-at (rule3At d (siteIn d m)) (m .count) (passed h legal .third) o l)) s slot-below
 
   asked : not (eqb (valueIn m o s) 0) ≡ any (declaresFor d type s) count
   unfolding declared
@@ -102,7 +102,7 @@ module _ {d : Diagram} {r : Record} {m : MemoryRecord} (h : Stands d r m) (legal
     rule4-own a la e =
         let b = slot-small in
         let below : at < m .count * 32 = omega arith in
-        imp-use _ _ (all-at _ count (imp-use _ _ (all-at _ (m .count * 32) (passed h legal .rule-4) at below) kept) a la)
+        imp-use _ _ (all-at _ count (imp-use _ _ (all-at _ (m .count * 32) (passed h legal .fourth) at below) kept) a la)
         (ap₂ (λ (i k : ℕ). declares d (siteIn d m) i a (attributeAt d k .name)) object-at slot-at ∙ declares-by a la ∙ e)
 
     belongs-by : (u : ℕ) → u < length (d .valueTypes) → belongs (keptValue d m at) (valueTypeAt d u) ≡ eqb u ((valueIn m o s - 1) / 8)
