@@ -1,4 +1,5 @@
 pub mod UnderLaws
+pub mod OwnSlotLaws
 pub mod StepLaws
 pub mod TypeLaws
 pub mod BelongLaws

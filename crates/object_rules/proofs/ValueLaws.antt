@@ -30,6 +30,7 @@ use Rattle.tables.specs.Tables.{AttributeSlots, Coded, Instances}
 use Rattle.tables.proofs.OwnLaws.{attribute-below, attribute-same}
 use Rattle.tables.proofs.TableLaws.{instances-at}
 use Rattle.object_rules.specs.ValuesIn.{agreesAt, declaresAt, dueAt, dueFor, ownSlot, valueFits}
+use Rattle.object_rules.proofs.OwnSlotLaws.{own-attribute}
 use Rattle.object_rules.proofs.BelongLaws.{belongs-known, belongs-none}
 use Rattle.object_rules.proofs.UnderLaws.{both-implied, both-under, imp-under}
 
@@ -120,10 +121,7 @@ module _ (d : StoredDiagram) (held : Held d) (m : MemoryRecord) (coded : Coded (
       ∙ ap (λ (u : ℕ). eqb u (k / 8)) (type-is a la)
 
   own-is : (s : ℕ) → ownAttribute (diagramOf d) s ≡ ownSlot slots (d .attributes .count) s
-  unfolding ownAttribute ownSlot
-  own-is s =
-      both-under (ltb s (length (diagramOf d .attributes))) _ _ (λ e. ap (λ (k : ℕ). eqb k s) (sym (at .exact s (ltb-true _ _ e))))
-      ∙ ap (λ (n : ℕ). both (ltb s n) (eqb (getD slots s 0) s)) (attribute-count d)
+  own-is = own-attribute d slots at
 
   kept-is : (x : ℕ) → valueKept (diagramOf d) m x ≡ both (ownSlot slots (d .attributes .count) (x % 32)) (not (eqb (getD (m .values) x 0) 0))
   unfolding valueKept
