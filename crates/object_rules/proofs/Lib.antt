@@ -1,3 +1,4 @@
+pub mod OwnSlotLaws
 pub mod StepLaws
 pub mod TypeLaws
 pub mod ValueLaws

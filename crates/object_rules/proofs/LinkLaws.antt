@@ -35,6 +35,7 @@ use Rattle.tables.proofs.TableLaws.{instances-at, role-named}
 use Rattle.object_rules.specs.LinksIn.{joins, linkFits, permitsAt}
 use Rattle.object_rules.specs.ValuesIn.{ownSlot}
 use Rattle.tables.proofs.UnderLaws.{both-under, imp-under}
+use Rattle.object_rules.proofs.OwnSlotLaws.{own-role}
 
 module _ (d : StoredDiagram) (held : Held d) (m : MemoryRecord) (few : m .count ≤ 8) (masks : List ℕ) (is : Instances (diagramOf d) m masks) (slots : List ℕ) (at : RoleSlots (diagramOf d) slots) where
   role-count : roleCount (diagramOf d) ≡ d .associations .count * 2
@@ -88,10 +89,7 @@ module _ (d : StoredDiagram) (held : Held d) (m : MemoryRecord) (few : m .count 
       (joins-is _ s o p (a * 2 + 1) (a * 2) ls own lo lp (omega arith) (right-known a la) (left-known a la))
 
   own-is : (s : ℕ) → ownRole (diagramOf d) s ≡ ownSlot slots (d .associations .count * 2) s
-  unfolding ownRole ownSlot
-  own-is s =
-      both-under (ltb s (roleCount (diagramOf d))) _ _ (λ e. ap (λ (k : ℕ). eqb k s) (sym (at .exact s (ltb-true _ _ e))))
-      ∙ ap (λ (n : ℕ). both (ltb s n) (eqb (getD slots s 0) s)) role-count
+  own-is = own-role d slots at
 
   link-at : (x : ℕ) → x < m .count * 256
       → imp (linkKept (diagramOf d) m x) (rule5At (diagramOf d) (siteIn (diagramOf d) m) (keptLink (diagramOf d) x))

@@ -32,6 +32,7 @@ use Rattle.tables.proofs.TableLaws.{attribute-owner, attribute-type, instances-
 use Rattle.object_rules.specs.ValuesIn.{agreesAt, declaresAt, dueAt, dueFor, ownSlot, valueFits}
 use Rattle.tables.proofs.BelongLaws.{belongs-known, belongs-none}
 use Rattle.tables.proofs.UnderLaws.{both-implied, both-under, imp-under}
+use Rattle.object_rules.proofs.OwnSlotLaws.{own-attribute}
 
 module _ (d : StoredDiagram) (held : Held d) (m : MemoryRecord) (coded : Coded (diagramOf d) m) (masks : List ℕ) (is : Instances (diagramOf d) m masks) (slots : List ℕ) (at : AttributeSlots (diagramOf d) slots) where
   below : {a : ℕ} → a < d .attributes .count → a < length (diagramOf d .attributes)
@@ -112,10 +113,7 @@ module _ (d : StoredDiagram) (held : Held d) (m : MemoryRecord) (coded : Coded (
       ∙ ap (λ (u : ℕ). eqb u (k / 8)) (attribute-type d a la)
 
   own-is : (s : ℕ) → ownAttribute (diagramOf d) s ≡ ownSlot slots (d .attributes .count) s
-  unfolding ownAttribute ownSlot
-  own-is s =
-      both-under (ltb s (length (diagramOf d .attributes))) _ _ (λ e. ap (λ (k : ℕ). eqb k s) (sym (at .exact s (ltb-true _ _ e))))
-      ∙ ap (λ (n : ℕ). both (ltb s n) (eqb (getD slots s 0) s)) (attribute-count d)
+  own-is = own-attribute d slots at
 
   kept-is : (x : ℕ) → valueKept (diagramOf d) m x ≡ both (ownSlot slots (d .attributes .count) (x % 32)) (not (eqb (getD (m .values) x 0) 0))
   unfolding valueKept
