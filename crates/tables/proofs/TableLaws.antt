@@ -47,7 +47,7 @@ set-unknown sets types n o {i} {j} e q l =
 -- ---- instances
 
 module _ (d : StoredDiagram) (held : Held d) where
-  set-reaches : (i k : ℕ) → i < d .types .count → bit k (getD (d .types .sets) i 0) ≡ reaches (diagramOf d) i k
+  pub set-reaches : (i k : ℕ) → i < d .types .count → bit k (getD (d .types .sets) i 0) ≡ reaches (diagramOf d) i k
   unfolding diagramOf
   set-reaches i k l = held .sets .exact i k l ∙ reaches-types (onlyTypes (d .types)) (diagramOf d) refl i k
 

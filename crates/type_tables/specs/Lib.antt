@@ -2,3 +2,4 @@ pub mod Due
 pub mod Rows
 pub mod Fits
 pub mod TypeTables
+pub mod RowsIn
