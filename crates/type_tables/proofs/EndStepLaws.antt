@@ -3,9 +3,8 @@
 use Prim.Native.Nat.{_%_, _/_, _<_, _≤_, max, min, ℕ}
 use mathlib.Core.Bool.{Bool, false, true}
 use mathlib.Core.List.{List}
-use mathlib.Core.Path.{_∙_, _≡_, ap, refl, sym}
+use mathlib.Core.Path.{_∙_, _≡_, ap, sym}
 use lib.Bits.{bitAnd}
-use lib.Dec.{eqb}
 use lib.ListN.{getD}
 use borrow.Author.Tests.{eq-eqb, le-ltb, lt-ltb, ne-eqb}
 use Rattle.laws.specs.Bits.{bit}
@@ -55,14 +54,14 @@ pub high-miss : (ups : List ℕ) (ends e m : ℕ) {q : Bool} → q ≡ bit e end
 unfolding highWith
 high-miss ups ends e m a b = picked-no _ m a b
 
-pub shared-hit : (unders types : List ℕ) (ends e m : ℕ) {q : Bool} {w x : ℕ} → q ≡ bit e ends → q ≡ true → w ≡ e → x ≡ setOf unders (getD types w 0)
-    → bitAnd m x ≡ sharedWith unders types ends e m
+pub shared-hit : (subtypes types : List ℕ) (ends e m : ℕ) {q : Bool} {w x : ℕ} → q ≡ bit e ends → q ≡ true → w ≡ e → x ≡ setOf subtypes (getD types w 0)
+    → bitAnd m x ≡ sharedWith subtypes types ends e m
 unfolding sharedWith
-shared-hit unders types ends e m a b f g = picked-yes m a b (ap (bitAnd m) (g ∙ ap (λ (k : ℕ). setOf unders (getD types k 0)) f))
+shared-hit subtypes types ends e m a b f g = picked-yes m a b (ap (bitAnd m) (g ∙ ap (λ (k : ℕ). setOf subtypes (getD types k 0)) f))
 
-pub shared-miss : (unders types : List ℕ) (ends e m : ℕ) {q : Bool} → q ≡ bit e ends → q ≡ false → m ≡ sharedWith unders types ends e m
+pub shared-miss : (subtypes types : List ℕ) (ends e m : ℕ) {q : Bool} → q ≡ bit e ends → q ≡ false → m ≡ sharedWith subtypes types ends e m
 unfolding sharedWith
-shared-miss unders types ends e m a b = picked-no _ m a b
+shared-miss subtypes types ends e m a b = picked-no _ m a b
 
--- for `search`, as `search ends depth 8 fits 20000`
+-- for `search`, as `search steps depth 8 fits 20000`
 pub ruleset steps = (set-inside, set-outside, carried-left, carried-right, low-hit, low-miss, high-hit, high-miss, shared-hit, shared-miss)

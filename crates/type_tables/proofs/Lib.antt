@@ -1,3 +1,5 @@
 pub mod GatherLaws
 pub mod EndStepLaws
+pub mod SharedLaws
+pub mod EndAtLaws
 pub mod RowTableLaws

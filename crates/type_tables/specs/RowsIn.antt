@@ -17,8 +17,8 @@ use Rattle.type_tables.specs.Rows.{leads}
 -- ---- types
 
 -- type u counts as type x, by the sets of what each type counts as
-unfoldable pub isUnder : List ℕ → ℕ → ℕ → Bool
-isUnder sets x u = bit x (getD sets u 0)
+unfoldable pub isSubtype : List ℕ → ℕ → ℕ → Bool
+isSubtype sets x u = bit x (getD sets u 0)
 
 -- the set at x of a table for 24 types, empty past it
 unfoldable pub setOf : List ℕ → ℕ → ℕ
@@ -30,13 +30,14 @@ setOf table x = cond (ltb x 24) (getD table x 0) 0
 unfoldable pub otherEnd : ℕ → ℕ
 otherEnd e = e / 2 * 2 + (1 - e % 2)
 
+-- the arrow carries links to end e
 unfoldable pub carriedIn : List ℕ → ℕ → Bool
 carriedIn arrows e = cond (eqb (e % 2) 0) (carriesLeft (getD arrows (e / 2) 0)) (carriesRight (getD arrows (e / 2) 0))
 
--- the links of an object of type t in slot s are those to end e; unders has the types that count as each type
+-- the links of an object of type t in slot s are those to end e; subtypes has the types that count as each type
 unfoldable pub leadsIn : List ℕ → List ℕ → List ℕ → List ℕ → ℕ → ℕ → ℕ → Bool
-leadsIn unders arrows types slots t s e =
-    both (carriedIn arrows e) (both (eqb (getD slots e 0) s) (bit t (setOf unders (getD types (otherEnd e) 0))))
+leadsIn subtypes arrows types slots t s e =
+    both (carriedIn arrows e) (both (eqb (getD slots e 0) s) (bit t (setOf subtypes (getD types (otherEnd e) 0))))
 
 -- by type t and slot s at t * 32 + s: all the ends that are so
 pub record Ends (d : Diagram) (ends : List ℕ) : Type 0 where
@@ -49,26 +50,30 @@ unfoldable pub gathered : (ℕ → ℕ → ℕ) → ℕ → ℕ → ℕ
 gathered step start zero = start
 gathered step start (suc n) = step n (gathered step start n)
 
--- with end e, if it is in the set: the larger of lower limits, the lesser of upper ones, the types that are in both sets
+-- with end e, if it is in the set: the larger of m and its lower limit, where more than 9 is as good as 9
 unfoldable pub lowWith : List ℕ → ℕ → ℕ → ℕ → ℕ
 lowWith lows ends e m = cond (bit e ends) (max m (min 9 (getD lows e 0))) m
 
+-- the lesser of m and its upper limit, where more than 8 is as good as 8, and so is no limit, 65,535
 unfoldable pub highWith : List ℕ → ℕ → ℕ → ℕ → ℕ
 highWith ups ends e m = cond (bit e ends) (min m (min 8 (getD ups e 0))) m
 
+-- the types of m that count as its type
 unfoldable pub sharedWith : List ℕ → List ℕ → ℕ → ℕ → ℕ → ℕ
-sharedWith unders types ends e m = cond (bit e ends) (bitAnd m (setOf unders (getD types e 0))) m
+sharedWith subtypes types ends e m = cond (bit e ends) (bitAnd m (setOf subtypes (getD types e 0))) m
 
+-- the largest lower limit of the ends below n that are in the set
 abbrev pub lowIn : List ℕ → ℕ → ℕ → ℕ
 lowIn lows ends n = gathered (lowWith lows ends) 0 n
 
+-- the least upper limit
 abbrev pub highIn : List ℕ → ℕ → ℕ → ℕ
 highIn ups ends n = gathered (highWith ups ends) 8 n
 
--- from all 24 types
+-- the types that count as the type of each: all 24 where there is no end
 abbrev pub sharedIn : List ℕ → List ℕ → ℕ → ℕ → ℕ
-sharedIn unders types ends n = gathered (sharedWith unders types ends) 16777215 n
+sharedIn subtypes types ends n = gathered (sharedWith subtypes types ends) 16777215 n
 
--- and none at all where there is no such end
+-- the types that a target may have: these, but none where there is no end
 unfoldable pub targetsIn : List ℕ → List ℕ → ℕ → ℕ → ℕ
-targetsIn unders types ends n = cond (any (λ e. bit e ends) n) (sharedIn unders types ends n) 0
+targetsIn subtypes types ends n = cond (any (λ e. bit e ends) n) (sharedIn subtypes types ends n) 0

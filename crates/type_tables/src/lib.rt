@@ -7,27 +7,27 @@ ghost use Rattle.laws.specs.Bounded.{any};
 ghost use Rattle.diagrams.specs.View.{diagramOf};
 ghost use Rattle.diagrams.specs.Held.{Held};
 ghost use Rattle.type_tables.specs.TypeTables.{Targets, Lows, Highs};
-ghost use Rattle.type_tables.specs.RowsIn.{Ends, carriedIn, highIn, highWith, isUnder, leadsIn, lowIn, lowWith, setOf, sharedIn, sharedWith, targetsIn};
+ghost use Rattle.type_tables.specs.RowsIn.{Ends, carriedIn, highIn, highWith, isSubtype, leadsIn, lowIn, lowWith, setOf, sharedIn, sharedWith, targetsIn};
 
 // ---- links
 
 // Type u counts as type x.
-fn is_under(sets: &[u32; 24], x: u8, u: u8) -> bool
+fn is_subtype(sets: &[u32; 24], x: u8, u: u8) -> bool
     requires { ⌜ (x < 32) × (u < 24) ⌝ }
-    ensures { λ r. ⌜ r ≡ isUnder (now (sets .entry)) x u ⌝ }
+    ensures { λ r. ⌜ r ≡ isSubtype (now (sets .entry)) x u ⌝ }
 {
     laws::has32(sets[laws::wide(u)], x as u32)
 }
 
 // The types that count as type x.
-fn under(sets: &[u32; 24], x: u8) -> u32
+fn subtypes_of(sets: &[u32; 24], x: u8) -> u32
     requires { ⌜ x < 32 ⌝ }
-    ensures { λ r. ⌜ Marks (isUnder (now (sets .entry)) x) 24 r ⌝ }
+    ensures { λ r. ⌜ Marks (isSubtype (now (sets .entry)) x) 24 r ⌝ }
 {
     let mut mask: u32 = 0;
     let mut u: u8 = 0;
     while u < 24 {
-        if is_under(sets, x, u) {
+        if is_subtype(sets, x, u) {
             mask = laws::with32(mask, u as u32);
         }
         u += 1;
@@ -36,13 +36,13 @@ fn under(sets: &[u32; 24], x: u8) -> u32
 }
 
 // The types that count as each type.
-fn unders(sets: &[u32; 24]) -> [u32; 24]
-    ensures { λ r. ⌜ ((x : ℕ) → x < 24 → Marks (isUnder (now (sets .entry)) x) 24 (getD r x 0)) ⌝ }
+fn subtype_table(sets: &[u32; 24]) -> [u32; 24]
+    ensures { λ r. ⌜ ((x : ℕ) → x < 24 → Marks (isSubtype (now (sets .entry)) x) 24 (getD r x 0)) ⌝ }
 {
     let mut masks = [0u32; 24];
     let mut x: u8 = 0;
     while x < 24 {
-        let mask = under(sets, x);
+        let mask = subtypes_of(sets, x);
         masks[laws::wide(x)] = mask;
         x += 1;
     }
@@ -74,7 +74,7 @@ fn is_carried(arrows: &[u8; 16], e: u8) -> bool
 
 // The links of an object of type t in slot s are those to end e.
 fn is_leading<'a>(
-    unders: &'a [u32; 24],
+    subtypes: &'a [u32; 24],
     arrows: &'a [u8; 16],
     types: &'a [u8; 32],
     slots: &'a [u8; 32],
@@ -83,17 +83,18 @@ fn is_leading<'a>(
     e: u8,
 ) -> bool
     requires { ⌜ (t < 32) × (e < 32) ⌝ }
-    ensures { λ r. ⌜ r ≡ leadsIn (now (unders .entry)) (now (arrows .entry)) (now (types .entry)) (now (slots .entry)) t s e ⌝ }
+    ensures { λ r. ⌜ r ≡ leadsIn (now (subtypes .entry)) (now (arrows .entry)) (now (types .entry)) (now (slots .entry)) t s e ⌝ }
 {
     let from = e / 2 * 2 + (1 - e % 2);
     let source = laws::byte(types, laws::wide(from));
     is_carried(arrows, e)
-        & ((laws::byte(slots, laws::wide(e)) == s) & laws::has32(set_of(unders, source), t as u32))
+        & ((laws::byte(slots, laws::wide(e)) == s)
+            & laws::has32(set_of(subtypes, source), t as u32))
 }
 
-// All of n ends that are so.
+// All of n ends that the links of an object of type t in slot s go to.
 fn leading<'a>(
-    unders: &'a [u32; 24],
+    subtypes: &'a [u32; 24],
     arrows: &'a [u8; 16],
     types: &'a [u8; 32],
     slots: &'a [u8; 32],
@@ -102,12 +103,12 @@ fn leading<'a>(
     s: u8,
 ) -> u32
     requires { ⌜ (n ≤ 32) × (t < 32) ⌝ }
-    ensures { λ r. ⌜ Marks (leadsIn (now (unders .entry)) (now (arrows .entry)) (now (types .entry)) (now (slots .entry)) t s) n r ⌝ }
+    ensures { λ r. ⌜ Marks (leadsIn (now (subtypes .entry)) (now (arrows .entry)) (now (types .entry)) (now (slots .entry)) t s) n r ⌝ }
 {
     let mut mask: u32 = 0;
     let mut e: u8 = 0;
     while e < n {
-        if is_leading(unders, arrows, types, slots, t, s, e) {
+        if is_leading(subtypes, arrows, types, slots, t, s, e) {
             mask = laws::with32(mask, e as u32);
         }
         e += 1;
@@ -115,22 +116,22 @@ fn leading<'a>(
     mask
 }
 
-// For each type and slot.
+// The same for each type and slot.
 fn all_leading<'a>(
-    unders: &'a [u32; 24],
+    subtypes: &'a [u32; 24],
     arrows: &'a [u8; 16],
     types: &'a [u8; 32],
     slots: &'a [u8; 32],
     n: u8,
 ) -> [u32; 768]
     requires { ⌜ n ≤ 32 ⌝ }
-    ensures { λ r. ⌜ ((x : ℕ) → x < 768 → Marks (leadsIn (now (unders .entry)) (now (arrows .entry)) (now (types .entry)) (now (slots .entry)) (x / 32) (x % 32)) n (getD r x 0)) ⌝ }
+    ensures { λ r. ⌜ ((x : ℕ) → x < 768 → Marks (leadsIn (now (subtypes .entry)) (now (arrows .entry)) (now (types .entry)) (now (slots .entry)) (x / 32) (x % 32)) n (getD r x 0)) ⌝ }
 {
     let mut ends = [0u32; 768];
     let mut x: usize = 0;
     while x < 768 {
         let mask = leading(
-            unders,
+            subtypes,
             arrows,
             types,
             slots,
@@ -152,18 +153,20 @@ fn row_ends(d: diagrams::StoredDiagram) -> [u32; 768]
     let slots = tables::role_slots(d);
     let t = d.types;
     let a = d.associations;
-    let masks = unders(&t.sets);
-    all_leading(&masks, &a.arrows, &a.types, &slots, (a.count * 2) as u8)
+    let subtypes = subtype_table(&t.sets);
+    all_leading(&subtypes, &a.arrows, &a.types, &slots, (a.count * 2) as u8)
 }
 
 // ---- links: limits
 
+// The larger of two numbers.
 fn larger(a: u8, b: u8) -> u8
     ensures { λ r. ⌜ r ≡ max a b ⌝ }
 {
     if a < b { b } else { a }
 }
 
+// The lesser of two numbers.
 fn lesser(a: u8, b: u8) -> u8
     ensures { λ r. ⌜ r ≡ min a b ⌝ }
 {
@@ -206,6 +209,7 @@ fn low_of(lows: &[u16; 32], ends: u32, n: u8) -> u8
     m
 }
 
+// The largest lower limit for each set of ends.
 fn lows_of<'a>(lows: &'a [u16; 32], ends: &'a [u32; 768], n: u8) -> [u8; 768]
     requires { ⌜ n ≤ 32 ⌝ }
     ensures { λ r. ⌜ ((x : ℕ) → x < 768 → getD r x 0 ≡ lowIn (now (lows .entry)) (getD (now (ends .entry)) x 0) n) ⌝ }
@@ -255,6 +259,7 @@ fn high_of(ups: &[u16; 32], ends: u32, n: u8) -> u8
     m
 }
 
+// The least upper limit for each set of ends.
 fn highs_of<'a>(ups: &'a [u16; 32], ends: &'a [u32; 768], n: u8) -> [u8; 768]
     requires { ⌜ n ≤ 32 ⌝ }
     ensures { λ r. ⌜ ((x : ℕ) → x < 768 → getD r x 0 ≡ highIn (now (ups .entry)) (getD (now (ends .entry)) x 0) n) ⌝ }
@@ -282,25 +287,25 @@ pub fn row_highs(d: diagrams::StoredDiagram) -> [u8; 768]
 // ---- links: targets
 
 // The types of m that count as the type of end e, if it is one of the ends.
-fn shared_with<'a>(unders: &'a [u32; 24], types: &'a [u8; 32], ends: u32, e: u8, m: u32) -> u32
+fn shared_with<'a>(subtypes: &'a [u32; 24], types: &'a [u8; 32], ends: u32, e: u8, m: u32) -> u32
     requires { ⌜ e < 32 ⌝ }
-    ensures { λ r. ⌜ r ≡ sharedWith (now (unders .entry)) (now (types .entry)) ends e m ⌝ }
+    ensures { λ r. ⌜ r ≡ sharedWith (now (subtypes .entry)) (now (types .entry)) ends e m ⌝ }
 {
     if laws::has32(ends, e as u32) {
-        return m & set_of(unders, types[laws::wide(e)]);
+        return m & set_of(subtypes, types[laws::wide(e)]);
     }
     m
 }
 
-// The types that count as the type of each.
-fn shared<'a>(unders: &'a [u32; 24], types: &'a [u8; 32], ends: u32, n: u8) -> u32
+// The types that count as the type of each of the ends: all 24 where there is none.
+fn shared<'a>(subtypes: &'a [u32; 24], types: &'a [u8; 32], ends: u32, n: u8) -> u32
     requires { ⌜ n ≤ 32 ⌝ }
-    ensures { λ r. ⌜ r ≡ sharedIn (now (unders .entry)) (now (types .entry)) ends n ⌝ }
+    ensures { λ r. ⌜ r ≡ sharedIn (now (subtypes .entry)) (now (types .entry)) ends n ⌝ }
 {
     let mut m: u32 = 16777215;
     let mut e: u8 = 0;
     while e < n {
-        m = shared_with(unders, types, ends, e, m);
+        m = shared_with(subtypes, types, ends, e, m);
         e += 1;
     }
     m
@@ -321,30 +326,31 @@ fn is_any(mask: u32, n: u8) -> bool
     false
 }
 
-// The same, or none where there is no such end.
-fn targets_at<'a>(unders: &'a [u32; 24], types: &'a [u8; 32], ends: u32, n: u8) -> u32
+// The types that a target may have: these, but none where there is no end.
+fn targets_at<'a>(subtypes: &'a [u32; 24], types: &'a [u8; 32], ends: u32, n: u8) -> u32
     requires { ⌜ n ≤ 32 ⌝ }
-    ensures { λ r. ⌜ r ≡ targetsIn (now (unders .entry)) (now (types .entry)) ends n ⌝ }
+    ensures { λ r. ⌜ r ≡ targetsIn (now (subtypes .entry)) (now (types .entry)) ends n ⌝ }
 {
     if is_any(ends, n) {
-        return shared(unders, types, ends, n);
+        return shared(subtypes, types, ends, n);
     }
     0u32
 }
 
+// The same for each set of ends.
 fn targets_of<'a>(
-    unders: &'a [u32; 24],
+    subtypes: &'a [u32; 24],
     types: &'a [u8; 32],
     ends: &'a [u32; 768],
     n: u8,
 ) -> [u32; 768]
     requires { ⌜ n ≤ 32 ⌝ }
-    ensures { λ r. ⌜ ((x : ℕ) → x < 768 → getD r x 0 ≡ targetsIn (now (unders .entry)) (now (types .entry)) (getD (now (ends .entry)) x 0) n) ⌝ }
+    ensures { λ r. ⌜ ((x : ℕ) → x < 768 → getD r x 0 ≡ targetsIn (now (subtypes .entry)) (now (types .entry)) (getD (now (ends .entry)) x 0) n) ⌝ }
 {
     let mut r = [0u32; 768];
     let mut x: usize = 0;
     while x < 768 {
-        let m = targets_at(unders, types, ends[x], n);
+        let m = targets_at(subtypes, types, ends[x], n);
         r[x] = m;
         x += 1;
     }
@@ -359,6 +365,6 @@ pub fn row_targets(d: diagrams::StoredDiagram) -> [u32; 768]
     let ends = row_ends(d);
     let t = d.types;
     let a = d.associations;
-    let masks = unders(&t.sets);
-    targets_of(&masks, &a.types, &ends, (a.count * 2) as u8)
+    let subtypes = subtype_table(&t.sets);
+    targets_of(&subtypes, &a.types, &ends, (a.count * 2) as u8)
 }

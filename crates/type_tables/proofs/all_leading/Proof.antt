@@ -14,11 +14,11 @@ use Rattle.type_tables.proofs.all_leading.Lts as lts
 use Rattle.type_tables.proofs.leading.Reads as leading-reads
 
 abbrev Inv-loop : tie.InvT-loop
-Inv-loop unders arrows types slots n ends₀ x₀ ends x =
-    (x ≤ 768) × (length ends ≡ 768) × ((j : ℕ) → j < x → Marks (leadsIn unders arrows types slots (j / 32) (j % 32)) n (getD ends j 0))
+Inv-loop subtypes arrows types slots n ends₀ x₀ ends x =
+    (x ≤ 768) × (length ends ≡ 768) × ((j : ℕ) → j < x → Marks (leadsIn subtypes arrows types slots (j / 32) (j % 32)) n (getD ends j 0))
 
 abbrev μ-loop : tie.MeasureT-loop
-μ-loop unders arrows types slots n ends₀ x₀ ends x = 768 - x
+μ-loop subtypes arrows types slots n ends₀ x₀ ends x = 768 - x
 
 loop-holds : tie.Need-loop-holds Inv-loop μ-loop
 loop-holds c = (search needs, search needs, below-none _)
@@ -49,7 +49,7 @@ loop-again c = let l = c .before .before .loop in
     let a = c .before .before .before .args in (
       search needs,
       search needs,
-      set-more (λ (j v : ℕ). Marks (leadsIn (a .unders .now) (a .arrows .now) (a .types .now) (a .slots .now) (j / 32) (j % 32)) (a .n) v) (l .ends) (l .x) (c .leading .result) (omega arith) (l .inv .2) (c .leading .ensures),
+      set-more (λ (j v : ℕ). Marks (leadsIn (a .subtypes .now) (a .arrows .now) (a .types .now) (a .slots .now) (j / 32) (j % 32)) (a .n) v) (l .ends) (l .x) (c .leading .result) (omega arith) (l .inv .2) (c .leading .ensures),
     )
 
 returns : tie.Need-returns Inv-loop μ-loop

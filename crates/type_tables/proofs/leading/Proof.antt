@@ -14,10 +14,10 @@ use Rattle.laws.proofs.with32.Reads as with32-reads
 use Rattle.type_tables.proofs.is_leading.Reads as is-leading-reads
 
 abbrev Inv-loop : tie.InvT-loop
-Inv-loop unders arrows types slots n t s mask₀ e₀ mask e = (e ≤ n) × Marks (leadsIn unders arrows types slots t s) e mask
+Inv-loop subtypes arrows types slots n t s mask₀ e₀ mask e = (e ≤ n) × Marks (leadsIn subtypes arrows types slots t s) e mask
 
 abbrev μ-loop : tie.MeasureT-loop
-μ-loop unders arrows types slots n t s mask₀ e₀ mask e = n - e
+μ-loop subtypes arrows types slots n t s mask₀ e₀ mask e = n - e
 
 loop-holds : tie.Need-loop-holds Inv-loop μ-loop
 loop-holds c = (search needs, mask-begin _)
@@ -40,7 +40,7 @@ loop-less c = search needs
 loop-again : tie.Need-loop-again Inv-loop μ-loop
 loop-again c = let l = c .before .before .before in
     let a = l .before .args in
-    let p = leadsIn (a .unders .now) (a .arrows .now) (a .types .now) (a .slots .now) (a .t) (a .s) in
+    let p = leadsIn (a .subtypes .now) (a .arrows .now) (a .types .now) (a .slots .now) (a .t) (a .s) in
     let e = c .before .is-leading .ensures in (
       omega arith,
       ⊎-elim (λ w j. ap (bit j) (w .2) ∙ mask-with p (l .loop .e) (l .loop .mask) (w .1 .result) (l .loop .inv .1) e (w .0 .taken) (w .1 .ensures) j)
@@ -50,7 +50,7 @@ loop-again c = let l = c .before .before .before in
 returns : tie.Need-returns Inv-loop μ-loop
 returns c = let l = c .before in
     let a = l .before .args in
-    mask-done (leadsIn (a .unders .now) (a .arrows .now) (a .types .now) (a .slots .now) (a .t) (a .s)) (a .n) (l .loop .e) (l .loop .mask) (l .loop .inv .0) (search needs) (l .loop .inv .1)
+    mask-done (leadsIn (a .subtypes .now) (a .arrows .now) (a .types .now) (a .slots .now) (a .t) (a .s)) (a .n) (l .loop .e) (l .loop .mask) (l .loop .inv .0) (search needs) (l .loop .inv .1)
 
 pub leading-spec : {M : Type 1} → statement M
 leading-spec =

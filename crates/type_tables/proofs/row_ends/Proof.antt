@@ -9,13 +9,13 @@ use Rattle.type_tables.proofs.row_ends.Reads as reads
 use Rattle.type_tables.proofs.row_ends.Lts as lts
 use Rattle.tables.proofs.role_slots.Reads as role-slots-reads
 use Rattle.type_tables.proofs.all_leading.Reads as all-leading-reads
-use Rattle.type_tables.proofs.unders.Reads as unders-reads
+use Rattle.type_tables.proofs.subtype_table.Reads as subtype-table-reads
 
 role-slots-requires : tie.Need-role-slots-requires
 role-slots-requires c κs = search needs
 
-unders-requires : tie.Need-unders-requires
-unders-requires c κs = search needs
+subtype-table-requires : tie.Need-subtype-table-requires
+subtype-table-requires c κs = search needs
 
 mul-all-leading : tie.Need-mul-all-leading
 mul-all-leading c = omega (arith, c .before .before .before .before .before .before .before .before .before .before .before .pre .counts .associations)
@@ -28,7 +28,7 @@ all-leading-requires c κs = omega (arith, c .before .before .before .before .be
 
 returns : tie.Need-returns
 returns c = let s = c .before .before .before .before .before .before .before .before .before .before .before .before in
-    let u = c .before .before .before .before .before .before .unders in
+    let u = c .before .before .before .before .before .before .subtype-table in
     let r = c .before .before .before .before .before .before .before .before .before .before .before .role-slots in
     row-ends-of (s .args .d) (s .pre) (u .result) (u .ensures) (r .result) (r .ensures) (c .all-leading .result) (s .args .d .associations .count * 2) refl (c .all-leading .ensures)
 
@@ -37,7 +37,7 @@ row-ends-spec =
     tie.close
     (tie.spec
     role-slots-requires
-    unders-requires
+    subtype-table-requires
     mul-all-leading
     cast-all-leading
     all-leading-requires

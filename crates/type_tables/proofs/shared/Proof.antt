@@ -10,10 +10,10 @@ use Rattle.type_tables.proofs.shared.Lts as lts
 use Rattle.type_tables.proofs.shared_with.Reads as shared-with-reads
 
 abbrev Inv-loop : tie.InvT-loop
-Inv-loop unders types ends n m₀ e₀ m e = (e ≤ n) × (m ≡ sharedIn unders types ends e)
+Inv-loop subtypes types ends n m₀ e₀ m e = (e ≤ n) × (m ≡ sharedIn subtypes types ends e)
 
 abbrev μ-loop : tie.MeasureT-loop
-μ-loop unders types ends n m₀ e₀ m e = n - e
+μ-loop subtypes types ends n m₀ e₀ m e = n - e
 
 loop-holds : tie.Need-loop-holds Inv-loop μ-loop
 loop-holds c = (search needs, gathered-begin _ _)
@@ -29,11 +29,11 @@ loop-less c = search needs
 
 loop-again : tie.Need-loop-again Inv-loop μ-loop
 loop-again c = let l = c .before .before in
-    let a = l .before .args in (search needs, gathered-next (sharedWith (a .unders .now) (a .types .now) (a .ends)) 16777215 (l .loop .e) (l .loop .inv .1) (c .shared-with .ensures))
+    let a = l .before .args in (search needs, gathered-next (sharedWith (a .subtypes .now) (a .types .now) (a .ends)) 16777215 (l .loop .e) (l .loop .inv .1) (c .shared-with .ensures))
 
 returns : tie.Need-returns Inv-loop μ-loop
 returns c = let l = c .before in
-    let a = l .before .args in gathered-done (sharedWith (a .unders .now) (a .types .now) (a .ends)) 16777215 (a .n) (l .loop .e) (l .loop .inv .0) (search needs) (l .loop .inv .1)
+    let a = l .before .args in gathered-done (sharedWith (a .subtypes .now) (a .types .now) (a .ends)) 16777215 (a .n) (l .loop .e) (l .loop .inv .0) (search needs) (l .loop .inv .1)
 
 pub shared-spec : {M : Type 1} → statement M
 shared-spec =

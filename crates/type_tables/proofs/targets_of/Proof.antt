@@ -13,10 +13,10 @@ use Rattle.type_tables.proofs.targets_of.Lts as lts
 use Rattle.type_tables.proofs.targets_at.Reads as targets-at-reads
 
 abbrev Inv-loop : tie.InvT-loop
-Inv-loop unders types ends n r₀ x₀ r x = (x ≤ 768) × (length r ≡ 768) × ((j : ℕ) → j < x → getD r j 0 ≡ targetsIn unders types (getD ends j 0) n)
+Inv-loop subtypes types ends n r₀ x₀ r x = (x ≤ 768) × (length r ≡ 768) × ((j : ℕ) → j < x → getD r j 0 ≡ targetsIn subtypes types (getD ends j 0) n)
 
 abbrev μ-loop : tie.MeasureT-loop
-μ-loop unders types ends n r₀ x₀ r x = 768 - x
+μ-loop subtypes types ends n r₀ x₀ r x = 768 - x
 
 loop-holds : tie.Need-loop-holds Inv-loop μ-loop
 loop-holds c = (search needs, search needs, below-none _)
@@ -47,7 +47,7 @@ loop-again c = let l = c .before .before .before .loop in
     let a = c .before .before .before .before .args in (
       search needs,
       search needs,
-      set-more (λ (j v : ℕ). v ≡ targetsIn (a .unders .now) (a .types .now) (getD (a .ends .now) j 0) (a .n)) (l .r) (l .x) (c .targets-at .result) (omega arith) (l .inv .2) (c .targets-at .ensures),
+      set-more (λ (j v : ℕ). v ≡ targetsIn (a .subtypes .now) (a .types .now) (getD (a .ends .now) j 0) (a .n)) (l .r) (l .x) (c .targets-at .result) (omega arith) (l .inv .2) (c .targets-at .ensures),
     )
 
 returns : tie.Need-returns Inv-loop μ-loop

@@ -5,17 +5,17 @@ use borrow.Author.Count.{below-none}
 use lib.ListN.{getD, length}
 use Rattle.laws.proofs.ListLaws.{set-more}
 use Rattle.laws.specs.Bits.{Marks}
-use Rattle.type_tables.specs.RowsIn.{isUnder}
+use Rattle.type_tables.specs.RowsIn.{isSubtype}
 use borrow.Author.Needs.{needs}
-use Rattle.type_tables.proofs.unders.Statement.{statement}
-use Rattle.type_tables.proofs.unders.Tie as tie
-use Rattle.type_tables.proofs.unders.Reads as reads
-use Rattle.type_tables.proofs.unders.Lts as lts
+use Rattle.type_tables.proofs.subtype_table.Statement.{statement}
+use Rattle.type_tables.proofs.subtype_table.Tie as tie
+use Rattle.type_tables.proofs.subtype_table.Reads as reads
+use Rattle.type_tables.proofs.subtype_table.Lts as lts
 use Rattle.laws.proofs.wide.Reads as wide-reads
-use Rattle.type_tables.proofs.under.Reads as under-reads
+use Rattle.type_tables.proofs.subtypes_of.Reads as subtypes-of-reads
 
 abbrev Inv-loop : tie.InvT-loop
-Inv-loop sets masks₀ x₀ masks x = (x ≤ 24) × (length masks ≡ 24) × ((j : ℕ) → j < x → Marks (isUnder sets j) 24 (getD masks j 0))
+Inv-loop sets masks₀ x₀ masks x = (x ≤ 24) × (length masks ≡ 24) × ((j : ℕ) → j < x → Marks (isSubtype sets j) 24 (getD masks j 0))
 
 abbrev μ-loop : tie.MeasureT-loop
 μ-loop sets masks₀ x₀ masks x = 24 - x
@@ -23,8 +23,8 @@ abbrev μ-loop : tie.MeasureT-loop
 loop-holds : tie.Need-loop-holds Inv-loop μ-loop
 loop-holds c = (search needs, search needs, below-none _)
 
-under-requires : tie.Need-under-requires Inv-loop μ-loop
-under-requires c κs = search needs
+subtypes-of-requires : tie.Need-subtypes-of-requires Inv-loop μ-loop
+subtypes-of-requires c κs = search needs
 
 wide-requires : tie.Need-wide-requires Inv-loop μ-loop
 wide-requires c κs = search needs
@@ -47,20 +47,20 @@ loop-again c = let l = c .before .before .before .loop in
       search needs,
       search needs,
       rw (c .wide .ensures .0)
-          (set-more (λ (j v : ℕ). Marks (isUnder (a .sets .now) j) 24 v) (l .masks) (l .x) (c .before .under .result) (omega arith) (l .inv .2) (c .before .under .ensures)),
+          (set-more (λ (j v : ℕ). Marks (isSubtype (a .sets .now) j) 24 v) (l .masks) (l .x) (c .before .subtypes-of .result) (omega arith) (l .inv .2) (c .before .subtypes-of .ensures)),
     )
 
 returns : tie.Need-returns Inv-loop μ-loop
 returns c = λ x h. c .before .loop .inv .2 x (omega arith)
 
-pub unders-spec : {M : Type 1} → statement M
-unders-spec =
+pub subtype-table-spec : {M : Type 1} → statement M
+subtype-table-spec =
     tie.close
     (tie.spec
     Inv-loop
     μ-loop
     loop-holds
-    under-requires
+    subtypes-of-requires
     wide-requires
     mul-masks
     array-write-masks
