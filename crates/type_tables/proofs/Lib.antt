@@ -8,3 +8,8 @@ pub mod RowSpotLaws
 pub mod SpotLaws
 pub mod StoredLaws
 pub mod DueInLaws
+pub mod GatherLaws
+pub mod EndStepLaws
+pub mod SharedLaws
+pub mod EndAtLaws
+pub mod RowTableLaws

@@ -3,3 +3,4 @@ pub mod Rows
 pub mod Fits
 pub mod TypeTables
 pub mod ValuesIn
+pub mod RowsIn
