@@ -1,0 +1,4 @@
+pub mod Assumed
+pub mod RowLaws
+pub mod PutLaws
+pub mod SkipLaws

@@ -2,14 +2,14 @@
 // memory after the other is filled in every way that the old diagram's tables leave.
 ghost use mathlib.Core.Path.{_≡_};
 ghost use Prim.Native.Nat.{ℕ, _<_, _≤_};
-ghost use lib.ListN.{length};
 ghost use Rattle.diagrams.specs.View.{diagramOf};
 ghost use Rattle.diagrams.specs.Held.{Held};
-ghost use Rattle.fillings.specs.Spots.{Put, Closed, Blank, Choices, blank};
+ghost use Rattle.fillings.specs.Spots.{Put, Blank, Choices, blank};
 ghost use Rattle.fillings.specs.Wanted.{Witness};
 ghost use Rattle.type_tables.specs.TypeTables.{TypeTables};
 ghost use Rattle.type_tables.specs.Fits.{typeFits, valueFits, rowFits, spotFits};
 ghost use Rattle.searching.specs.Answer.{Tells, Answer, Level};
+ghost use Rattle.searching.specs.Ready.{Skips, Ready};
 use diagrams::StoredDiagram;
 use records::MemoryRecord;
 
@@ -60,7 +60,7 @@ fn put(m: MemoryRecord, spot: usize, v: u8) -> MemoryRecord
 // The first spot from `at` on that is not closed, or 520.
 fn skip(limits: &[u16; 520], at: usize) -> usize
     requires { ⌜ at ≤ 520 ⌝ }
-    ensures { λ j. ⌜ Closed (now (limits .entry)) at j ⌝ }
+    ensures { λ j. ⌜ Skips (now (limits .entry)) at j ⌝ }
 {
     let mut j = at;
     while j < 520 {
@@ -132,7 +132,7 @@ fn fill<'a>(
     m: MemoryRecord,
     from: usize,
 ) -> Found
-    requires { ⌜ Held old × Held new × (k ≡ length (diagramOf old .types)) × TypeTables (diagramOf old) (now kinds) (now sizes) (now dues) (now targets) (now lows) (now highs) × Choices (diagramOf old) (m .count) (now limits) × (m .count ≤ 8) × (from ≤ 520) × Blank m from ⌝ }
+    requires { ⌜ Ready old new (now kinds) k (now sizes) (now dues) (now targets) (now lows) (now highs) (now limits) (m .count) × (from ≤ 520) × Blank m from ⌝ }
     ensures { λ f. ⌜ Answer (diagramOf old) (diagramOf new) (now (limits .entry)) m from f ⌝ }
 {
     let at = skip(limits, from);
@@ -146,11 +146,13 @@ fn fill<'a>(
     let types = m.types;
     let mut v: u16 = 0;
     while v < most {
-        if spot_fits(kinds, k, sizes, dues, targets, lows, highs, &types, m.count, at, v as u8) {
-            let f = fill(old, new, kinds, k, sizes, dues, targets, lows, highs, limits, put(m, at, v as u8), at + 1);
-            if f.ok {
-                return f;
-            }
+        if !spot_fits(kinds, k, sizes, dues, targets, lows, highs, &types, m.count, at, v as u8) {
+            v += 1;
+            continue;
+        }
+        let f = fill(old, new, kinds, k, sizes, dues, targets, lows, highs, limits, put(m, at, v as u8), at + 1);
+        if f.ok {
+            return f;
         }
         v += 1;
     }
