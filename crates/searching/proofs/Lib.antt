@@ -2,3 +2,6 @@ pub mod Assumed
 pub mod RowLaws
 pub mod PutLaws
 pub mod SkipLaws
+pub mod FillLaws
+pub mod ReadyLaws
+pub mod LevelLaws

@@ -119,6 +119,8 @@ fn is_witness(old: StoredDiagram, new: StoredDiagram, m: MemoryRecord) -> bool
 
 // Fills m from the spot `from` on so that it is a witness, or says that there is no way.
 fn fill<'a>(
+    m: MemoryRecord,
+    from: usize,
     old: StoredDiagram,
     new: StoredDiagram,
     kinds: &'a [u8; 24],
@@ -129,8 +131,6 @@ fn fill<'a>(
     lows: &'a [u8; 768],
     highs: &'a [u8; 768],
     limits: &'a [u16; 520],
-    m: MemoryRecord,
-    from: usize,
 ) -> Found
     requires { ⌜ Ready old new (now kinds) k (now sizes) (now dues) (now targets) (now lows) (now highs) (now limits) (m .count) × (from ≤ 520) × Blank m from ⌝ }
     ensures { λ f. ⌜ Answer (diagramOf old) (diagramOf new) (now (limits .entry)) m from f ⌝ }
@@ -146,17 +146,45 @@ fn fill<'a>(
     let types = m.types;
     let mut v: u16 = 0;
     while v < most {
-        if !spot_fits(kinds, k, sizes, dues, targets, lows, highs, &types, m.count, at, v as u8) {
+        if !spot_fits(
+            kinds,
+            k,
+            sizes,
+            dues,
+            targets,
+            lows,
+            highs,
+            &types,
+            m.count,
+            at,
+            v as u8,
+        ) {
             v += 1;
             continue;
         }
-        let f = fill(old, new, kinds, k, sizes, dues, targets, lows, highs, limits, put(m, at, v as u8), at + 1);
+        let f = fill(
+            put(m, at, v as u8),
+            at + 1,
+            old,
+            new,
+            kinds,
+            k,
+            sizes,
+            dues,
+            targets,
+            lows,
+            highs,
+            limits,
+        );
         if f.ok {
             return f;
         }
         v += 1;
     }
-    Found { ok: false, witness: m }
+    Found {
+        ok: false,
+        witness: m,
+    }
 }
 
 // A record of n objects, by the tables of the old diagram.
@@ -176,5 +204,18 @@ pub fn search<'a>(
 {
     let limits = limits_of(old, n);
     let m = blank_record(n);
-    fill(old, new, kinds, old.types.count, sizes, dues, targets, lows, highs, &limits, m, 0)
+    fill(
+        m,
+        0,
+        old,
+        new,
+        kinds,
+        old.types.count,
+        sizes,
+        dues,
+        targets,
+        lows,
+        highs,
+        &limits,
+    )
 }
