@@ -23,14 +23,13 @@ use Rattle.searching.proofs.Assumed.{fits-agree, spot-fits, wanted-witn
 use Rattle.searching.proofs.PutLaws.{alike-sized, alike-sym, alike-trans, row-size, same, type-spot}
 use Rattle.searching.proofs.RowLaws.{into, leaf}
 
-module _ (old new : Diagram) (limits : List ℕ) (m : MemoryRecord) (at : ℕ) where
-  -- no completion whose value at the spot is below v is wanted
-  abbrev pub NoneBelow : ℕ → Type 0
-  NoneBelow v = (y : MemoryRecord) → Completes limits m at y → getD (spots y) at 0 < v → Wanted old new y → ⊥
+-- no completion whose value at the spot is below v is wanted
+abbrev pub NoneBelow : Diagram → Diagram → List ℕ → MemoryRecord → ℕ → ℕ → Type 0
+NoneBelow old new limits m at v = (y : MemoryRecord) → Completes limits m at y → getD (spots y) at 0 < v → Wanted old new y → ⊥
 
-  -- no spot is left: the record itself is judged
-  pub answer-leaf : Sized m → (b : Bool) → at ≡ 520 → Tells (Witness old new m) b → Answer old new limits m at (record { ok = b; witness = m })
-  answer-leaf z b e t = record {
+module _ {old new : Diagram} {limits : List ℕ} {m : MemoryRecord} {at : ℕ} where  -- no spot is left: the record itself is judged
+  pub answer-leaf : {b : Bool} → Sized m → at ≡ 520 → Tells (Witness old new m) b → Answer old new limits m at (record { ok = b; witness = m })
+  answer-leaf z e t = record {
     count = λ h. refl;
     sound = t .holds;
     complete = λ h y c w. t .fails h
@@ -39,20 +38,20 @@ module _ (old new : Diagram) (limits : List ℕ) (m : MemoryRecord) (at : ℕ) w
   }
 
   -- every value is shut out
-  pub answer-none : (v : ℕ) → at < 520 → getD limits at 0 ≤ v → NoneBelow v → Answer old new limits m at (record { ok = false; witness = m })
+  pub answer-none : (v : ℕ) → at < 520 → getD limits at 0 ≤ v → NoneBelow old new limits m at v → Answer old new limits m at (record { ok = false; witness = m })
   answer-none v spot all none = record {
     count = λ h. absurd (false≢true h);
     sound = λ h. absurd (false≢true h);
     complete = λ h y c. none y c (omega (arith, c .filled .within at (omega arith) spot));
   }
 
-  module _ (v : ℕ) (s : MemoryRecord) (p : Put m at v s) (f : Found) (a : Answer old new limits s (at + 1) f) where
+  module _ {v : ℕ} {s : MemoryRecord} {f : Found} (p : Put m at v s) (a : Answer old new limits s (at + 1) f) where
     -- the call found one
     pub answer-hit : f .ok ≡ true → Answer old new limits m at f
     answer-hit h = record { count = λ e. a .count e ∙ p .alike .count; sound = a .sound; complete = λ e. absurd (true≢false (sym h ∙ e)) }
 
     -- the call found none
-    pub none-more : Sized m → at < 520 → f .ok ≡ false → NoneBelow v → NoneBelow (v + 1)
+    pub none-more : Sized m → at < 520 → f .ok ≡ false → NoneBelow old new limits m at v → NoneBelow old new limits m at (v + 1)
     none-more z spot h below y c l = ⊎-elim
         (λ e. a .complete h y (record {
           alike = alike-trans s m y (alike-sym m s (p .alike)) (c .alike);
@@ -61,12 +60,12 @@ module _ (old new : Diagram) (limits : List ℕ) (m : MemoryRecord) (at : ℕ) w
         }))
         (below y c) (last {k = getD (spots y) at 0} {n = v} (omega arith))
 
-module _ {old new : StoredDiagram} {kinds sizes dues targets lows highs limits : List ℕ} {k : ℕ} (m : MemoryRecord) (at : ℕ)
+module _ {old new : StoredDiagram} {kinds sizes dues targets lows highs limits : List ℕ} {k : ℕ} {m : MemoryRecord} {at : ℕ}
     (ready : Ready old new kinds k sizes dues targets lows highs limits (m .count)) (z : Sized m) (spot : at < 520) where
   -- the tables have no wanted record with v at the spot
-  unfit : (v : ℕ) → getD limits at 0 ≢ 1 → spotFits kinds k sizes dues targets lows highs (m .types) (m .count) at v ≡ false
+  unfit : {v : ℕ} → getD limits at 0 ≢ 1 → spotFits kinds k sizes dues targets lows highs (m .types) (m .count) at v ≡ false
       → (y : MemoryRecord) → Completes limits m at y → getD (spots y) at 0 ≡ v → Wanted (diagramOf old) (diagramOf new) y → ⊥
-  unfit v choice e y c q w =
+  unfit {v = v} choice e y c q w =
       let zy = alike-sized m y z (c .alike) in
       let kept = fits-agree kinds k sizes dues targets lows highs (m .types) (y .types) (m .count) at v spot
       (λ i a b. sym (type-spot m i z b) ∙ sym (c .filled .kept i a) ∙ type-spot y i zy b) in
@@ -78,7 +77,7 @@ module _ {old new : StoredDiagram} {kinds sizes dues targets lows highs limits :
       ∙ ap (λ (x : ℕ). spotFits kinds (length (diagramOf old .types)) sizes dues targets lows highs (y .types) (y .count) at x) (sym q)
       ∙ fits)
 
-  pub none-unfit : (v : ℕ) → getD limits at 0 ≢ 1 → spotFits kinds k sizes dues targets lows highs (m .types) (m .count) at v ≡ false
+  pub none-unfit : {v : ℕ} → getD limits at 0 ≢ 1 → spotFits kinds k sizes dues targets lows highs (m .types) (m .count) at v ≡ false
       → NoneBelow (diagramOf old) (diagramOf new) limits m at v → NoneBelow (diagramOf old) (diagramOf new) limits m at (v + 1)
-  none-unfit v choice e below y c l =
-      ⊎-elim (unfit v choice e y c) (below y c) (last {k = getD (spots y) at 0} {n = v} (omega arith))
+  none-unfit {v = v} choice e below y c l =
+      ⊎-elim (unfit choice e y c) (below y c) (last {k = getD (spots y) at 0} {n = v} (omega arith))

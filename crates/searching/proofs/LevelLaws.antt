@@ -1,11 +1,10 @@
 -- From the blank record on, the search answers for every record of names: the one in memory that stands for it is a completion.
 -- Assumes nothing.
-use Prim.Native.Nat.{_≤_, ℕ}
+use Prim.Native.Nat.{ℕ}
 use mathlib.Core.List.{List, _++_}
 use mathlib.Core.Path.{_∙_, _≡_, ap, refl, subst, sym}
 use lib.ListN.{getD, replicate, replicate-append-replicate}
 use Rattle.files.specs.Diagram.{Diagram}
-use Rattle.files.specs.Record.{objectCount}
 use Rattle.files.specs.WellFormedDiagram.{WfDiagram}
 use Rattle.records.specs.declared.MemoryRecord.{MemoryRecord}
 use Rattle.fillings.specs.Memory.{memoryOf}
@@ -24,15 +23,15 @@ unfolding blank
 blank-zeros n =
     ap (λ (x : List ℕ). replicate 8 0 ++ x) (replicate-append-replicate 256 256 0) ∙ replicate-append-replicate 8 512 0
 
-module _ (n : ℕ) (m : MemoryRecord) (e : m ≡ blank n) where
+module _ (n : ℕ) {m : MemoryRecord} (e : m ≡ blank n) where
   pub count-blank : m .count ≡ n
   count-blank = ap (λ (x : MemoryRecord). x .count) e ∙ blank-count n
 
   pub all-blank : Blank m 0
   all-blank i h = ap (λ (x : MemoryRecord). getD (spots x) i 0) e ∙ ap (λ (x : List ℕ). getD x i 0) (blank-zeros n) ∙ zeros 520 i
 
-  pub level : (old new : Diagram) (limits : List ℕ) (f : Found) → WfDiagram old → Choices old n limits → Answer old new limits m 0 f → Level old new n f
-  level old new limits f wf choices a = record {
+  pub level : {old new : Diagram} {limits : List ℕ} {f : Found} → WfDiagram old → Choices old n limits → Answer old new limits m 0 f → Level old new n f
+  level {old = old} {limits = limits} wf choices a = record {
     count = λ h. a .count h ∙ count-blank;
     sound = a .sound;
     complete = λ h r wfr size legal illegal.

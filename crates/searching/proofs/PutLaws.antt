@@ -42,8 +42,8 @@ pub type-spot : (m : MemoryRecord) (i : ℕ) → Sized m → i < 8 → getD (spo
 type-spot m i z h = List·getD-append (m .types) (m .values ++ m .links) 0 i (omega (arith, z .types))
 
 -- the spots past the one that is stored stay blank
-pub blank-put : (m s : MemoryRecord) (at j v : ℕ) → at ≤ j → Put m j v s → Blank m at → Blank s (j + 1)
-blank-put m s at j v l p b i h = rw (p .row) (getD-set-other (spots m) j i v 0 (omega arith) ∙ b i (omega arith))
+pub blank-put : {m s : MemoryRecord} {at j v : ℕ} → at ≤ j → Put m j v s → Blank m at → Blank s (j + 1)
+blank-put {m = m} {j = j} {v = v} l p b i h = rw (p .row) (getD-set-other (spots m) j i v 0 (omega arith) ∙ b i (omega arith))
 
 module _ (m : MemoryRecord) (z : Sized m) (spot v : ℕ) where
   pub put-type : spot < 8

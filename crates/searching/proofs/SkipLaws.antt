@@ -24,7 +24,7 @@ closed-more limits at j h e z = record {
   shut = λ i l k. ⊎-elim (λ q. rw q e) (z .shut i l) (last {k = i} {n = j} (omega arith));
 }
 
-module _ (limits : List ℕ) (m : MemoryRecord) (at j : ℕ) (z : Closed limits at j) (b : Blank m at) where
+module _ {limits : List ℕ} {m : MemoryRecord} {at j : ℕ} (z : Closed limits at j) (b : Blank m at) where
   past : (y : MemoryRecord) → Completes limits m at y → Completes limits m j y
   past y c = record {
     alike = c .alike;
@@ -36,5 +36,5 @@ module _ (limits : List ℕ) (m : MemoryRecord) (at j : ℕ) (z : Closed limits 
     };
   }
 
-  pub answer-skip : (old new : Diagram) (f : Found) → Answer old new limits m j f → Answer old new limits m at f
-  answer-skip old new f a = record { count = a .count; sound = a .sound; complete = λ h y c. a .complete h y (past y c) }
+  pub answer-skip : {old new : Diagram} {f : Found} → Answer old new limits m j f → Answer old new limits m at f
+  answer-skip a = record { count = a .count; sound = a .sound; complete = λ h y c. a .complete h y (past y c) }

@@ -49,12 +49,10 @@ spot-in : (t : ℕ) (e : fill-lts.Else1 (calls t) (fill-at t) fill.Post fill-Inv
 spot-in t e = omega (arith, e .if1 .left, e .before .skip .ensures .closed .high)
 
 -- the closed spots are passed over
-passed : (t : ℕ) (s : fill-lts.After-skip (calls t) (fill-at t) fill.Post fill-Inv-loop fill-μ-loop) (f : Found)
-    → Answer (diagramOf (s .before .args .old)) (diagramOf (s .before .args .new)) (s .before .args .limits .now) (s .before .args .m) (s .skip .result) f
-    → Answer (diagramOf (s .before .args .old)) (diagramOf (s .before .args .new)) (s .before .args .limits .now) (s .before .args .m) (s .before .args .from) f
-passed t s f a =
-    let g = s .before .args in
-    answer-skip (g .limits .now) (g .m) (g .from) (s .skip .result) (s .skip .ensures .closed) (s .before .pre .1 .2) _ _ f a
+passed : (t : ℕ) (s : fill-lts.After-skip (calls t) (fill-at t) fill.Post fill-Inv-loop fill-μ-loop) {f : Found}
+    → let a = s .before .args in Answer (diagramOf (a .old)) (diagramOf (a .new)) (a .limits .now) (a .m) (s .skip .result) f
+    → Answer (diagramOf (a .old)) (diagramOf (a .new)) (a .limits .now) (a .m) (a .from) f
+passed t s = answer-skip (s .skip .ensures .closed) (s .before .pre .1 .2)
 
 fill-skip-requires : (t : ℕ) → fill-lts.Need-skip-requires (calls t) (fill-at t) fill.Post fill-Inv-loop fill-μ-loop
 fill-skip-requires t c κs = c .pre .1 .1
@@ -67,8 +65,7 @@ fill-is-witness-requires t c κs =
 fill-returns : (t : ℕ) → fill-lts.Need-returns (calls t) (fill-at t) fill.Post fill-Inv-loop fill-μ-loop
 fill-returns t c =
     let s = c .before .before in
-    let a = s .before .args in
-    passed t s _ (answer-leaf (diagramOf (a .old)) (diagramOf (a .new)) (a .limits .now) (a .m) (s .skip .result) (sized t (s .before)) (c .is-witness .result) (c .before .if1 .taken) (c .is-witness .ensures))
+    passed t s (answer-leaf (sized t (s .before)) (c .before .if1 .taken) (c .is-witness .ensures))
 
 fill-mul-most : (t : ℕ) → fill-lts.Need-mul-most (calls t) (fill-at t) fill.Post fill-Inv-loop fill-μ-loop
 fill-mul-most t c = search needs
@@ -100,9 +97,9 @@ fill-loop-again : (t : ℕ) → fill-lts.Need-loop-again (calls t) (fill-at t) f
 fill-loop-again t c =
     let h = c .before .before .before .before in
     let s = h .before .before .before .before in
-    let a = s .before .args in
     let spot = spot-in t (h .before .before .before) in
-    (omega arith, h .loop .inv .1, none-unfit (a .m) (s .skip .result) (s .before .pre .1 .0) (sized t (s .before)) spot (h .loop .v) (s .skip .ensures .stops spot) (by-no (c .before .spot-fits .ensures) (c .if2 .taken)) (h .loop .inv .2))
+    (omega arith, h .loop .inv .1,
+    none-unfit (s .before .pre .1 .0) (sized t (s .before)) spot (s .skip .ensures .stops spot) (by-no (c .before .spot-fits .ensures) (c .if2 .taken)) (h .loop .inv .2))
 
 fill-cast-put : (t : ℕ) → fill-lts.Need-cast-put (calls t) (fill-at t) fill.Post fill-Inv-loop fill-μ-loop
 fill-cast-put t c = search needs
@@ -116,17 +113,14 @@ fill-add-fill t c = search needs
 fill-fill-requires : (t : ℕ) → fill-lts.Need-fill-requires (calls t) (fill-at t) fill.Post fill-Inv-loop fill-μ-loop
 fill-fill-requires t c κs =
     let s = c .before .before .before .before .before .before .before .before .before in
-    let a = s .before .args in
     let pre = s .before .pre .1 in
     let spot = spot-in t (c .before .before .before .before .before .before .before .before) in
-    (omega (arith, spot, s .skip .ensures .closed .low), (ready-alike (pre .0) (c .put .result .count) (c .put .ensures .alike .count), omega (arith, spot), blank-put (a .m) (c .put .result) (a .from) (s .skip .result) _ (s .skip .ensures .closed .low) (c .put .ensures) (pre .2)))
+    (omega (arith, spot, s .skip .ensures .closed .low),
+    (ready-alike (pre .0) (c .put .ensures .alike .count), omega (arith, spot), blank-put (s .skip .ensures .closed .low) (c .put .ensures) (pre .2)))
 
 fill-returns-2 : (t : ℕ) → fill-lts.Need-returns-2 (calls t) (fill-at t) fill.Post fill-Inv-loop fill-μ-loop
 fill-returns-2 t c =
-    let h = c .before .before .before .before .before .before .before in
-    let s = h .before .before .before .before in
-    let a = s .before .args in
-    passed t s _ (answer-hit (diagramOf (a .old)) (diagramOf (a .new)) (a .limits .now) (a .m) (s .skip .result) (h .loop .v) (c .before .before .put .result) (c .before .before .put .ensures) (c .before .fill .result) (c .before .fill .ensures) (c .if3 .taken))
+    passed t (c .before .before .before .before .before .before .before .before .before .before .before) (answer-hit (c .before .before .put .ensures) (c .before .fill .ensures) (c .if3 .taken))
 
 fill-add-v-2 : (t : ℕ) → fill-lts.Need-add-v-2 (calls t) (fill-at t) fill.Post fill-Inv-loop fill-μ-loop
 fill-add-v-2 t c = search needs
@@ -138,15 +132,12 @@ fill-loop-again-2 : (t : ℕ) → fill-lts.Need-loop-again-2 (calls t) (fill-at 
 fill-loop-again-2 t c =
     let h = c .before .before .before .before .before .before .before in
     let s = h .before .before .before .before in
-    let a = s .before .args in
-    let spot = spot-in t (h .before .before .before) in
-    (omega (arith, c .before .before .before .before .before .before .loop-test .taken), h .loop .inv .1, none-more (diagramOf (a .old)) (diagramOf (a .new)) (a .limits .now) (a .m) (s .skip .result) (h .loop .v) (c .before .before .put .result) (c .before .before .put .ensures) (c .before .fill .result) (c .before .fill .ensures) (sized t (s .before)) spot (c .if3 .left) (h .loop .inv .2))
+    (omega (arith, c .before .before .before .before .before .before .loop-test .taken), h .loop .inv .1,
+    none-more (c .before .before .put .ensures) (c .before .fill .ensures) (sized t (s .before)) (spot-in t (h .before .before .before)) (c .if3 .left) (h .loop .inv .2))
 
 fill-returns-3 : (t : ℕ) → fill-lts.Need-returns-3 (calls t) (fill-at t) fill.Post fill-Inv-loop fill-μ-loop
 fill-returns-3 t c =
-    let s = c .before .before .before .before .before in
-    let a = s .before .args in
-    passed t s _ (answer-none (diagramOf (a .old)) (diagramOf (a .new)) (a .limits .now) (a .m) (s .skip .result) (c .before .loop .v) (spot-in t (c .before .before .before .before)) (omega arith) (c .before .loop .inv .2))
+    passed t (c .before .before .before .before .before) (answer-none (c .before .loop .v) (spot-in t (c .before .before .before .before)) (omega arith) (c .before .loop .inv .2))
 
 pub +fill-spec : {M : Type 1} → statement M
 +fill-spec = close μ-fill λ t. fill-lts.spec (calls t)

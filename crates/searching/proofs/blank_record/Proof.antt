@@ -6,11 +6,9 @@ use Rattle.searching.proofs.blank_record.Reads as reads
 use Rattle.searching.proofs.blank_record.Lts as lts
 use Rattle.laws.proofs.wide.Reads as wide-reads
 
--- src/lib.rt:29:16
 wide-requires : tie.Need-wide-requires
 wide-requires c κs = search needs
 
--- src/lib.rt:25:1
 returns : tie.Need-returns
 unfolding blank
 returns c = cc

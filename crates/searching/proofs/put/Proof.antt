@@ -10,29 +10,23 @@ use Rattle.searching.proofs.put.Lts as lts
 sized : (c : tie.Start) → Sized (c .args .m)
 sized c = search needs
 
--- src/lib.rt:47:9
 element-write-s : tie.Need-element-write-s
 element-write-s c = search needs
 
--- src/lib.rt:48:9
 returns : tie.Need-returns
 returns c = put-type (c .before .args .m) (sized (c .before)) (c .before .args .spot) (c .before .args .v) (omega arith)
 
--- src/lib.rt:52:9
 element-write-s-2 : tie.Need-element-write-s-2
 element-write-s-2 c = search needs
 
--- src/lib.rt:53:9
 returns-2 : tie.Need-returns-2
 returns-2 c =
     let b = c .before .before in
     put-value (b .args .m) (sized b) (b .args .spot) (b .args .v) (omega arith) (omega arith)
 
--- src/lib.rt:56:5
 element-write-s-3 : tie.Need-element-write-s-3
 element-write-s-3 c = search needs
 
--- src/lib.rt:41:1
 returns-3 : tie.Need-returns-3
 returns-3 c =
     let b = c .before .before in

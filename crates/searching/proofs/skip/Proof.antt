@@ -14,37 +14,29 @@ Inv-loop limits at j₀ j = Closed limits at j
 abbrev μ-loop : tie.MeasureT-loop
 μ-loop limits at j₀ j = 520 - j
 
--- src/lib.rt:66:5
 loop-holds : tie.Need-loop-holds Inv-loop μ-loop
 loop-holds c = closed-none (c .args .limits .now) (c .args .at) (c .pre)
 
--- src/lib.rt:67:12
 mul-if1 : tie.Need-mul-if1 Inv-loop μ-loop
 mul-if1 c = search needs
 
--- src/lib.rt:67:12
 element-copy-out-if1 : tie.Need-element-copy-out-if1 Inv-loop μ-loop
 element-copy-out-if1 c = search needs
 
--- src/lib.rt:68:13
 returns : tie.Need-returns Inv-loop μ-loop
 returns c = record { closed = c .before .before .before .loop .inv; stops = λ h. c .if1 .taken }
 
--- src/lib.rt:70:9
 add-j : tie.Need-add-j Inv-loop μ-loop
 add-j c = search needs
 
--- src/lib.rt:66:5
 loop-less : tie.Need-loop-less Inv-loop μ-loop
 loop-less c = search needs
 
--- src/lib.rt:66:5
 loop-again : tie.Need-loop-again Inv-loop μ-loop
 loop-again c =
     let h = c .before .before .before in
     closed-more (h .before .args .limits .now) (h .before .args .at) (h .loop .j) (omega arith) (c .if1 .left) (h .loop .inv)
 
--- src/lib.rt:61:1
 returns-2 : tie.Need-returns-2 Inv-loop μ-loop
 returns-2 c = record { closed = c .before .loop .inv; stops = λ h. absurd (omega arith) }
 
