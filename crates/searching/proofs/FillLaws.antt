@@ -27,7 +27,8 @@ use Rattle.searching.proofs.RowLaws.{into, leaf}
 abbrev pub NoneBelow : Diagram → Diagram → List ℕ → MemoryRecord → ℕ → ℕ → Type 0
 NoneBelow old new limits m at v = (y : MemoryRecord) → Completes limits m at y → getD (spots y) at 0 < v → Wanted old new y → ⊥
 
-module _ {old new : Diagram} {limits : List ℕ} {m : MemoryRecord} {at : ℕ} where  -- no spot is left: the record itself is judged
+module _ {old new : Diagram} {limits : List ℕ} {m : MemoryRecord} {at : ℕ} where
+  -- no spot is left: the record itself is judged
   pub answer-leaf : {b : Bool} → Sized m → at ≡ 520 → Tells (Witness old new m) b → Answer old new limits m at (record { ok = b; witness = m })
   answer-leaf z e t = record {
     count = λ h. refl;

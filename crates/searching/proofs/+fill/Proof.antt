@@ -1,3 +1,6 @@
+-- The spots from `from` on are filled by calls with one spot less to fill. In the loop, no completion whose value at the spot is
+-- below v is wanted; each way out is a law of FillLaws, past the closed spots by `passed`.
+-- Assumes nothing.
 use borrow.Author.Needs.{needs}
 use Prim.Native.Nat.{_-_, _<_, _≤_, ℕ}
 use native.Mathlib.Omega.{arith}
@@ -31,6 +34,7 @@ fill-at t = and 1 fill-kinds.ps (is 1 fill-kinds.ps μ-fill t) fill.Pre
 abbrev fill-below : ℕ → In 1 fill-kinds.ps
 fill-below t = and 1 fill-kinds.ps (falls 1 fill-kinds.ps _<_ μ-fill t) fill.Pre
 
+-- what the calls ask and give
 abbrev calls : ℕ → fill-lts.Claims
 calls t = (skip-reads.Asked, skip-reads.Learnt, is-witness-reads.Asked, is-witness-reads.Learnt, spot-fits-reads.Asked, spot-fits-reads.Learnt, put-reads.Asked, put-reads.Learnt, fill-below t, fill.Post)
 
@@ -97,9 +101,11 @@ fill-loop-again : (t : ℕ) → fill-lts.Need-loop-again (calls t) (fill-at t) f
 fill-loop-again t c =
     let h = c .before .before .before .before in
     let s = h .before .before .before .before in
-    let spot = spot-in t (h .before .before .before) in
-    (omega arith, h .loop .inv .1,
-    none-unfit (s .before .pre .1 .0) (sized t (s .before)) spot (s .skip .ensures .stops spot) (by-no (c .before .spot-fits .ensures) (c .if2 .taken)) (h .loop .inv .2))
+    let spot = spot-in t (h .before .before .before) in (
+      omega arith,
+      h .loop .inv .1,
+      none-unfit (s .before .pre .1 .0) (sized t (s .before)) spot (s .skip .ensures .stops spot) (by-no (c .before .spot-fits .ensures) (c .if2 .taken)) (h .loop .inv .2),
+    )
 
 fill-cast-put : (t : ℕ) → fill-lts.Need-cast-put (calls t) (fill-at t) fill.Post fill-Inv-loop fill-μ-loop
 fill-cast-put t c = search needs
@@ -114,9 +120,10 @@ fill-fill-requires : (t : ℕ) → fill-lts.Need-fill-requires (calls t) (fill-a
 fill-fill-requires t c κs =
     let s = c .before .before .before .before .before .before .before .before .before in
     let pre = s .before .pre .1 in
-    let spot = spot-in t (c .before .before .before .before .before .before .before .before) in
-    (omega (arith, spot, s .skip .ensures .closed .low),
-    (ready-alike (pre .0) (c .put .ensures .alike .count), omega (arith, spot), blank-put (s .skip .ensures .closed .low) (c .put .ensures) (pre .2)))
+    let spot = spot-in t (c .before .before .before .before .before .before .before .before) in (
+      omega (arith, spot, s .skip .ensures .closed .low),
+      (ready-alike (pre .0) (c .put .ensures .alike .count), omega (arith, spot), blank-put (s .skip .ensures .closed .low) (c .put .ensures) (pre .2)),
+    )
 
 fill-returns-2 : (t : ℕ) → fill-lts.Need-returns-2 (calls t) (fill-at t) fill.Post fill-Inv-loop fill-μ-loop
 fill-returns-2 t c =
@@ -131,9 +138,11 @@ fill-loop-less-2 t c = search needs
 fill-loop-again-2 : (t : ℕ) → fill-lts.Need-loop-again-2 (calls t) (fill-at t) fill.Post fill-Inv-loop fill-μ-loop
 fill-loop-again-2 t c =
     let h = c .before .before .before .before .before .before .before in
-    let s = h .before .before .before .before in
-    (omega (arith, c .before .before .before .before .before .before .loop-test .taken), h .loop .inv .1,
-    none-more (c .before .before .put .ensures) (c .before .fill .ensures) (sized t (s .before)) (spot-in t (h .before .before .before)) (c .if3 .left) (h .loop .inv .2))
+    let s = h .before .before .before .before in (
+      omega (arith, c .before .before .before .before .before .before .loop-test .taken),
+      h .loop .inv .1,
+      none-more (c .before .before .put .ensures) (c .before .fill .ensures) (sized t (s .before)) (spot-in t (h .before .before .before)) (c .if3 .left) (h .loop .inv .2),
+    )
 
 fill-returns-3 : (t : ℕ) → fill-lts.Need-returns-3 (calls t) (fill-at t) fill.Post fill-Inv-loop fill-μ-loop
 fill-returns-3 t c =
