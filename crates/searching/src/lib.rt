@@ -3,10 +3,10 @@
 ghost use mathlib.Core.Path.{_≡_};
 ghost use Prim.Native.Nat.{ℕ, _<_, _≤_, _^_};
 ghost use lib.Dec.{eqb};
-ghost use lib.ListN.{getD, length};
+ghost use lib.ListN.{getD};
 ghost use Rattle.diagrams.specs.View.{diagramOf};
 ghost use Rattle.diagrams.specs.Held.{Held};
-ghost use Rattle.fillings.specs.Spots.{Put, Closed, Blank, Choices, blank};
+ghost use Rattle.fillings.specs.Spots.{Put, Blank, Choices, blank};
 ghost use Rattle.fillings.specs.Wanted.{Witness};
 ghost use Rattle.type_tables.specs.TypeTables.{TypeTables};
 ghost use Rattle.type_tables.specs.Fits.{stands, newType, metBy, typeFits, valueFor, valueFits, rowFor, rowFits, spotFits};
@@ -16,6 +16,7 @@ ghost use Rattle.laws.specs.Bounded.{all};
 ghost use Rattle.laws.specs.Connective.{imp};
 ghost use Rattle.searching.specs.Choice.{choiceIn};
 ghost use Rattle.searching.specs.Answer.{Tells, Answer, Level};
+ghost use Rattle.searching.specs.Ready.{Skips, Ready};
 use diagrams::StoredDiagram;
 use records::MemoryRecord;
 
@@ -66,7 +67,7 @@ fn put(m: MemoryRecord, spot: usize, v: u8) -> MemoryRecord
 // The first spot from `at` on that is not closed, or 520.
 fn skip(limits: &[u16; 520], at: usize) -> usize
     requires { ⌜ at ≤ 520 ⌝ }
-    ensures { λ j. ⌜ Closed (now (limits .entry)) at j ⌝ }
+    ensures { λ j. ⌜ Skips (now (limits .entry)) at j ⌝ }
 {
     let mut j = at;
     while j < 520 {
@@ -392,6 +393,8 @@ fn is_witness(old: StoredDiagram, new: StoredDiagram, m: MemoryRecord) -> bool
 
 // Fills m from the spot `from` on so that it is a witness, or says that there is no way.
 fn fill<'a>(
+    m: MemoryRecord,
+    from: usize,
     old: StoredDiagram,
     new: StoredDiagram,
     kinds: &'a [u8; 24],
@@ -402,10 +405,8 @@ fn fill<'a>(
     lows: &'a [u8; 768],
     highs: &'a [u8; 768],
     limits: &'a [u16; 520],
-    m: MemoryRecord,
-    from: usize,
 ) -> Found
-    requires { ⌜ Held old × Held new × (k ≡ length (diagramOf old .types)) × TypeTables (diagramOf old) (now kinds) (now sizes) (now dues) (now targets) (now lows) (now highs) × Choices (diagramOf old) (m .count) (now limits) × (m .count ≤ 8) × (from ≤ 520) × Blank m from ⌝ }
+    requires { ⌜ Ready old new (now kinds) k (now sizes) (now dues) (now targets) (now lows) (now highs) (now limits) (m .count) × (from ≤ 520) × Blank m from ⌝ }
     ensures { λ f. ⌜ Answer (diagramOf old) (diagramOf new) (now (limits .entry)) m from f ⌝ }
 {
     let at = skip(limits, from);
@@ -419,15 +420,45 @@ fn fill<'a>(
     let types = m.types;
     let mut v: u16 = 0;
     while v < most {
-        if spot_fits(kinds, k, sizes, dues, targets, lows, highs, &types, m.count, at, v as u8) {
-            let f = fill(old, new, kinds, k, sizes, dues, targets, lows, highs, limits, put(m, at, v as u8), at + 1);
-            if f.ok {
-                return f;
-            }
+        if !spot_fits(
+            kinds,
+            k,
+            sizes,
+            dues,
+            targets,
+            lows,
+            highs,
+            &types,
+            m.count,
+            at,
+            v as u8,
+        ) {
+            v += 1;
+            continue;
+        }
+        let f = fill(
+            put(m, at, v as u8),
+            at + 1,
+            old,
+            new,
+            kinds,
+            k,
+            sizes,
+            dues,
+            targets,
+            lows,
+            highs,
+            limits,
+        );
+        if f.ok {
+            return f;
         }
         v += 1;
     }
-    Found { ok: false, witness: m }
+    Found {
+        ok: false,
+        witness: m,
+    }
 }
 
 // A record of n objects, by the tables of the old diagram.
@@ -447,5 +478,18 @@ pub fn search<'a>(
 {
     let limits = limits_of(old, n);
     let m = blank_record(n);
-    fill(old, new, kinds, old.types.count, sizes, dues, targets, lows, highs, &limits, m, 0)
+    fill(
+        m,
+        0,
+        old,
+        new,
+        kinds,
+        old.types.count,
+        sizes,
+        dues,
+        targets,
+        lows,
+        highs,
+        &limits,
+    )
 }
