@@ -1,0 +1,3 @@
+pub mod LegalLaws
+pub mod KeptLaws
+pub mod WrittenLaws
