@@ -1,3 +1,4 @@
 pub mod LegalLaws
 pub mod KeptLaws
+pub mod SameLaws
 pub mod WrittenLaws
