@@ -1,4 +1,4 @@
 pub mod LegalLaws
-pub mod KeptLaws
-pub mod SameLaws
+pub mod LinkLaws
+pub mod ValueLaws
 pub mod WrittenLaws

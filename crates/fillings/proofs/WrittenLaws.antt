@@ -2,32 +2,54 @@
 -- is written of it is the same site. So what a search wants is a witness once it is written.
 -- Assumes nothing.
 use Prim.Native.Nat.{_<_, _≤_, ℕ}
+use native.Mathlib.Decide.{decLt}
+use native.Mathlib.Omega.{arith}
 use mathlib.Core.Bool.{true}
-use mathlib.Core.Path.{_∙_, _≡_, subst, sym}
-use lib.Dec.{eqb}
-use lib.ListN.{length}
+use mathlib.Core.List.{[]}
+use mathlib.Core.Path.{_∙_, _≡_, ap, subst, sym}
+use lib.ListN.{List·getD-eq-default, length}
 use borrow.Author.Tests.{eqb-true}
-use Rattle.files.specs.Diagram.{Diagram}
+use Rattle.files.specs.Diagram.{Diagram, typeAt}
 use Rattle.files.specs.Membership.{hasLink}
-use Rattle.files.specs.Record.{Record, linkAt, objectCount}
-use Rattle.records.specs.Slots.{roleCount, roleName}
-use Rattle.records.specs.Written.{Within, linkIn}
+use Rattle.files.specs.Name.{Name, sameName}
+use Rattle.files.specs.Record.{Record, linkAt, objectCount, objectType}
+use Rattle.records.specs.Written.{Within, recordOf}
 use Rattle.records.specs.declared.MemoryRecord.{MemoryRecord}
 use Rattle.rules.specs.Judge.{Legal}
+use Rattle.rules.specs.Site.{SameSite, siteOf}
 use Rattle.memory_rules.specs.Stands.{Stands}
+use Rattle.fillings.specs.Wanted.{Wanted, Witness}
 use Rattle.laws.proofs.BoundedLaws.{any-at}
 use Rattle.laws.proofs.ConnectiveLaws.{both-right}
+use Rattle.records.proofs.WrittenLaws.{written-count, written-object}
+use Rattle.rules.proofs.SiteLaws.{judge-same}
 use Rattle.memory_rules.proofs.SiteInLaws.{object-small}
-use Rattle.fillings.proofs.KeptLaws.{kept-value, link-of, value-of}
-use Rattle.fillings.proofs.LegalLaws.{legal-passes, type-known}
+use Rattle.memory_rules.proofs.SlotLaws.{index-name}
+use Rattle.fillings.proofs.LegalLaws.{Passes, legal-passes, type-known}
+use Rattle.fillings.proofs.LinkLaws.{link-of, link-same}
+use Rattle.fillings.proofs.ValueLaws.{value-same, value-within}
 
--- a link's target is an object
-target-below : {d : Diagram} {r : Record} {m : MemoryRecord} (h : Stands d r m) (o s p : ℕ) → hasLink r o (roleName d s) p ≡ true → p < m .count
-unfolding hasLink
-target-below {r = r} {m = m} h o s p e =
-    let i = any-at _ (length (r .links)) e in
-    let to : linkAt r (i .0) .to ≡ p = eqb-true _ _ (both-right _ _ (both-right _ _ (i .2))) in
-    subst (λ (n : ℕ). p < n) (sym (h .count)) (subst (λ (q : ℕ). q < objectCount r) to (h .wf-record .link (i .0) (i .1) .to-below))
+module _ (d : Diagram) (r : Record) (m : MemoryRecord) (h : Stands d r m) where
+  -- a link's target is an object
+  target-below : (o : ℕ) (w : Name) (p : ℕ) → hasLink r o w p ≡ true → p < m .count
+  unfolding hasLink
+  target-below o w p e =
+      let i = any-at _ (length (r .links)) e in
+      let to : linkAt r (i .0) .to ≡ p = eqb-true _ _ (both-right _ _ (both-right _ _ (i .2))) in
+      subst (λ (n : ℕ). p < n) (sym (h .count)) (subst (λ (q : ℕ). q < objectCount r) to (h .wf-record .link (i .0) (i .1) .to-below))
+
+  -- each object's type is written; past the last there is none
+  type-same : Passes d (siteOf r) → (o : ℕ) → objectType (recordOf d m) o ≡ objectType r o
+  type-same e o = go (decLt o (m .count))
+    where
+      none : (s : Record) → objectCount s ≤ o → objectType s o ≡ []
+      none s k = unfold objectCount in List·getD-eq-default (s .objects) [] k
+
+      go : Dec (o < m .count) → objectType (recordOf d m) o ≡ objectType r o
+      go (yes l) =
+          let k : o < objectCount r = subst (λ (n : ℕ). o < n) (h .count) l in
+          written-object d m o l ∙ ap (λ (i : ℕ). typeAt d i .name) (h .represents .types o k) ∙ index-name d (objectType r o) (type-known d r m h e o k)
+      go (no l) = none (recordOf d m) (omega (arith, written-count d m)) ∙ sym (none r (omega (arith, h .count)))
 
 pub legal-within : {d : Diagram} {r : Record} {m : MemoryRecord} → Stands d r m → Legal d r → Within d m
 legal-within {d} {r} {m} h e =
@@ -37,6 +59,26 @@ legal-within {d} {r} {m} h e =
       types = λ o l.
           let k : o < objectCount r = subst (λ (n : ℕ). o < n) (h .count) l in
           subst (λ (i : ℕ). i < length (d .types)) (sym (h .represents .types o k)) (type-known d r m h passed o k);
-      values = λ o s l k n. let small : o < 8 = object-small d r m h o l in let i = value-of d r m h o s small k n in kept-value d r m h passed o s (i .0) small (i .1);
-      targets = λ o s p l k j t. target-below h o s p (link-of d r m h o s p (object-small d r m h o l) k j t);
+      values = λ o s l. value-within d r m h passed o s (object-small d r m h o l);
+      targets = λ o s p l k j t. target-below d r m h o _ p (link-of d r m h o s p (object-small d r m h o l) k j t);
+    }
+
+pub legal-same : {d : Diagram} {r : Record} {m : MemoryRecord} → Stands d r m → Legal d r → SameSite (recordOf d m) r
+legal-same {d} {r} {m} h e =
+    let passed = legal-passes d r e in
+    record {
+      count = written-count d m ∙ h .count;
+      types = λ w o. ap (sameName w) (type-same d r m h passed o);
+      values = value-same d r m h passed;
+      links = link-same d r m h passed;
+    }
+
+-- both diagrams judge what is written as they judge the record that it stands for
+pub wanted-witness : {old new : Diagram} {m : MemoryRecord} → Wanted old new m → Witness old new m
+wanted-witness {old} {new} {m} w =
+    let site = legal-same (w .stands) (w .legal) in
+    record {
+      within = legal-within (w .stands) (w .legal);
+      legal = judge-same old (recordOf old m) (w .names) site ∙ w .legal;
+      illegal = λ e. w .illegal (sym (judge-same new (recordOf old m) (w .names) site) ∙ e);
     }

@@ -1,22 +1,22 @@
--- What is written of a record in memory that stands for a legal record has that record's types, links and values. Each that is
--- written was kept, and each of the record is kept at its name's own slot, which has a place in the order of names.
+-- The links. Each bit kept is a link of the record; each link of a legal record is kept at its role's slot, which has a place in
+-- the order of names, and so it is written there. What is written has the record's links.
 -- Assumes nothing.
 use Prim.Native.Nat.{_%_, _*_, _+_, _/_, _<_, _≤_, ℕ}
-use native.Mathlib.Decide.{decLt}
 use native.Mathlib.Omega.{arith}
 use mathlib.Core.Bool.{Bool, _&&_, true}
 use mathlib.Core.List.{[]}
 use mathlib.Core.Path.{_∙_, _≡_, ap, refl, subst, sym}
 use lib.Dec.{eqb}
-use lib.ListN.{List·getD-eq-default, length}
+use lib.ListN.{length}
 use borrow.Author.Tests.{eq-eqb, eqb-true, lt-ltb, ltb-true}
 use Rattle.laws.specs.Bounded.{any}
 use Rattle.laws.specs.Connective.{both}
-use Rattle.files.specs.Diagram.{Diagram, typeAt}
+use Rattle.files.specs.Diagram.{Diagram}
 use Rattle.files.specs.Membership.{hasLink}
 use Rattle.files.specs.Name.{Name, sameName}
-use Rattle.files.specs.Record.{Link, Record, linkAt, objectCount, objectType}
-use Rattle.records.specs.Slots.{roleCount, roleName, roleSlot}
+use Rattle.files.specs.Record.{Link, Record, linkAt, objectCount}
+use Rattle.records.specs.Represents.{linkBit}
+use Rattle.records.specs.Slots.{ownRole, roleCount, roleName, roleSlot}
 use Rattle.records.specs.Written.{linkIn, linkIs, linkOn, recordOf, rolePlace}
 use Rattle.records.specs.declared.MemoryRecord.{MemoryRecord}
 use Rattle.rules.specs.Site.{siteOf}
@@ -26,33 +26,22 @@ use Rattle.laws.proofs.ConnectiveLaws.{and-both, and-left, and-right, both-left
 use Rattle.laws.proofs.PickedLaws.{any-picked}
 use Rattle.files.proofs.NameLaws.{same-equal, same-self}
 use Rattle.records.proofs.PlaceLaws.{role-placed}
-use Rattle.records.proofs.WrittenLaws.{written-count, written-object}
 use Rattle.memory_rules.proofs.LinkLaws.{link-known}
 use Rattle.memory_rules.proofs.SiteInLaws.{link-kept, object-small}
-use Rattle.memory_rules.proofs.SlotLaws.{index-name, role-name, role-own}
-use Rattle.fillings.proofs.KeptLaws.{link-of}
-use Rattle.fillings.proofs.LegalLaws.{Passes, type-known}
+use Rattle.memory_rules.proofs.SlotLaws.{role-name, role-own}
+use Rattle.fillings.proofs.LegalLaws.{Passes}
 
 -- k is the link of role w from o to p
 abbrev isLink : ℕ → Name → ℕ → Link → Bool
 isLink o w p k = both (eqb (k .from) o) (both (sameName (k .role) w) (eqb (k .to) p))
 
-module _ (d : Diagram) (r : Record) (m : MemoryRecord) (h : Stands d r m) (e : Passes d (siteOf r)) where
-  -- ---- types
-
-  pub type-same : (o : ℕ) → objectType (recordOf d m) o ≡ objectType r o
-  type-same o = go (decLt o (m .count))
-    where
-      go : Dec (o < m .count) → objectType (recordOf d m) o ≡ objectType r o
-      go (yes l) =
-          let k : o < objectCount r = subst (λ (n : ℕ). o < n) (h .count) l in
-          written-object d m o l ∙ ap (λ (i : ℕ). typeAt d i .name) (h .represents .types o k) ∙ index-name d (objectType r o) (type-known d r m h e o k)
-      go (no l) = none (recordOf d m) (omega (arith, written-count d m)) ∙ sym (none r (omega (arith, h .count)))
-        where
-          none : (s : Record) → objectCount s ≤ o → objectType s o ≡ []
-          none s k = unfold objectCount in List·getD-eq-default (s .objects) [] k
-
-  -- ---- links
+module _ (d : Diagram) (r : Record) (m : MemoryRecord) (h : Stands d r m) where
+  -- a link kept is one of the record
+  pub link-of : (o s p : ℕ) → o < 8 → s < roleCount d → p < 8 → linkIn m o s p ≡ true → hasLink r o (roleName d s) p ≡ true
+  unfolding linkBit
+  link-of o s p l k j e =
+      let few : length (d .associations) ≤ 16 = h .wf-diagram .few-associations in
+      both-right (ownRole d s) _ (sym (h .represents .links o s p l (omega arith) j) ∙ e)
 
   -- number x is on, and it is this link
   abbrev linkHere : (o : ℕ) (w : Name) (p x : ℕ) → Bool
@@ -73,7 +62,7 @@ module _ (d : Diagram) (r : Record) (m : MemoryRecord) (h : Stands d r m) (e : P
       let b : roleName d s ≡ w = same-equal _ _ (both-left _ _ (both-right _ _ is)) in
       let c : x % 8 ≡ p = eqb-true _ _ (both-right _ _ (both-right _ _ is)) in
       let has : hasLink r (x / 256) (roleName d s) (x % 8) ≡ true =
-      link-of d r m h (x / 256) s (x % 8) (object-small d r m h (x / 256) (omega arith)) (ltb-true _ _ (both-left _ _ on)) (omega arith) (both-right _ _ on) in
+      link-of (x / 256) s (x % 8) (object-small d r m h (x / 256) (omega arith)) (ltb-true _ _ (both-left _ _ on)) (omega arith) (both-right _ _ on) in
       subst (λ (n : ℕ). hasLink r n w p ≡ true) a (subst (λ (v : Name). hasLink r (x / 256) v p ≡ true) b (subst (λ (n : ℕ). hasLink r (x / 256) (roleName d s) n ≡ true) c has))
 
   -- kept at its role's slot, and so written at its place
@@ -98,8 +87,8 @@ module _ (d : Diagram) (r : Record) (m : MemoryRecord) (h : Stands d r m) (e : P
       let is : isLink o w p (linkIs d x) ≡ true = rw (a, q, c) (both-of _ _ (eq-eqb o o refl) (both-of _ _ name (eq-eqb p p refl))) in
       (x, omega arith, and-both (linkOn d m x) (isLink o w p (linkIs d x)) on is)
 
-  pub link-same : (o : ℕ) (w : Name) (p : ℕ) → hasLink (recordOf d m) o w p ≡ hasLink r o w p
-  link-same o w p = link-written o w p ∙ same-test _ _ (λ q. let x = any-at (linkHere o w p) (m .count * 256) q in link-forth o w p (x .0) (x .1) (x .2)) back
+  pub link-same : Passes d (siteOf r) → (o : ℕ) (w : Name) (p : ℕ) → hasLink (recordOf d m) o w p ≡ hasLink r o w p
+  link-same e o w p = link-written o w p ∙ same-test _ _ (λ q. let x = any-at (linkHere o w p) (m .count * 256) q in link-forth o w p (x .0) (x .1) (x .2)) back
     where
       back : hasLink r o w p ≡ true → any (linkHere o w p) (m .count * 256) ≡ true
       back q = unfold hasLink in
