@@ -72,7 +72,7 @@ module _ (d : Diagram) (r : Record) (names : WfRecord r) where
 
     -- ---- types
 
-    known-type : (o : ℕ) → o < objectCount r → typeIndex d (objectType r o) < length (d .types)
+    pub known-type : (o : ℕ) → o < objectCount r → typeIndex d (objectType r o) < length (d .types)
     unfolding rule1 rule1At hasType siteOf
     known-type o l =
         let t = any-at _ (length (d .types)) (all-at (rule1At d (siteOf r)) (objectCount r) (keeps .first) o l) in
@@ -86,7 +86,7 @@ module _ (d : Diagram) (r : Record) (names : WfRecord r) where
     -- ---- values
 
     -- some attribute declares it, so that it belongs to a value type of the diagram
-    value-coded : (i : ℕ) → i < length (r .values) → codeOf d (valueAt r i .valueType) (valueAt r i .constant) < length (d .valueTypes) * 8
+    pub value-coded : (i : ℕ) → i < length (r .values) → codeOf d (valueAt r i .valueType) (valueAt r i .constant) < length (d .valueTypes) * 8
     unfolding rule4 rule4At siteOf declared
     value-coded i l =
         let a = any-at _ (length (d .attributes)) (value-declared d r names (keeps .third) i l) in

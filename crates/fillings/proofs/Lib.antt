@@ -2,3 +2,6 @@ pub mod MemoryLaws
 pub mod SpotLaws
 pub mod LegalLaws
 pub mod ChoiceLaws
+pub mod LinkLaws
+pub mod ValueLaws
+pub mod WrittenLaws

@@ -66,7 +66,7 @@ constant-is t i c e =
 
 module _ (d : Diagram) (wf : WfDiagram d) where
   -- a code below 96 decodes to the names
-  code-type : (t c : Name) (k : ℕ) → isCode d t c k ≡ true → valueTypeAt d (k / 8) .name ≡ t
+  pub code-type : (t c : Name) (k : ℕ) → isCode d t c k ≡ true → valueTypeAt d (k / 8) .name ≡ t
   unfolding isCode
   code-type t c k e = same-equal _ _ (both-left _ _ (both-right _ _ e))
 
@@ -74,11 +74,11 @@ module _ (d : Diagram) (wf : WfDiagram d) where
   unfolding isCode
   code-below t c k e = ltb-true _ _ (both-left _ _ e)
 
-  code-constant : (t c : Name) (k : ℕ) → isCode d t c k ≡ true → getD (valueTypeAt d (k / 8) .constants) (k % 8) [] ≡ c
+  pub code-constant : (t c : Name) (k : ℕ) → isCode d t c k ≡ true → getD (valueTypeAt d (k / 8) .constants) (k % 8) [] ≡ c
   unfolding isCode
   code-constant t c k e = constant-is _ _ _ (both-right _ _ (both-right _ _ e))
 
-  code-holds : (t c : Name) → codeOf d t c < 96 → isCode d t c (codeOf d t c) ≡ true
+  pub code-holds : (t c : Name) → codeOf d t c < 96 → isCode d t c (codeOf d t c) ≡ true
   unfolding codeOf
   code-holds t c l = first-holds (isCode d t c) 96 l
 

@@ -125,14 +125,19 @@ module _ (d : Diagram) (r : Record) (m : MemoryRecord) (h : Stands d r m) where
   unfolding permits
   permitted-known s a k l e = target-known d (k .role) s a l (both-left _ _ (both-right _ _ e))
 
+  -- by rule 5 the diagram has the role of each link
+  pub link-known : rule5 d (siteOf r) ≡ true → (i : ℕ) → i < length (r .links) → roleSlot d (linkAt r i .role) < roleCount d
+  unfolding rule5 rule5At siteOf
+  link-known f i l =
+      let a = any-at _ (length (d .associations)) (all-at (λ j. rule5At d (siteOf r) (linkAt r j)) (length (r .links)) f i l) in
+      ⊎-elim (permitted-known r2 (a .0) (linkAt r i) (a .1)) (permitted-known r1 (a .0) (linkAt r i) (a .1)) (either-cases _ _ (a .2))
+
   stray-breaks : strayLink d r ≡ true → rule5 d (siteOf r) ≡ true → ⊥
-  unfolding strayLink rule5 rule5At siteOf
+  unfolding strayLink
   stray-breaks e f =
       let i = any-at _ (length (r .links)) e in
       let slot : roleSlot d (linkAt r (i .0) .role) ≡ roleCount d = eqb-true _ _ (i .2) in
-      let a = any-at _ (length (d .associations)) (all-at (λ j. rule5At d (siteOf r) (linkAt r j)) (length (r .links)) f (i .0) (i .1)) in
-      let known-role : roleSlot d (linkAt r (i .0) .role) < roleCount d =
-      ⊎-elim (permitted-known r2 (a .0) (linkAt r (i .0)) (a .1)) (permitted-known r1 (a .0) (linkAt r (i .0)) (a .1)) (either-cases _ _ (a .2)) in
+      let there : roleSlot d (linkAt r (i .0) .role) < roleCount d = link-known f (i .0) (i .1) in
       omega arith
 
   -- the mark decides; without it the kept links do

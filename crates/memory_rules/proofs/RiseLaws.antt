@@ -5,7 +5,7 @@ use Prim.Native.Nat.{_<_, suc, zero, ℕ}
 use native.Mathlib.Nat.{not-suc-le-zero}
 use native.Mathlib.Omega.{arith}
 use native.Mathlib.Decide.{decLt}
-use mathlib.Core.Bool.{false, true}
+use mathlib.Core.Bool.{true}
 use mathlib.Core.Logic.{_⊎_, inl, inr, ⊎-elim}
 use mathlib.Core.Path.{_∙_, _≡_, ap, subst, sym}
 use lib.ListN.{length}
@@ -16,15 +16,7 @@ use Rattle.files.specs.RecordFile.{valueBefore}
 use Rattle.files.specs.WellFormedRecord.{WfRecord}
 use Rattle.laws.proofs.BoundedLaws.{last}
 use Rattle.laws.proofs.ConnectiveLaws.{both-left, both-of, both-right, either-cases, either-left, either-right, true-false}
-use Rattle.laws.proofs.OrderLaws.{isLess-self, isLess-trans}
-
-before-trans : (u v w : Name) → before u v ≡ true → before v w ≡ true → before u w ≡ true
-unfolding before
-before-trans u v w e f = isLess-trans u v w e f
-
-before-self : (w : Name) → before w w ≡ false
-unfolding before
-before-self w = isLess-self w
+use Rattle.files.proofs.NameLaws.{before-self, before-trans}
 
 -- by object, or by name at one object
 value-cases : (u v : Value) → valueBefore u v ≡ true → (u .object < v .object) ⊎ ((u .object ≡ v .object) × (before (u .attribute) (v .attribute) ≡ true))

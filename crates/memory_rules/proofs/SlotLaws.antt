@@ -30,6 +30,15 @@ module _ (nm : ℕ → Name) (k : ℕ) where
 
 -- ---- types
 
+module _ (d : Diagram) where
+  pub index-name : (w : Name) → typeIndex d w < length (d .types) → typeAt d (typeIndex d w) .name ≡ w
+  unfolding typeIndex
+  index-name w l = slot-name (λ j. typeAt d j .name) (length (d .types)) w l
+
+  pub index-known : (w : Name) (i : ℕ) → i < length (d .types) → sameName (typeAt d i .name) w ≡ true → typeIndex d w < length (d .types)
+  unfolding typeIndex
+  index-known w i l e = slot-known (λ j. typeAt d j .name) (length (d .types)) w i l e
+
 module _ (d : Diagram) (wf : WfDiagram d) where
   pub index-of : (i : ℕ) → i < length (d .types) → typeIndex d (typeAt d i .name) ≡ i
   unfolding typeIndex
@@ -41,24 +50,17 @@ module _ (d : Diagram) (wf : WfDiagram d) where
   pub index-same : (i : ℕ) (w : Name) → i < length (d .types) → eqb i (typeIndex d w) ≡ sameName (typeAt d i .name) w
   index-same i w l = same-test _ _ forth back
     where
-      named : typeIndex d w < length (d .types) → typeAt d (typeIndex d w) .name ≡ w
-      named = unfold typeIndex in slot-name (λ j. typeAt d j .name) (length (d .types)) w
-
       forth : eqb i (typeIndex d w) ≡ true → sameName (typeAt d i .name) w ≡ true
       forth e =
           let q : i ≡ typeIndex d w = eqb-true _ _ e in
           let known : typeIndex d w < length (d .types) = omega arith in
-          let n : typeAt d i .name ≡ w = ap (λ (j : ℕ). typeAt d j .name) q ∙ named known in
+          let n : typeAt d i .name ≡ w = ap (λ (j : ℕ). typeAt d j .name) q ∙ index-name d w known in
           ap (λ (v : Name). sameName v w) n ∙ same-self w
 
       back : sameName (typeAt d i .name) w ≡ true → eqb i (typeIndex d w) ≡ true
       back e = eq-eqb _ _ (sym (index-of i l) ∙ ap (typeIndex d) (same-equal _ _ e))
 
 module _ (d : Diagram) where
-  pub index-known : (w : Name) (i : ℕ) → i < length (d .types) → sameName (typeAt d i .name) w ≡ true → typeIndex d w < length (d .types)
-  unfolding typeIndex
-  index-known w i l e = slot-known (λ j. typeAt d j .name) (length (d .types)) w i l e
-
   -- ---- attributes
 
   pub attribute-name : (w : Name) → attributeSlot d w < length (d .attributes) → attributeAt d (attributeSlot d w) .name ≡ w

@@ -26,8 +26,8 @@ use Rattle.rules.specs.ValueRules.{declared, declares, rule3, rule3At, rule3For
 use Rattle.memory_rules.specs.JudgeIn.{rule3In}
 use Rattle.memory_rules.specs.SiteIn.{keptValue, siteIn, valueKept}
 use Rattle.memory_rules.specs.Stands.{Stands}
-use Rattle.laws.proofs.BoundedLaws.{all-at, all-ext, all-of, any-at, any-no, any-none, any-of}
-use Rattle.laws.proofs.ConnectiveLaws.{both-left, both-of, both-right, imp-of, imp-use, known, same-test, true-false}
+use Rattle.laws.proofs.BoundedLaws.{all-at, all-ext, all-of, any-at, any-no, any-of}
+use Rattle.laws.proofs.ConnectiveLaws.{both-left, both-of, both-right, imp-of, imp-use, known, same-test}
 use Rattle.files.proofs.NameLaws.{same-equal, same-self}
 use Rattle.memory_rules.proofs.AgreeLaws.{declared-agrees, declares-agrees}
 use Rattle.memory_rules.proofs.AmongLaws.{code-has, code-of}
@@ -57,7 +57,7 @@ module _ (d : Diagram) (r : Record) (m : MemoryRecord) (h : Stands d r m) where
   -- ---- values kept and values of the record
 
   -- what is kept at a slot of its own
-  own-value : (o s : ℕ) → o < 8 → ownAttribute d s ≡ true → valueIn m o s ≡ codeAmong d r o (attributeAt d s .name) (length (r .values))
+  pub own-value : (o s : ℕ) → o < 8 → ownAttribute d s ≡ true → valueIn m o s ≡ codeAmong d r o (attributeAt d s .name) (length (r .values))
   own-value o s l e =
       let q : attributeSlot d (attributeAt d s .name) ≡ s = own-slot d s e in
       let b : s < length (d .attributes) = own-below d s e in
@@ -108,11 +108,9 @@ module _ (d : Diagram) (r : Record) (m : MemoryRecord) (h : Stands d r m) where
 
   -- ---- rule 3
 
-  -- a name that the diagram lacks is declared by nothing
-  undeclared : (o : ℕ) (w : Name) → length (d .attributes) ≤ attributeSlot d w → declared d (siteOf r) o w ≡ false
+  pub value-known : rule3 d (siteOf r) ≡ true → (i : ℕ) → i < length (r .values) → attributeSlot d (valueAt r i .attribute) < length (d .attributes)
   unfolding declared declares
-  undeclared o w l = any-none _ (length (d .attributes)) (λ a k. same-test _ _ (λ e.
-      let b : attributeSlot d w < length (d .attributes) = attribute-known d w a k (both-right _ _ e) in absurd (omega arith)) (λ e. absurd (false≢true e)))
+  value-known f i l = let a = any-at _ (length (d .attributes)) (value-declared d r (h .wf-record) f i l) in attribute-known d (valueAt r i .attribute) (a .0) (a .1) (both-right _ _ (a .2))
 
   rule3-for : (o : ℕ) (w : Name) → o < m .count → attributeSlot d w < length (d .attributes) → rule3For d (siteIn d m) o w ≡ rule3For d (siteOf r) o w
   unfolding rule3For siteIn siteOf
@@ -146,13 +144,14 @@ module _ (d : Diagram) (r : Record) (m : MemoryRecord) (h : Stands d r m) where
   unfolding rule3 siteIn siteOf
   rule3-clean none = all-ext _ _ (m .count) (λ o l. names-in o ∙ names-for o l ∙ sym (names-of none o)) ∙ ap (all (rule3At d (siteOf r))) (h .count)
 
-  -- a stray's object has a value that nothing declares
+  -- a stray is a value that nothing declares
   stray-breaks : strayValue d r ≡ true → rule3 d (siteOf r) ≡ true → ⊥
   unfolding strayValue
   stray-breaks e f =
       let i = any-at _ (length (r .values)) e in
       let slot : attributeSlot d (valueAt r (i .0) .attribute) ≡ length (d .attributes) = eqb-true _ _ (i .2) in
-      true-false (value-declared d r (h .wf-record) f (i .0) (i .1)) (undeclared (valueAt r (i .0) .object) (valueAt r (i .0) .attribute) (omega arith))
+      let there : attributeSlot d (valueAt r (i .0) .attribute) < length (d .attributes) = value-known f (i .0) (i .1) in
+      omega arith
 
   -- the mark decides; without it the kept values do
   rule3-marked : m .strays .values ≡ true → rule3In d m ≡ false

@@ -1,1 +1,4 @@
 pub mod WithinLaws
+pub mod RankLaws
+pub mod PlaceLaws
+pub mod WrittenLaws

@@ -1,5 +1,5 @@
--- The test `within` says exactly what `Within` does, for every diagram and every record in memory. Links are the one step that is
--- not word for word: the targets are all below the count exactly when the mask is below its power of two.
+-- The test `within` says exactly what `Within` does, for every diagram and every record in memory; and of a byte the test of its
+-- targets is one comparison.
 -- Assumes nothing.
 use Prim.Native.Nat.{ℕ, _*_, _+_, _-_, _/_, _^_, _<_}
 use native.Mathlib.Decide.{decLt}
@@ -15,12 +15,12 @@ use Rattle.laws.specs.Bounded.{all}
 use Rattle.laws.specs.Connective.{both, either}
 use Rattle.laws.proofs.BitLaws.{bit-above, bits-below}
 use Rattle.laws.proofs.BoundedLaws.{all-at, all-of}
-use Rattle.laws.proofs.ConnectiveLaws.{both-left, both-of, both-right, either-cases, either-left, either-right, known, true-false}
+use Rattle.laws.proofs.ConnectiveLaws.{both-left, both-of, both-right, either-cases, either-left, either-right, imp-of, imp-use, known, same-test, true-false}
 use Rattle.records.specs.declared.MemoryRecord.{MemoryRecord}
 use Rattle.files.specs.Diagram.{Diagram}
 use Rattle.records.specs.Slots.{roleCount}
 use Rattle.records.specs.Written.{IsValue, Within, constantKnown, linkIn, valueIn}
-use Rattle.records.specs.WithinTest.{objectKnown, targetsKnown, valueKnown, valuesKnown, within}
+use Rattle.records.specs.WithinTest.{objectKnown, rowKnown, targetsKnown, valueKnown, valuesKnown, within}
 
 -- a bit of a number below 2 ^ n is below n
 below-of : (n x p : ℕ) → x < 2 ^ n → bit p x ≡ true → p < n
@@ -29,6 +29,13 @@ below-of n x p h t = go (decLt p n)
     go : Dec (p < n) → p < n
     go (yes l) = l
     go (no l) = absurd (true-false t (bit-above n p x h (omega arith)))
+
+-- the targets in a byte are all below n exactly when it is below 2 ^ n
+pub row-below : (n x : ℕ) → x < 256 → ltb x (2 ^ n) ≡ rowKnown n x
+unfolding rowKnown
+row-below n x l =
+    same-test _ _ (λ e. all-of _ 8 (λ p _. imp-of _ _ (λ t. lt-ltb _ _ (below-of n x p (ltb-true _ _ e) t))))
+    (λ e. lt-ltb _ _ (bits-below n x (λ p t. ltb-true _ _ (imp-use _ _ (all-at _ 8 e p (below-of 8 x p l t)) t))))
 
 module _ (d : Diagram) where
   value-known : (v : ℕ) → (valueKnown d v ≡ true) ↔ (v ≢ 0 → IsValue d (v - 1))
@@ -54,13 +61,12 @@ module _ (d : Diagram) where
 
   module _ (m : MemoryRecord) where
     pub within-sound : within d m ≡ true → Within d m
-    unfolding within objectKnown valuesKnown targetsKnown
+    unfolding within objectKnown valuesKnown targetsKnown rowKnown
     within-sound h = record {
       few = leb-true _ _ (both-left (leb (m .count) 8) (all (objectKnown d m) (m .count)) h);
       types = λ o l. ltb-true _ _ (both-left (ltb (getD (m .types) o 0) (length (d .types))) (both (valuesKnown d m o) (targetsKnown d m o)) (object o l));
       values = λ o s l k. value-known (valueIn m o s) .0 (all-at _ _ (both-left (valuesKnown d m o) (targetsKnown d m o) (rest o l)) s k);
-      targets = λ o s p l k t.
-          below-of (m .count) (getD (m .links) (o * 32 + s) 0) p (ltb-true _ _ (all-at _ _ (both-right (valuesKnown d m o) (targetsKnown d m o) (rest o l)) s k)) t;
+      targets = λ o s p l k j t. ltb-true _ _ (imp-use _ _ (all-at _ 8 (all-at _ _ (both-right (valuesKnown d m o) (targetsKnown d m o) (rest o l)) s k) p j) t);
     }
       where
         object : (o : ℕ) → o < m .count → objectKnown d m o ≡ true
@@ -70,14 +76,14 @@ module _ (d : Diagram) where
         rest o l = both-right (ltb (getD (m .types) o 0) (length (d .types))) (both (valuesKnown d m o) (targetsKnown d m o)) (object o l)
 
     pub within-complete : Within d m → within d m ≡ true
-    unfolding within objectKnown valuesKnown targetsKnown
+    unfolding within objectKnown valuesKnown targetsKnown rowKnown
     within-complete w =
         both-of _ _ (le-leb _ _ (w .few))
         (all-of (objectKnown d m) (m .count)
         (λ o l.
         both-of _ _ (lt-ltb _ _ (w .types o l))
         (both-of _ _ (all-of (λ s. valueKnown d (valueIn m o s)) (length (d .attributes)) (λ s k. value-known (valueIn m o s) .1 (w .values o s l k)))
-        (all-of (λ s. ltb (getD (m .links) (o * 32 + s) 0) (2 ^ m .count)) (roleCount d) (λ s k. lt-ltb _ _ (bits-below (m .count) (getD (m .links) (o * 32 + s) 0) (λ p t. w .targets o s p l k t)))))))
+        (all-of (λ s. rowKnown (m .count) (getD (m .links) (o * 32 + s) 0)) (roleCount d) (λ s k. all-of _ 8 (λ p j. imp-of _ _ (λ t. lt-ltb _ _ (w .targets o s p l k j t))))))))
 
     pub within-iff : (within d m ≡ true) ↔ Within d m
     within-iff = (within-sound, within-complete)

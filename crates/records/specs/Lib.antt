@@ -1,4 +1,5 @@
 pub mod Slots
 pub mod Represents
+pub mod Places
 pub mod Written
 pub mod WithinTest

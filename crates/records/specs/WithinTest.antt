@@ -1,11 +1,12 @@
 -- `Within` as a test: whether a record in memory has an index for everything, so that it can be written.
 -- Assumes nothing.
-use Prim.Native.Nat.{_*_, _+_, _-_, _/_, _^_, ℕ}
+use Prim.Native.Nat.{_*_, _+_, _-_, _/_, ℕ}
 use mathlib.Core.Bool.{Bool}
 use lib.Dec.{eqb, leb, ltb}
 use lib.ListN.{getD, length}
+use Rattle.laws.specs.Bits.{bit}
 use Rattle.laws.specs.Bounded.{all}
-use Rattle.laws.specs.Connective.{both, either}
+use Rattle.laws.specs.Connective.{both, either, imp}
 use Rattle.records.specs.declared.MemoryRecord.{MemoryRecord}
 use Rattle.files.specs.Diagram.{Diagram}
 use Rattle.records.specs.Slots.{roleCount}
@@ -19,9 +20,13 @@ valueKnown d v = either (eqb v 0) (both (ltb ((v - 1) / 8) (length (d .valueType
 unfoldable pub valuesKnown : Diagram → MemoryRecord → ℕ → Bool
 valuesKnown d m o = all (λ s. valueKnown d (valueIn m o s)) (length (d .attributes))
 
--- each link of object o has an object as its target: no bit from the number of objects on
+-- each target in a mask is one of n objects
+unfoldable pub rowKnown : ℕ → ℕ → Bool
+rowKnown n mask = all (λ p. imp (bit p mask) (ltb p n)) 8
+
+-- each link of object o has an object as its target
 unfoldable pub targetsKnown : Diagram → MemoryRecord → ℕ → Bool
-targetsKnown d m o = all (λ s. ltb (getD (m .links) (o * 32 + s) 0) (2 ^ m .count)) (roleCount d)
+targetsKnown d m o = all (λ s. rowKnown (m .count) (getD (m .links) (o * 32 + s) 0)) (roleCount d)
 
 -- the type of object o, its values and its targets
 unfoldable pub objectKnown : Diagram → MemoryRecord → ℕ → Bool

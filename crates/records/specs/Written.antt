@@ -9,29 +9,21 @@ use mathlib.Core.Path.{_≡_}
 use lib.Dec.{eqb, ltb}
 use lib.ListN.{getD, length}
 use Rattle.laws.specs.Bits.{bit}
-use Rattle.laws.specs.Bounded.{first, tally}
 use Rattle.laws.specs.Connective.{both, either}
 use Rattle.laws.specs.Lists.{listed, picked}
 use Rattle.records.specs.declared.MemoryRecord.{MemoryRecord}
 use Rattle.files.specs.Diagram.{Diagram, attributeAt, typeAt, valueTypeAt}
-use Rattle.files.specs.Name.{before}
 use Rattle.files.specs.Record.{Link, Record, Value}
+use Rattle.records.specs.Places.{place}
 use Rattle.records.specs.Slots.{roleCount, roleName}
 
--- ---- slots in the order of their names: the rank of a slot is how many names come before its own
+-- ---- slots in the order of their names: the first slot of rank t, or the number of slots
 
-unfoldable pub attributeRank : Diagram → ℕ → ℕ
-attributeRank d s = tally (λ t. before (attributeAt d t .name) (attributeAt d s .name)) (length (d .attributes))
-
--- the first slot of rank t, or the number of attributes
 unfoldable pub attributePlace : Diagram → ℕ → ℕ
-attributePlace d t = first (λ s. eqb (attributeRank d s) t) (length (d .attributes))
-
-unfoldable pub roleRank : Diagram → ℕ → ℕ
-roleRank d e = tally (λ t. before (roleName d t) (roleName d e)) (roleCount d)
+attributePlace d t = place (λ s. attributeAt d s .name) (length (d .attributes)) t
 
 unfoldable pub rolePlace : Diagram → ℕ → ℕ
-rolePlace d t = first (λ e. eqb (roleRank d e) t) (roleCount d)
+rolePlace d t = place (roleName d) (roleCount d) t
 
 -- ---- values: number x is object x / 32, place x % 32
 
@@ -89,4 +81,4 @@ pub record Within (d : Diagram) (m : MemoryRecord) : Type 0 where
   pub few : m .count ≤ 8
   pub types : (o : ℕ) → o < m .count → getD (m .types) o 0 < length (d .types)
   pub values : (o s : ℕ) → o < m .count → s < length (d .attributes) → valueIn m o s ≢ 0 → IsValue d (valueIn m o s - 1)
-  pub targets : (o s p : ℕ) → o < m .count → s < roleCount d → linkIn m o s p ≡ true → p < m .count
+  pub targets : (o s p : ℕ) → o < m .count → s < roleCount d → p < 8 → linkIn m o s p ≡ true → p < m .count

@@ -1,4 +1,3 @@
-pub mod RankLaws
 pub mod IndexLaws
 pub mod WrittenLaws
 pub mod PutLaws

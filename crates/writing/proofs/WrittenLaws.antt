@@ -13,11 +13,10 @@ use borrow.Author.Tests.{eqb-true, eq-eqb, eqb-false, ltb-true, ltb-false, lt-lt
 use Rattle.laws.specs.Connective.{both, either}
 use Rattle.laws.specs.Lists.{picked}
 use Rattle.laws.proofs.ConnectiveLaws.{both-left, both-right, both-of, either-left, either-right, either-cases, known}
-use Rattle.laws.proofs.JoinedLaws.{length-each, getD-each}
 use Rattle.laws.proofs.PickedLaws.{picked-most, picked-rising}
-use Rattle.files.specs.Diagram.{Diagram, ValueType, attributeAt, typeAt}
+use Rattle.files.specs.Diagram.{Diagram, ValueType, attributeAt}
 use Rattle.files.specs.Name.{Name, before, sameName, validName}
-use Rattle.files.specs.Record.{Link, Value, objectCount, objectType}
+use Rattle.files.specs.Record.{Link, Value}
 use Rattle.files.specs.RecordBytes.{writeRecord}
 use Rattle.files.specs.RecordFile.{linkBefore, valueBefore, readRecord}
 use Rattle.files.specs.Refusal.{accepted}
@@ -28,20 +27,13 @@ use Rattle.files.proofs.RecordRoundTrip.{record-read-back}
 use Rattle.files.proofs.SizeLaws.{written-most}
 use Rattle.records.specs.declared.MemoryRecord.{MemoryRecord}
 use Rattle.records.specs.Slots.{roleCount, roleName}
-use Rattle.records.specs.Written.{Within, attributePlace, attributeRank, linkIn, linkIs, linkOn, recordOf, rolePlace, roleRank, valueIn, valueIs, valueOn}
-use Rattle.writing.specs.Places.{place, rank}
+use Rattle.records.specs.Written.{Within, attributePlace, linkIn, linkIs, linkOn, recordOf, rolePlace, valueIn, valueIs, valueOn}
+use Rattle.records.proofs.PlaceLaws.{attribute-place, role-place}
+use Rattle.records.proofs.RankLaws.{place-order}
+use Rattle.records.proofs.WrittenLaws.{written-count, written-object}
 use Rattle.writing.proofs.IndexLaws.{picked-each, rising-at}
-use Rattle.writing.proofs.RankLaws.{place-order}
 
 -- ---- the places of a diagram's attributes and roles
-
-pub attribute-place : (d : Diagram) (t : ℕ) → attributePlace d t ≡ place (λ s. attributeAt d s .name) (length (d .attributes)) t
-unfolding attributePlace attributeRank place rank
-attribute-place d t = refl
-
-pub role-place : (d : Diagram) (t : ℕ) → rolePlace d t ≡ place (roleName d) (roleCount d) t
-unfolding rolePlace roleRank place rank
-role-place d t = refl
 
 attribute-order : (d : Diagram) (t u : ℕ) → t < u → attributePlace d t < length (d .attributes) → attributePlace d u < length (d .attributes)
     → before (attributeAt d (attributePlace d t) .name) (attributeAt d (attributePlace d u) .name) ≡ true
@@ -132,7 +124,7 @@ module _ (d : Diagram) (m : MemoryRecord) where
       record {
         from-below = o;
         role-named = role-named d f (rolePlace d (x / 8 % 32)) (link-placed x e);
-        to-below = w .targets (x / 256) (rolePlace d (x / 8 % 32)) (x % 8) o (link-placed x e) (link-there x e);
+        to-below = w .targets (x / 256) (rolePlace d (x / 8 % 32)) (x % 8) o (link-placed x e) (omega arith) (link-there x e);
       }
 
   same-place : (i j : ℕ) → i / 8 % 32 ≡ j / 8 % 32 → sameName (roleName d (rolePlace d (i / 8 % 32))) (roleName d (rolePlace d (j / 8 % 32))) ≡ true
@@ -151,14 +143,6 @@ module _ (d : Diagram) (m : MemoryRecord) where
 
   -- ---- the record
 
-  pub written-count : objectCount (recordOf d m) ≡ m .count
-  unfolding objectCount recordOf
-  written-count = length-each (λ o. typeAt d (getD (m .types) o 0) .name) [] (m .count)
-
-  pub written-object : (o : ℕ) → o < m .count → objectType (recordOf d m) o ≡ typeAt d (getD (m .types) o 0) .name
-  unfolding recordOf
-  written-object o l = getD-each (λ o. typeAt d (getD (m .types) o 0) .name) [] (m .count) o l
-
   pub written-wf : WfDiagram d → Within d m → WfRecord (recordOf d m)
   unfolding recordOf
   written-wf f w =
@@ -166,14 +150,14 @@ module _ (d : Diagram) (m : MemoryRecord) where
       let noLink : Link = record { from = 0; role = []; to = 0 } in
       let few = w .few in
       record {
-        few = rw written-count (w .few);
-        named = λ o l. let h : o < m .count = rw written-count at l in rw (written-object o h) (f .type (getD (m .types) o 0) (w .types o h) .named);
+        few = rw (written-count d m) (w .few);
+        named = λ o l. let h : o < m .count = rw (written-count d m) at l in rw (written-object d m o h) (f .type (getD (m .types) o 0) (w .types o h) .named);
         few-values = omega (arith, picked-most (valueOn d m) (valueIs d m) (m .count * 32));
-        value = λ i l. rw written-count (picked-each (WfValue (m .count)) (valueOn d m) (valueIs d m) noValue (m .count * 32) (value-wf f w) i l);
+        value = λ i l. rw (written-count d m) (picked-each (WfValue (m .count)) (valueOn d m) (valueIs d m) noValue (m .count * 32) (value-wf f w) i l);
         values-rise = rising-at valueBefore noValue (picked (valueOn d m) (valueIs d m) (m .count * 32))
             (picked-rising valueBefore (valueOn d m) (valueIs d m) (m .count * 32) (λ i j l h. value-rises i j l));
         few-links = omega (arith, picked-most (linkOn d m) (linkIs d) (m .count * 256));
-        link = λ i l. rw written-count (picked-each (WfLink (m .count)) (linkOn d m) (linkIs d) noLink (m .count * 256) (link-wf f w) i l);
+        link = λ i l. rw (written-count d m) (picked-each (WfLink (m .count)) (linkOn d m) (linkIs d) noLink (m .count * 256) (link-wf f w) i l);
         links-rise = rising-at linkBefore noLink (picked (linkOn d m) (linkIs d) (m .count * 256))
             (picked-rising linkBefore (linkOn d m) (linkIs d) (m .count * 256) (λ i j l h. link-rises i j l));
       }

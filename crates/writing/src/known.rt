@@ -4,7 +4,7 @@ ghost use Prim.Native.Nat.{_^_, _<_, _≤_};
 ghost use lib.Dec.{ltb};
 ghost use Rattle.diagrams.specs.Held.{Held};
 ghost use Rattle.diagrams.specs.View.{diagramOf};
-ghost use Rattle.records.specs.WithinTest.{valueKnown, valuesKnown, targetsKnown, objectKnown, within};
+ghost use Rattle.records.specs.WithinTest.{valueKnown, valuesKnown, rowKnown, targetsKnown, objectKnown, within};
 ghost use Rattle.writing.specs.Writes.{writable};
 use diagrams::StoredDiagram;
 use records::MemoryRecord;
@@ -58,6 +58,14 @@ fn is_below(x: u8, n: usize) -> bool
     laws::wide(x) < n
 }
 
+// Each target in the mask is one of n objects.
+fn row_known(n: usize, mask: u8) -> bool
+    requires { ⌜ n ≤ 8 ⌝ }
+    ensures { λ r. ⌜ r ≡ rowKnown n mask ⌝ }
+{
+    laws::wide(mask) < power(n)
+}
+
 // Each link of object o has an object as its target.
 fn targets_known(d: StoredDiagram, m: MemoryRecord, o: usize) -> bool
     requires { ⌜ Held d × ((m .count ≤ 8) × (o < 8)) ⌝ }
@@ -65,10 +73,10 @@ fn targets_known(d: StoredDiagram, m: MemoryRecord, o: usize) -> bool
 {
     let associations = d.associations;
     let end = associations.count * 2;
-    let most = power(m.count);
+    let n = m.count;
     let mut s = 0;
     while s < end {
-        if !is_below(m.links[o * 32 + s], most) {
+        if !row_known(n, m.links[o * 32 + s]) {
             return false;
         }
         s += 1;
