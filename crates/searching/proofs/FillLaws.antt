@@ -19,7 +19,8 @@ use Rattle.type_tables.specs.Fits.{spotFits}
 use Rattle.searching.specs.Answer.{Answer, Tells}
 use Rattle.searching.specs.Ready.{Ready}
 use Rattle.searching.specs.declared.Found.{Found}
-use Rattle.searching.proofs.Assumed.{fits-agree, spot-fits, wanted-witness}
+use Rattle.type_tables.proofs.SpotLaws.{fits-agree, spot-fits}
+use Rattle.fillings.proofs.WrittenLaws.{wanted-witness}
 use Rattle.searching.proofs.PutLaws.{alike-sized, alike-sym, alike-trans, row-size, same, type-spot}
 use Rattle.searching.proofs.RowLaws.{into, leaf}
 

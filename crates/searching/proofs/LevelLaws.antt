@@ -11,7 +11,8 @@ use Rattle.fillings.specs.Memory.{memoryOf}
 use Rattle.fillings.specs.Spots.{Blank, Choices, Completes, blank, spots}
 use Rattle.searching.specs.Answer.{Answer, Level}
 use Rattle.searching.specs.declared.Found.{Found}
-use Rattle.searching.proofs.Assumed.{legal-completes, memory-stands}
+use Rattle.fillings.proofs.ChoiceLaws.{legal-completes}
+use Rattle.fillings.proofs.MemoryLaws.{memory-stands}
 use Rattle.searching.proofs.RowLaws.{zeros}
 
 blank-count : (n : ℕ) → blank n .count ≡ n

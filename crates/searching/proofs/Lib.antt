@@ -1,6 +1,5 @@
 pub mod StepLaws
 pub mod LimitLaws
-pub mod Assumed
 pub mod RowLaws
 pub mod PutLaws
 pub mod SkipLaws

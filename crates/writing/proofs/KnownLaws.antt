@@ -19,9 +19,13 @@ use Rattle.diagrams.specs.View.{diagramOf, valueTypeIn}
 use Rattle.diagrams.proofs.ViewLaws.{association-count, attribute-count, type-count, value-type-at, value-type-count}
 use Rattle.records.specs.declared.MemoryRecord.{MemoryRecord}
 use Rattle.records.specs.Written.{Within, constantKnown, recordOf, valueIn}
-use Rattle.records.specs.WithinTest.{objectKnown, targetsKnown, valueKnown, valuesKnown, within}
-use Rattle.records.proofs.WithinLaws.{within-sound}
+use Rattle.records.specs.WithinTest.{objectKnown, rowKnown, targetsKnown, valueKnown, valuesKnown, within}
+use Rattle.records.proofs.WithinLaws.{row-below, within-sound}
 use Rattle.writing.specs.Writes.{Writes, WritesWithin, writable}
+
+-- a mask of targets by one comparison
+pub row-by : (n x : ℕ) {w p : ℕ} → w ≡ x → w < 256 → p ≡ 2 ^ n → ltb w p ≡ rowKnown n x
+row-by n x e l q = ap (ltb _) q ∙ row-below n _ l ∙ ap (rowKnown n) e
 
 -- the code's strict `|` and `&` are the connectives
 or-either : (a b c : Bool) → a || (b && c) ≡ either a (both b c)
@@ -69,9 +73,9 @@ module _ (d : StoredDiagram) where
     unfolding valuesKnown
     values-stored = ap (all (λ s. valueKnown (diagramOf d) (valueIn m o s))) (sym (attribute-count d))
 
-    pub targets-stored : (n : ℕ) → n ≡ 2 ^ m .count → all (λ s. ltb (getD (m .links) (o * 32 + s) 0) n) (d .associations .count * 2) ≡ targetsKnown (diagramOf d) m o
+    pub targets-stored : all (λ s. rowKnown (m .count) (getD (m .links) (o * 32 + s) 0)) (d .associations .count * 2) ≡ targetsKnown (diagramOf d) m o
     unfolding targetsKnown
-    targets-stored n e = ap₂ (λ (k a : ℕ). all (λ s. ltb (getD (m .links) (o * 32 + s) 0) k) (a * 2)) e (sym (association-count d))
+    targets-stored = ap (λ (a : ℕ). all (λ s. rowKnown (m .count) (getD (m .links) (o * 32 + s) 0)) (a * 2)) (sym (association-count d))
 
     pub object-stored : both (ltb (getD (m .types) o 0) (d .types .count)) (both (valuesKnown (diagramOf d) m o) (targetsKnown (diagramOf d) m o)) ≡ objectKnown (diagramOf d) m o
     unfolding objectKnown
