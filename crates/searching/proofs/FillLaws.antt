@@ -20,8 +20,9 @@ use Rattle.searching.specs.Answer.{Answer, Tells}
 use Rattle.searching.specs.Ready.{Ready}
 use Rattle.searching.specs.declared.Found.{Found}
 use Rattle.type_tables.proofs.SpotLaws.{fits-agree, spot-fits}
+use Rattle.fillings.proofs.SpotLaws.{row-length, spot-type}
 use Rattle.fillings.proofs.WrittenLaws.{wanted-witness}
-use Rattle.searching.proofs.PutLaws.{alike-sized, alike-sym, alike-trans, row-size, same, type-spot}
+use Rattle.searching.proofs.PutLaws.{alike-sized, alike-sym, alike-trans, same}
 use Rattle.searching.proofs.RowLaws.{into, leaf}
 
 -- no completion whose value at the spot is below v is wanted
@@ -36,7 +37,7 @@ module _ {old new : Diagram} {limits : List ℕ} {m : MemoryRecord} {at : ℕ} w
     sound = t .holds;
     complete = λ h y c w. t .fails h
         (wanted-witness (subst (Wanted old new)
-        (same m y (c .alike) (leaf limits (spots m) (spots y) (row-size m z) (rw e at (c .filled)))) w));
+        (same m y (c .alike) (leaf limits (spots m) (spots y) (row-length m z) (rw e at (c .filled)))) w));
   }
 
   -- every value is shut out
@@ -58,7 +59,7 @@ module _ {old new : Diagram} {limits : List ℕ} {m : MemoryRecord} {at : ℕ} w
         (λ e. a .complete h y (record {
           alike = alike-trans s m y (alike-sym m s (p .alike)) (c .alike);
           filled = subst (λ (x : List ℕ). Filled limits x (at + 1) (spots y)) (ap (set (spots m) at) e ∙ sym (p .row))
-              (into limits (spots m) at (spots y) (omega (arith, row-size m z)) (c .filled));
+              (into limits (spots m) at (spots y) (omega (arith, row-length m z)) (c .filled));
         }))
         (below y c) (last {k = getD (spots y) at 0} {n = v} (omega arith))
 
@@ -70,7 +71,7 @@ module _ {old new : StoredDiagram} {kinds sizes dues targets lows highs limits :
   unfit {v = v} choice e y c q w =
       let zy = alike-sized m y z (c .alike) in
       let kept = fits-agree kinds k sizes dues targets lows highs (m .types) (y .types) (m .count) at v spot
-      (λ i a b. sym (type-spot m i z b) ∙ sym (c .filled .kept i a) ∙ type-spot y i zy b) in
+      (λ i a b. sym (spot-type m z i b) ∙ sym (c .filled .kept i a) ∙ spot-type y zy i b) in
       let fits = spot-fits at (w .stands) (w .legal) zy (ready .tables) spot
       (λ h. choice (ready .choices .exact at spot ∙ ap (λ (n : ℕ). choices (diagramOf old) n at) (sym (c .alike .count)) ∙ h)) in
       false≢true (sym e ∙ kept

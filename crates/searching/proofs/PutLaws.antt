@@ -35,12 +35,6 @@ same m y a e =
     let l = back (y .values) (y .links) (m .values) (m .links) (a .values) q in
     λ i. record { count = a .count i; types = t i; values = v i; links = l i; strays = a .strays i }
 
-pub row-size : (m : MemoryRecord) → Sized m → length (spots m) ≡ 520
-row-size m z = simp length-append (omega (arith, z .types, z .values, z .links))
-
-pub type-spot : (m : MemoryRecord) (i : ℕ) → Sized m → i < 8 → getD (spots m) i 0 ≡ getD (m .types) i 0
-type-spot m i z h = List·getD-append (m .types) (m .values ++ m .links) 0 i (omega (arith, z .types))
-
 -- the spots past the one that is stored stay blank
 pub blank-put : {m s : MemoryRecord} {at j v : ℕ} → at ≤ j → Put m j v s → Blank m at → Blank s (j + 1)
 blank-put {m = m} {j = j} {v = v} l p b i h = rw (p .row) (getD-set-other (spots m) j i v 0 (omega arith) ∙ b i (omega arith))

@@ -290,16 +290,6 @@ fn word(s: &[u32], i: usize) -> u32
     if i < s.len() { s[i] } else { 0 }
 }
 
-// Type t is in the set.
-fn has_type(set: u32, t: u8) -> bool
-    ensures { λ r. ⌜ r ≡ bit t set ⌝ }
-{
-    if t < 32 {
-        return laws::has32(set, t as u32);
-    }
-    false
-}
-
 // Object p, if it is a target in the mask v, has a type of the set.
 fn is_target(set: u32, types: &[u8; 8], v: u8, p: u8) -> bool
     requires { ⌜ p < 8 ⌝ }
@@ -308,7 +298,7 @@ fn is_target(set: u32, types: &[u8; 8], v: u8, p: u8) -> bool
     if !laws::has8(v, p) {
         return true;
     }
-    has_type(set, laws::byte(types, laws::wide(p)))
+    type_tables::is_in(set, laws::byte(types, laws::wide(p)))
 }
 
 // Each target has.

@@ -5,12 +5,11 @@ use Prim.Native.Nat.{_%_, _*_, _+_, _-_, _/_, _<_, _^_, _≤_, ℕ}
 use native.Mathlib.Decide.{decLt}
 use native.Mathlib.Omega.{arith}
 use mathlib.Core.Bool.{Bool, cond, false, not, true}
-use mathlib.Core.List.{List, _++_}
+use mathlib.Core.List.{List}
 use mathlib.Core.Logic.{_≢_}
 use mathlib.Core.Path.{_∙_, _≡_, ap, ap₂, refl, sym}
 use lib.Dec.{eqb, leb, ltb}
-use lib.ListN.{List·getD-append, getD, length}
-use lib.Seq.{getD-append-add}
+use lib.ListN.{getD, length}
 use borrow.Author.Tests.{le-ltb, lt-ltb, ltb-true}
 use Rattle.laws.specs.Bits.{bit}
 use Rattle.laws.specs.Bounded.{tally}
@@ -24,6 +23,7 @@ use Rattle.records.specs.declared.MemoryRecord.{MemoryRecord}
 use Rattle.rules.specs.Judge.{Legal}
 use Rattle.memory_rules.specs.Stands.{Stands}
 use Rattle.fillings.specs.Spots.{Sized, choices, spots}
+use Rattle.fillings.proofs.SpotLaws.{choices-link, choices-type, choices-value, spot-link, spot-type, spot-value}
 use Rattle.type_tables.specs.Fits.{metBy, newType, rowFits, rowFor, spotFits, stands, typeFits, valueFits, valueFor}
 use Rattle.type_tables.specs.TypeTables.{TypeTables}
 use Rattle.type_tables.proofs.RowSpotLaws.{row-fits}
@@ -95,29 +95,10 @@ fits-agree kinds k sizes dues targets lows highs types others n spot v small f =
         ∙ row-agree types others targets lows highs ((spot - 264) / 32) ((spot - 264) % 32) v (omega arith) (λ i b. f i (omega arith) b)
         ∙ sym (at-row kinds k sizes dues targets lows highs others n spot v (omega arith))
 
--- ---- what stands at a spot of a record
+-- ---- where a value or links stand
 
-module _ (m : MemoryRecord) (sized : Sized m) (spot : ℕ) where
-  type-at : spot < 8 → getD (spots m) spot 0 ≡ getD (m .types) spot 0
-  type-at l = let eight : length (m .types) ≡ 8 = sized .types in List·getD-append (m .types) (m .values ++ m .links) 0 spot (omega arith)
-
-  value-at : 8 ≤ spot → spot < 264 → getD (spots m) spot 0 ≡ getD (m .values) ((spot - 8) / 32 * 32 + (spot - 8) % 32) 0
-  value-at a l =
-      let eight : length (m .types) ≡ 8 = sized .types in
-      let wide : length (m .values) ≡ 256 = sized .values in
-      let far : spot ≡ length (m .types) + (spot - 8) = omega arith in
-      let place : spot - 8 ≡ (spot - 8) / 32 * 32 + (spot - 8) % 32 = omega arith in
-      ap (λ (x : ℕ). getD (spots m) x 0) far ∙ getD-append-add (m .types) (m .values ++ m .links) (spot - 8) 0
-      ∙ List·getD-append (m .values) (m .links) 0 (spot - 8) (omega arith) ∙ ap (λ (x : ℕ). getD (m .values) x 0) place
-
-  links-at : 264 ≤ spot → getD (spots m) spot 0 ≡ getD (m .links) ((spot - 264) / 32 * 32 + (spot - 264) % 32) 0
-  links-at a =
-      let eight : length (m .types) ≡ 8 = sized .types in
-      let wide : length (m .values) ≡ 256 = sized .values in
-      let far : spot ≡ length (m .types) + (length (m .values) + (spot - 264)) = omega arith in
-      let place : spot - 264 ≡ (spot - 264) / 32 * 32 + (spot - 264) % 32 = omega arith in
-      ap (λ (x : ℕ). getD (spots m) x 0) far ∙ getD-append-add (m .types) (m .values ++ m .links) (length (m .values) + (spot - 264)) 0
-      ∙ getD-append-add (m .values) (m .links) (spot - 264) 0 ∙ ap (λ (x : ℕ). getD (m .links) x 0) place
+place : (x : ℕ) → x ≡ x / 32 * 32 + x % 32
+place x = omega arith
 
 -- ---- what is open
 
@@ -127,16 +108,13 @@ opened false n h = absurd (h refl)
 
 module _ (d : Diagram) (n spot : ℕ) (open-spot : choices d n spot ≢ 1) where
   open-type : spot < 8 → spot < n
-  unfolding choices
-  open-type l = ltb-true _ _ (opened (ltb spot n) (length (d .types)) (rw (lt-ltb spot 8 l) at open-spot))
+  open-type l = ltb-true _ _ (opened (ltb spot n) (length (d .types)) (λ e. open-spot (choices-type d n spot l ∙ e)))
 
   open-value : 8 ≤ spot → spot < 264 → both (ltb ((spot - 8) / 32) n) (ownAttribute d ((spot - 8) % 32)) ≡ true
-  unfolding choices
-  open-value a l = opened _ (1 + length (d .valueTypes) * 8) (rw (le-ltb spot 8 a, lt-ltb spot 264 l) at open-spot)
+  open-value a l = opened _ (1 + length (d .valueTypes) * 8) (λ e. open-spot (choices-value d n spot a l ∙ e))
 
   open-row : 264 ≤ spot → both (ltb ((spot - 264) / 32) n) (ownRole d ((spot - 264) % 32)) ≡ true
-  unfolding choices
-  open-row a = let b : 8 ≤ spot = omega arith in opened _ (2 ^ n) (rw (le-ltb spot 8 b, le-ltb spot 264 a) at open-spot)
+  open-row a = opened _ (2 ^ n) (λ e. open-spot (choices-link d n spot a ∙ e))
 
 -- ---- a legal record
 
@@ -149,15 +127,15 @@ spot-fits {d} {r} {m} {kinds} {sizes} {dues} {targets} {lows} {highs} spot h leg
     go : Dec (spot < 8) → Dec (spot < 264) → spotFits kinds (length (d .types)) sizes dues targets lows highs (m .types) (m .count) spot (getD (spots m) spot 0) ≡ true
     go (yes l) c =
         at-type kinds (length (d .types)) sizes dues targets lows highs (m .types) (m .count) spot (getD (spots m) spot 0) l
-        ∙ ap (typeFits kinds (length (d .types)) (m .types) (m .count) spot) (type-at m sized spot l)
+        ∙ ap (typeFits kinds (length (d .types)) (m .types) (m .count) spot) (spot-type m sized spot l)
         ∙ type-fits kinds spot h legal (tables .of-kinds) (open-type d (m .count) spot open-spot l)
     go (no l) (yes c) =
         let e = open-value d (m .count) spot open-spot (omega arith) c in
         at-value kinds (length (d .types)) sizes dues targets lows highs (m .types) (m .count) spot (getD (spots m) spot 0) (omega arith) c
-        ∙ ap (valueFits sizes dues (m .types) ((spot - 8) / 32) ((spot - 8) % 32)) (value-at m sized spot (omega arith) c)
+        ∙ ap (valueFits sizes dues (m .types) ((spot - 8) / 32) ((spot - 8) % 32)) (spot-value m sized spot (omega arith) c ∙ ap (λ (x : ℕ). getD (m .values) x 0) (place (spot - 8)))
         ∙ value-fits sizes dues ((spot - 8) / 32) ((spot - 8) % 32) h legal (tables .of-sizes) (tables .of-dues) (ltb-true _ _ (both-left _ _ e)) (both-right _ _ e)
     go (no l) (no c) =
         let e = open-row d (m .count) spot open-spot (omega arith) in
         at-row kinds (length (d .types)) sizes dues targets lows highs (m .types) (m .count) spot (getD (spots m) spot 0) (omega arith)
-        ∙ ap (rowFits targets lows highs (m .types) ((spot - 264) / 32) ((spot - 264) % 32)) (links-at m sized spot (omega arith))
+        ∙ ap (rowFits targets lows highs (m .types) ((spot - 264) / 32) ((spot - 264) % 32)) (spot-link m sized spot (omega arith) ∙ ap (λ (x : ℕ). getD (m .links) x 0) (place (spot - 264)))
         ∙ row-fits targets lows highs ((spot - 264) / 32) ((spot - 264) % 32) h legal (tables .of-targets) (tables .of-lows) (tables .of-highs) (ltb-true _ _ (both-left _ _ e)) (both-right _ _ e)

@@ -14,7 +14,7 @@ ghost use Rattle.type_tables.specs.TypeTables.{Dues, Targets, Lows, High
 // ---- values
 
 // Type k is in the set.
-fn is_in(set: u32, k: u8) -> bool
+pub fn is_in(set: u32, k: u8) -> bool
     ensures { λ r. ⌜ r ≡ bit k set ⌝ }
 {
     if k < 32 {
