@@ -7,3 +7,4 @@ pub mod SkipLaws
 pub mod FillLaws
 pub mod ReadyLaws
 pub mod LevelLaws
+pub mod WitnessLaws
