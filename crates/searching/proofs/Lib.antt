@@ -6,3 +6,4 @@ pub mod SkipLaws
 pub mod FillLaws
 pub mod ReadyLaws
 pub mod LevelLaws
+pub mod WitnessLaws

@@ -15,7 +15,7 @@ ghost use Rattle.laws.specs.Bits.{bit};
 ghost use Rattle.laws.specs.Bounded.{all};
 ghost use Rattle.laws.specs.Connective.{imp};
 ghost use Rattle.searching.specs.Choice.{choiceIn};
-ghost use Rattle.searching.specs.Answer.{Tells, Answer, Level};
+ghost use Rattle.searching.specs.Answer.{Tells, Parts, Answer, Level};
 ghost use Rattle.searching.specs.Ready.{Skips, Ready};
 use diagrams::StoredDiagram;
 use records::MemoryRecord;
@@ -370,13 +370,30 @@ fn spot_fits<'a>(
 
 // ---- a full record
 
+// The record of a file is legal for old and illegal for new.
+fn is_parted(file: &[u8], old: StoredDiagram, new: StoredDiagram) -> bool
+    requires { ⌜ Held old × Held new ⌝ }
+    ensures { λ b. ⌜ Parts (diagramOf old) (diagramOf new) (now (file .entry)) b ⌝ }
+{
+    let before = judging::judge(old, file);
+    if before.rule != 0 {
+        return false;
+    }
+    let after = judging::judge(new, file);
+    after.rule != 0
+}
+
 // What m says, written as a file, is legal for old and illegal for new.
 fn is_witness(old: StoredDiagram, new: StoredDiagram, m: MemoryRecord) -> bool
     requires { ⌜ Held old × Held new ⌝ }
     ensures { λ b. ⌜ Tells (Witness (diagramOf old) (diagramOf new) m) b ⌝ }
 {
-    // to be written: write_record into a local buffer, judge the file under both
-    false
+    let mut file = [0u8; 59300];
+    let n = writing::write_record(old, m, &mut file);
+    if n == 0 {
+        return false;
+    }
+    is_parted(laws::front(&file, n), old, new)
 }
 
 // ---- the search
