@@ -1,1 +1,4 @@
+pub mod SoughtLaws
+pub mod CompareLaws
+pub mod HandOutLaws
 pub mod WitnessLaws
