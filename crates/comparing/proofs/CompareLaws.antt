@@ -17,7 +17,8 @@ use Rattle.diagrams.specs.declared.StoredDiagram.{StoredDiagram}
 use Rattle.diagrams.specs.View.{diagramOf}
 use Rattle.records.specs.declared.MemoryRecord.{MemoryRecord}
 use Rattle.records.specs.Written.{recordOf}
-use Rattle.writing.proofs.WrittenLaws.{written-count, written-read-back}
+use Rattle.records.proofs.WrittenLaws.{written-count}
+use Rattle.writing.proofs.WrittenLaws.{written-read-back}
 use Rattle.fillings.specs.Wanted.{Witness}
 use Rattle.type_tables.specs.TypeTables.{Dues, Highs, Lows, Targets, TypeTables}
 use Rattle.type_tables.proofs.StoredLaws.{stored-kinds, stored-sizes}
