@@ -3,18 +3,14 @@
 -- "difference" holds the witness that was found, and hand out writes it.
 -- Assumes nothing.
 use Prim.Native.Nat.{_≤_, suc, ℕ}
-use native.Mathlib.Nat.{le-antisymm}
 use native.Mathlib.Omega.{arith}
 use mathlib.Core.Bool.{Bool, cond, false, false≢true, not, true, true≢false}
-use mathlib.Core.List.{List, [], _++_, _∷_}
-use mathlib.Core.Option.{Option, none, some}
+use mathlib.Core.List.{List, [], _∷_}
+use mathlib.Core.Option.{Option, Option·map, none, some}
 use mathlib.Core.Path.{_∙_, _≡_, ap, refl, subst, subst₂, sym}
 use lib.Dec.{leb, ltb}
-use lib.ListN.{drop, length, take}
-use lib.Seq.{drop-append-seam, take-append-seam}
+use lib.ListN.{length}
 use borrow.Author.Tests.{le-leb}
-use borrow.Fn.PlainCycle.{is}
-use Rattle.laws.specs.Connective.{same}
 use Rattle.laws.specs.Lists.{over}
 use Rattle.files.specs.Diagram.{Diagram}
 use Rattle.files.specs.DiagramFile.{readDiagram}
@@ -22,7 +18,9 @@ use Rattle.files.specs.Record.{Record, objectCount}
 use Rattle.files.specs.RecordBytes.{writeRecord}
 use Rattle.files.specs.RecordFile.{readRecord}
 use Rattle.files.specs.Refusal.{Answer, accepted, refused}
-use Rattle.comparing.specs.Difference.{Finds, Gap, Least}
+use Rattle.comparing.specs.Difference.{Finds, Least}
+use Rattle.comparing.specs.HandedOut as comparing
+use Rattle.comparing.proofs.WitnessLaws.{least-out, one-count}
 use Rattle.bench.specs.Bench.{Bench, Call, Clear, Compare, Compile, Evaluate, HandOut, Judge, Load, Outcome, Reply, difference, done, dropWitness, firstFalse, gives, noDifference, placeOf, records, refusal, rule, storeWitness, withPlace, written}
 use Rattle.bench.specs.HandedOut.{HandedOut, HandsOut, OneReply}
 use Rattle.bench.specs.Row.{Event, Keeps, Row, dropsOrStores, isRefusal}
@@ -162,23 +160,20 @@ handed : (b : Bench) (old new : Diagram) (bound n : ℕ) (o : Outcome) (f : Foun
     → HandedOut old new n buffer
     (cond t (record { reply = written (length (writeRecord (f .witness))); bench = storeWitness (f .witness) b; buffer = over (writeRecord (f .witness)) buffer })
     (record { reply = refusal 20; bench = storeWitness (f .witness) b; buffer = buffer }))
-unfolding over isRefusal
+unfolding isRefusal
 handed b old new bound n o f buffer true e =
-    let file = writeRecord (f .witness) in
     record {
       enough = λ h. refl;
-      given = λ m q.
-          let k : length (writeRecord (f .witness)) ≡ m = let z = ap lengthOf q in omega (arith, z) in (
-            f .witness,
-            subst (λ (x : List ℕ). Gap old new x (f .witness))
-                (sym (ap (λ (i : ℕ). take i (file ++ drop (length file) buffer)) (sym k) ∙ take-append-seam file (drop (length file) buffer))) (f .is-least .gap),
-            f .count,
-          );
-      untouched = λ m q.
-          let k : length (writeRecord (f .witness)) ≡ m = let z = ap lengthOf q in omega (arith, z) in
-          subst (λ (i : ℕ). drop i (file ++ drop (length file) buffer) ≡ drop i buffer) k (drop-append-seam file (drop (length file) buffer));
-      least = λ g r h. subst (λ (i : ℕ). i ≤ objectCount r) (f .count) (f .is-least .least g r h);
+      given = λ m q. let g = out m (length-is m q) in (g .read, g .gap, g .objects);
+      untouched = λ m q. out m (length-is m q) .untouched;
+      least = out _ refl .least;
     }
+  where
+    out : (m : ℕ) → m ≡ length (writeRecord (f .witness)) → comparing.HandedOut old new n buffer m (over (writeRecord (f .witness)) buffer)
+    out m q = least-out old new bound n (f .witness) buffer m (over (writeRecord (f .witness)) buffer) (f .is-least) (f .count) q refl
+
+    length-is : (m : ℕ) → written (length (writeRecord (f .witness))) ≡ written m → m ≡ length (writeRecord (f .witness))
+    length-is m q = let z : suc (length (writeRecord (f .witness))) ≡ suc m = ap lengthOf q in omega arith
 handed b old new bound n o f buffer false e =
     record {
       enough = λ h. absurd (true≢false (sym (le-leb 60000 (length buffer) h) ∙ e));
@@ -199,14 +194,19 @@ hands-out b old new bound n o eo en s h es c r k buffer p q =
 
 -- ---- one reply
 
+-- the reply that says so many objects, or none
+abbrev reply : Option ℕ → Reply
+reply none = noDifference
+reply (some n) = difference n
+
+found-reply : (b : Bench) (x : Option Record) → found b x .reply ≡ reply (Option·map objectCount x)
+unfolding found
+found-reply b none = refl
+found-reply b (some w) = refl
+
 one-found : (b : Bench) (old new : Diagram) (bound : ℕ) (x y : Option Record) → Finds old new bound x → Finds old new bound y
     → found b x .reply ≡ found b y .reply
-unfolding found
-one-found b old new bound none none f g = refl
-one-found b old new bound none (some w) f g = let l = f (writeRecord w) w (g .gap) in let m = g .bounded in absurd (omega arith)
-one-found b old new bound (some w) none f g = let l = g (writeRecord w) w (f .gap) in let m = f .bounded in absurd (omega arith)
-one-found b old new bound (some v) (some w) f g =
-    let l = f .least (writeRecord w) w (g .gap) in let m = g .least (writeRecord v) v (f .gap) in ap difference (le-antisymm l m)
+one-found b old new bound x y f g = found-reply b x ∙ ap reply (one-count old new bound x y f g) ∙ sym (found-reply b y)
 
 one : (b : Bench) (t : Bool) (x y : Option Diagram) (bound : ℕ) (o p : Outcome) → Compares b t x y bound o → Compares b t x y bound p → o .reply ≡ p .reply
 one b true x y bound o p s u = ap (λ (q : Outcome). q .reply) (s ∙ sym u)

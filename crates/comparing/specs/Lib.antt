@@ -1,3 +1,4 @@
 pub mod Difference
+pub mod HandedOut
 pub mod Sought
 pub mod Compared
