@@ -17,7 +17,7 @@ use Rattle.files.specs.RecordBytes.{writeRecord}
 use Rattle.files.proofs.RecordWellFormed.{read-wf}
 use Rattle.files.proofs.SizeLaws.{written-most}
 use Rattle.records.specs.Written.{recordOf}
-use Rattle.writing.proofs.WrittenLaws.{written-count}
+use Rattle.records.proofs.WrittenLaws.{written-count}
 use Rattle.searching.specs.declared.Found.{Found}
 use Rattle.comparing.specs.Compared.{Compares, HandsOut, witnessIn}
 use Rattle.comparing.specs.Difference.{Finds, Gap, Least}
