@@ -89,7 +89,7 @@ module _ (d : Diagram) (r : Record) (names : WfRecord r) where
     pub value-coded : (i : ℕ) → i < length (r .values) → codeOf d (valueAt r i .valueType) (valueAt r i .constant) < length (d .valueTypes) * 8
     unfolding rule4 rule4At siteOf declared
     value-coded i l =
-        let a = any-at _ (length (d .attributes)) (value-declared d r names (keeps .third) i l) in
+        let a = any-at _ (length (d .attributes)) (value-declared d r (keeps .third) i l (names .value i l .object-below)) in
         belongs-below d diagram (valueAt r i) (attributeAt d (a .0) .valueType) (diagram .attribute (a .0) (a .1) .value-type-known)
         (imp-use _ _ (all-at _ (length (d .attributes)) (all-at (λ j. rule4At d (siteOf r) (valueAt r j)) (length (r .values)) (keeps .fourth) i l) (a .0) (a .1)) (a .2))
 

@@ -5,3 +5,4 @@ pub mod ChoiceLaws
 pub mod LinkLaws
 pub mod ValueLaws
 pub mod WrittenLaws
+pub mod LegalSize

@@ -100,6 +100,6 @@ module _ (d : Diagram) (r : Record) (m : MemoryRecord) (h : Stands d r m) where
           let from : linkAt r (i .0) .from < objectCount r = wf .from-below in
           let to : linkAt r (i .0) .to < objectCount r = wf .to-below in
           let count : m .count ≡ objectCount r = h .count in
-          let there : roleSlot d w < roleCount d = subst (λ (v : Name). roleSlot d v < roleCount d) b (link-known d r m h (e .fifth) (i .0) (i .1)) in
+          let there : roleSlot d w < roleCount d = subst (λ (v : Name). roleSlot d v < roleCount d) b (link-known d r (e .fifth) (i .0) (i .1)) in
           let x = link-back o w p (omega arith) (omega arith) there q in
           any-of (linkHere o w p) (m .count * 256) (x .0) (x .1) (x .2)

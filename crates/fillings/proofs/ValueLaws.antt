@@ -132,12 +132,12 @@ module _ (d : Diagram) (r : Record) (m : MemoryRecord) (h : Stands d r m) where
     value-back v i l q =
         let o : ℕ = valueAt r i .object in
         let s : ℕ = attributeSlot d (valueAt r i .attribute) in
-        let there : s < length (d .attributes) = value-known d r m h (legal-keeps d r legal .third) i l in
+        let object : valueAt r i .object < objectCount r = h .wf-record .value i l .object-below in
+        let there : s < length (d .attributes) = value-known d r (legal-keeps d r legal .third) i l object in
         let own : ownAttribute d s ≡ true = attribute-own d (valueAt r i .attribute) there in
         let t = attribute-placed d s own in
         let few : length (d .attributes) ≤ 32 = h .wf-diagram .few-attributes in
         let below : t .0 < length (d .attributes) = t .1 in
-        let object : valueAt r i .object < objectCount r = h .wf-record .value i l .object-below in
         let count : m .count ≡ objectCount r = h .count in
         let x : ℕ = o * 32 + t .0 in
         let a : x / 32 ≡ o = omega arith in

@@ -1,3 +1,4 @@
 pub mod Memory
+pub mod Ordered
 pub mod Spots
 pub mod Wanted

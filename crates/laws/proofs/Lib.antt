@@ -1,6 +1,7 @@
 pub mod ConnectiveLaws
 pub mod BoundedLaws
 pub mod CountLaws
+pub mod RisingLaws
 pub mod FirstLaws
 pub mod LoopLaws
 pub mod SearchLaws

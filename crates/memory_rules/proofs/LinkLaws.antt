@@ -32,6 +32,19 @@ use Rattle.memory_rules.proofs.AgreeLaws.{rule5At-agrees}
 use Rattle.memory_rules.proofs.SiteInLaws.{agrees, link-kept, object-small}
 use Rattle.memory_rules.proofs.SlotLaws.{own-role-below, own-role-slot, role-most, role-name, role-own, target-known}
 
+module _ (d : Diagram) (r : Record) where
+  -- a link that a side of an association permits has a role of the diagram
+  permitted-known : (s : Side) (a : ℕ) (k : Link) → a < length (d .associations) → permits d (siteOf r) s (associationAt d a) k ≡ true → roleSlot d (k .role) < roleCount d
+  unfolding permits
+  permitted-known s a k l e = target-known d (k .role) s a l (both-left _ _ (both-right _ _ e))
+
+  -- by rule 5 the diagram has the role of each link
+  pub link-known : rule5 d (siteOf r) ≡ true → (i : ℕ) → i < length (r .links) → roleSlot d (linkAt r i .role) < roleCount d
+  unfolding rule5 rule5At siteOf
+  link-known f i l =
+      let a = any-at _ (length (d .associations)) (all-at (λ j. rule5At d (siteOf r) (linkAt r j)) (length (r .links)) f i l) in
+      ⊎-elim (permitted-known r2 (a .0) (linkAt r i) (a .1)) (permitted-known r1 (a .0) (linkAt r i) (a .1)) (either-cases _ _ (a .2))
+
 module _ (d : Diagram) (r : Record) (m : MemoryRecord) (h : Stands d r m) where
   -- ---- links kept and links of the record
 
@@ -120,24 +133,12 @@ module _ (d : Diagram) (r : Record) (m : MemoryRecord) (h : Stands d r m) where
           let i = kept-pair x l k in
           rule5-pair x (i .0) (i .1) ∙ all-at _ (length (r .links)) e (i .0) (i .1 .within)))
 
-  -- a link that a side of an association permits has a role of the diagram
-  permitted-known : (s : Side) (a : ℕ) (k : Link) → a < length (d .associations) → permits d (siteOf r) s (associationAt d a) k ≡ true → roleSlot d (k .role) < roleCount d
-  unfolding permits
-  permitted-known s a k l e = target-known d (k .role) s a l (both-left _ _ (both-right _ _ e))
-
-  -- by rule 5 the diagram has the role of each link
-  pub link-known : rule5 d (siteOf r) ≡ true → (i : ℕ) → i < length (r .links) → roleSlot d (linkAt r i .role) < roleCount d
-  unfolding rule5 rule5At siteOf
-  link-known f i l =
-      let a = any-at _ (length (d .associations)) (all-at (λ j. rule5At d (siteOf r) (linkAt r j)) (length (r .links)) f i l) in
-      ⊎-elim (permitted-known r2 (a .0) (linkAt r i) (a .1)) (permitted-known r1 (a .0) (linkAt r i) (a .1)) (either-cases _ _ (a .2))
-
   stray-breaks : strayLink d r ≡ true → rule5 d (siteOf r) ≡ true → ⊥
   unfolding strayLink
   stray-breaks e f =
       let i = any-at _ (length (r .links)) e in
       let slot : roleSlot d (linkAt r (i .0) .role) ≡ roleCount d = eqb-true _ _ (i .2) in
-      let there : roleSlot d (linkAt r (i .0) .role) < roleCount d = link-known f (i .0) (i .1) in
+      let there : roleSlot d (linkAt r (i .0) .role) < roleCount d = link-known d r f (i .0) (i .1) in
       omega arith
 
   -- the mark decides; without it the kept links do

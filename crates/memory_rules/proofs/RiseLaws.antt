@@ -19,7 +19,7 @@ use Rattle.laws.proofs.ConnectiveLaws.{both-left, both-of, both-right, either-c
 use Rattle.files.proofs.NameLaws.{before-self, before-trans}
 
 -- by object, or by name at one object
-value-cases : (u v : Value) → valueBefore u v ≡ true → (u .object < v .object) ⊎ ((u .object ≡ v .object) × (before (u .attribute) (v .attribute) ≡ true))
+pub value-cases : (u v : Value) → valueBefore u v ≡ true → (u .object < v .object) ⊎ ((u .object ≡ v .object) × (before (u .attribute) (v .attribute) ≡ true))
 unfolding valueBefore
 value-cases u v e =
     ⊎-elim (λ a. inl (ltb-true _ _ a)) (λ b. inr (eqb-true _ _ (both-left _ _ b), both-right _ _ b)) (either-cases _ _ e)

@@ -16,7 +16,6 @@ use Rattle.files.specs.Diagram.{Diagram, attributeAt}
 use Rattle.files.specs.Membership.{hasValue}
 use Rattle.files.specs.Name.{Name, sameName}
 use Rattle.files.specs.Record.{Record, Value, objectCount, valueAt}
-use Rattle.files.specs.WellFormedRecord.{WfRecord}
 use Rattle.records.specs.Represents.{codeAmong, strayValue, valueFor}
 use Rattle.records.specs.Slots.{attributeSlot, codeOf, ownAttribute}
 use Rattle.records.specs.Written.{valueIn}
@@ -41,17 +40,24 @@ unfolding both
 both-idle true b f = f refl
 both-idle false b f = refl
 
--- rule 3 has each value's attribute declared for its object
-pub value-declared : (d : Diagram) (r : Record) → WfRecord r → rule3 d (siteOf r) ≡ true
-    → (i : ℕ) → i < length (r .values) → declared d (siteOf r) (valueAt r i .object) (valueAt r i .attribute) ≡ true
-unfolding rule3 rule3At rule3For same siteOf hasValue
-value-declared d r wf f i l =
-    let o : ℕ = valueAt r i .object in
-    let w : Name = valueAt r i .attribute in
-    let each = both-right _ _ (all-at (rule3At d (siteOf r)) (objectCount r) f o (wf .value i l .object-below)) in
-    let said : same (hasValue r o w) (declared d (siteOf r) o w) ≡ true = all-at (λ j. rule3For d (siteOf r) o (valueAt r j .attribute)) (length (r .values)) each i l in
-    let has : hasValue r o w ≡ true = any-of (λ j. valueFor (valueAt r j) o w) (length (r .values)) i l (both-of _ _ (eq-eqb o o refl) (same-self w)) in
-    ap (λ (b : Bool). same b (declared d (siteOf r) o w)) (sym has) ∙ said
+module _ (d : Diagram) (r : Record) where
+  -- rule 3 has each value's attribute declared for its object
+  pub value-declared : rule3 d (siteOf r) ≡ true
+      → (i : ℕ) → i < length (r .values) → valueAt r i .object < objectCount r → declared d (siteOf r) (valueAt r i .object) (valueAt r i .attribute) ≡ true
+  unfolding rule3 rule3At rule3For same siteOf hasValue
+  value-declared f i l object =
+      let o : ℕ = valueAt r i .object in
+      let w : Name = valueAt r i .attribute in
+      let each = both-right _ _ (all-at (rule3At d (siteOf r)) (objectCount r) f o object) in
+      let said : same (hasValue r o w) (declared d (siteOf r) o w) ≡ true = all-at (λ j. rule3For d (siteOf r) o (valueAt r j .attribute)) (length (r .values)) each i l in
+      let has : hasValue r o w ≡ true = any-of (λ j. valueFor (valueAt r j) o w) (length (r .values)) i l (both-of _ _ (eq-eqb o o refl) (same-self w)) in
+      ap (λ (b : Bool). same b (declared d (siteOf r) o w)) (sym has) ∙ said
+
+  -- so that the diagram has its name
+  pub value-known : rule3 d (siteOf r) ≡ true
+      → (i : ℕ) → i < length (r .values) → valueAt r i .object < objectCount r → attributeSlot d (valueAt r i .attribute) < length (d .attributes)
+  unfolding declared declares
+  value-known f i l object = let a = any-at _ (length (d .attributes)) (value-declared f i l object) in attribute-known d (valueAt r i .attribute) (a .0) (a .1) (both-right _ _ (a .2))
 
 module _ (d : Diagram) (r : Record) (m : MemoryRecord) (h : Stands d r m) where
   -- ---- values kept and values of the record
@@ -108,10 +114,6 @@ module _ (d : Diagram) (r : Record) (m : MemoryRecord) (h : Stands d r m) where
 
   -- ---- rule 3
 
-  pub value-known : rule3 d (siteOf r) ≡ true → (i : ℕ) → i < length (r .values) → attributeSlot d (valueAt r i .attribute) < length (d .attributes)
-  unfolding declared declares
-  value-known f i l = let a = any-at _ (length (d .attributes)) (value-declared d r (h .wf-record) f i l) in attribute-known d (valueAt r i .attribute) (a .0) (a .1) (both-right _ _ (a .2))
-
   rule3-for : (o : ℕ) (w : Name) → o < m .count → attributeSlot d w < length (d .attributes) → rule3For d (siteIn d m) o w ≡ rule3For d (siteOf r) o w
   unfolding rule3For siteIn siteOf
   rule3-for o w l k = ap₂ same (valued-known d r m h o w (object-small d r m h o l) k) (declared-agrees d (siteIn d m) (siteOf r) (agrees d r m h) o w l)
@@ -150,7 +152,7 @@ module _ (d : Diagram) (r : Record) (m : MemoryRecord) (h : Stands d r m) where
   stray-breaks e f =
       let i = any-at _ (length (r .values)) e in
       let slot : attributeSlot d (valueAt r (i .0) .attribute) ≡ length (d .attributes) = eqb-true _ _ (i .2) in
-      let there : attributeSlot d (valueAt r (i .0) .attribute) < length (d .attributes) = value-known f (i .0) (i .1) in
+      let there : attributeSlot d (valueAt r (i .0) .attribute) < length (d .attributes) = value-known d r f (i .0) (i .1) (h .wf-record .value (i .0) (i .1) .object-below) in
       omega arith
 
   -- the mark decides; without it the kept values do
