@@ -4,10 +4,12 @@
 use Prim.Native.Nat.{_+_, _-_, _<_, _≤_, suc, ℕ}
 use native.Mathlib.Decide.{decLt}
 use native.Mathlib.Omega.{arith}
-use mathlib.Core.Bool.{Bool, _||_, false, true, true≢false}
-use mathlib.Core.Path.{_≡_, refl, subst, sym}
+use mathlib.Core.Bool.{Bool, _||_, false, true}
+use mathlib.Core.Logic.{⊎-elim}
+use mathlib.Core.Path.{_≡_, subst, sym}
 use lib.Dec.{eqb}
 use borrow.Author.Tests.{eqb-false, eqb-true}
+use Rattle.laws.proofs.ConnectiveLaws.{or-cases, or-no-left, or-no-right, true-false}
 use Rattle.files.specs.Diagram.{Diagram}
 use Rattle.files.specs.Record.{Record, objectCount}
 use Rattle.files.specs.WellFormedRecord.{WfRecord}
@@ -18,17 +20,9 @@ use Rattle.comparing.specs.Sought.{NoneBelow, Sought}
 
 -- ---- the test that ends the search: found, or the last number
 
-neither : (a b : Bool) → a || b ≡ false → (a ≡ false) × (b ≡ false)
-neither true b e = absurd (true≢false e)
-neither false b e = (refl, e)
-
-other : (a b : Bool) → a || b ≡ true → a ≡ false → b ≡ true
-other true b e h = absurd (true≢false h)
-other false b e h = e
-
 module _ (a : Bool) (n most : ℕ) (l : n ≤ most) (e : a || eqb n most ≡ false) where
   pub next-within : n + 1 ≤ most
-  next-within = let h = eqb-false n most (neither a (eqb n most) e .1) in omega arith
+  next-within = let h = eqb-false n most (or-no-right a (eqb n most) e) in omega arith
 
   pub fewer-left : most - (n + 1) < most - n
   fewer-left = let h = next-within in omega arith
@@ -47,7 +41,7 @@ module _ {old new : Diagram} {n : ℕ} {f : Found} (none : NoneBelow old new n) 
       go r w l i (no h) = let k = none .at-least r w l i in absurd (level .complete e r w (omega arith) l i)
 
   pub none-next : (most : ℕ) → f .ok || eqb n most ≡ false → NoneBelow old new (n + 1)
-  none-next most e = let m = more (neither (f .ok) (eqb n most) e .0) in record { at-least = λ r w l i. let h = m .at-least r w l i in omega arith }
+  none-next most e = let m = more (or-no-left (f .ok) (eqb n most) e) in record { at-least = λ r w l i. let h = m .at-least r w l i in omega arith }
 
   pub sought : (most : ℕ) → n ≤ most → f .ok || eqb n most ≡ true → Sought old new most f
   sought most b e =
@@ -55,5 +49,8 @@ module _ {old new : Diagram} {n : ℕ} {f : Found} (none : NoneBelow old new n) 
         bounded = λ t. let c = level .count t in omega arith;
         sound = level .sound;
         least = λ t. subst (NoneBelow old new) (sym (level .count t)) none;
-        complete = λ t. subst (λ (k : ℕ). NoneBelow old new (suc k)) (eqb-true n most (other (f .ok) (eqb n most) e t)) (more t);
+        complete = λ t. subst (λ (k : ℕ). NoneBelow old new (suc k)) (last t) (more t);
       }
+    where
+      last : f .ok ≡ false → n ≡ most
+      last t = ⊎-elim (λ p. absurd (true-false p t)) (eqb-true n most) (or-cases (f .ok) (eqb n most) e)
