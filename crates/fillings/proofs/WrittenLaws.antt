@@ -54,21 +54,21 @@ module _ (d : Diagram) (r : Record) (m : MemoryRecord) (h : Stands d r m) where
 
 pub legal-within : {d : Diagram} {r : Record} {m : MemoryRecord} → Stands d r m → Legal d r → Within d m
 legal-within {d} {r} {m} h e = record {
-      few = subst (λ (n : ℕ). n ≤ 8) (sym (h .count)) (h .wf-record .few);
-      types = λ o l.
-          let k : o < objectCount r = subst (λ (n : ℕ). o < n) (h .count) l in
-          subst (λ (i : ℕ). i < length (d .types)) (sym (h .represents .types o k)) (known-type d r (h .wf-record) (h .wf-diagram) e o k);
-      values = λ o s l. value-within d r m h e o s (object-small d r m h o l);
-      targets = λ o s p l k j t. target-below d r m h o _ p (link-of d r m h o s p (object-small d r m h o l) k j t);
-    }
+  few = subst (λ (n : ℕ). n ≤ 8) (sym (h .count)) (h .wf-record .few);
+  types = λ o l.
+      let k : o < objectCount r = subst (λ (n : ℕ). o < n) (h .count) l in
+      subst (λ (i : ℕ). i < length (d .types)) (sym (h .represents .types o k)) (known-type d r (h .wf-record) (h .wf-diagram) e o k);
+  values = λ o s l. value-within d r m h e o s (object-small d r m h o l);
+  targets = λ o s p l k j t. target-below d r m h o _ p (link-of d r m h o s p (object-small d r m h o l) k j t);
+}
 
 pub legal-same : {d : Diagram} {r : Record} {m : MemoryRecord} → Stands d r m → Legal d r → SameSite (recordOf d m) r
 legal-same {d} {r} {m} h e = record {
-      count = written-count d m ∙ h .count;
-      types = λ w o. ap (sameName w) (type-same d r m h e o);
-      values = value-same d r m h e;
-      links = link-same d r m h (legal-keeps d r e);
-    }
+  count = written-count d m ∙ h .count;
+  types = λ w o. ap (sameName w) (type-same d r m h e o);
+  values = value-same d r m h e;
+  links = link-same d r m h (legal-keeps d r e);
+}
 
 -- both diagrams judge what is written as they judge the record that it stands for
 pub wanted-witness : {old new : Diagram} {m : MemoryRecord} → Wanted old new m → Witness old new m

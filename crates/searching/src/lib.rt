@@ -337,7 +337,13 @@ fn row_fits<'a>(
     ensures { λ r. ⌜ r ≡ rowFits (now (targets .entry)) (now (lows .entry)) (now (highs .entry)) (now (types .entry)) o s v ⌝ }
 {
     let x = laws::wide(laws::byte(types, o)) * 32 + s;
-    is_row_for(word(targets, x), laws::byte(lows, x), laws::byte(highs, x), types, v)
+    is_row_for(
+        word(targets, x),
+        laws::byte(lows, x),
+        laws::byte(highs, x),
+        types,
+        v,
+    )
 }
 
 // ---- any of them
@@ -365,7 +371,15 @@ fn spot_fits<'a>(
     if spot < 264 {
         return value_fits(sizes, dues, types, (spot - 8) / 32, (spot - 8) % 32, v);
     }
-    row_fits(targets, lows, highs, types, (spot - 264) / 32, (spot - 264) % 32, v)
+    row_fits(
+        targets,
+        lows,
+        highs,
+        types,
+        (spot - 264) / 32,
+        (spot - 264) % 32,
+        v,
+    )
 }
 
 // ---- a full record

@@ -39,8 +39,7 @@ loop-less c = search needs
 loop-again : tie.Need-loop-again Inv-loop μ-loop
 loop-again c =
     let l = c .before .before .loop in
-    let a = c .before .before .before .args in
-    (
+    let a = c .before .before .before .args in (
       search needs,
       search needs,
       set-more (λ (j v : ℕ). v ≡ choiceIn (a .attributes .now) (a .declared) (a .roles .now) (a .ends) (a .types) (a .values) (a .n) j) (l .limits) (l .spot) (c .choice .result) (omega arith) (l .inv .2)
