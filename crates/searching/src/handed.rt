@@ -146,7 +146,11 @@ fn attributes_of(b: AttributeBytes) -> Attributes
     }
 }
 
-fn associations_of<'a>(b: AssociationBytes, least: &'a [u16; 32], most: &'a [u16; 32]) -> Associations
+fn associations_of<'a>(
+    b: AssociationBytes,
+    least: &'a [u16; 32],
+    most: &'a [u16; 32],
+) -> Associations
     ensures { λ r. ⌜ r ≡ associationsFrom b (now (least .entry)) (now (most .entry)) ⌝ }
 {
     let forms = b.forms;

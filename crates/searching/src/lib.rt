@@ -464,17 +464,7 @@ fn fill<'a>(
     let at = skip(limits, from);
     if at == 520 {
         return Found {
-            ok: is_wanted(
-                old,
-                sets1,
-                lows1,
-                ups1,
-                new,
-                sets2,
-                lows2,
-                ups2,
-                m,
-            ),
+            ok: is_wanted(old, sets1, lows1, ups1, new, sets2, lows2, ups2, m),
             witness: m,
         };
     }
