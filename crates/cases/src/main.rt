@@ -1,6 +1,9 @@
 // Runs worked cases: each line of standard input asks for one, and each line of standard output is its reply.
 // A line is a letter for what is asked, a blank, the case's name up to a colon, and bytes as pairs of hexadecimal digits, each
-// behind a blank; where two files are asked for, a blank and a slash stand between them.
+// behind a blank; where two files are asked for, a blank and a slash stand between them. Before two diagrams to compare stands
+// the bound, one byte, with a blank and a slash behind it.
+mod differences; // differences.rt: two diagrams compared
+
 use libc::STDOUT_FILENO;
 ghost use Prim.Native.Nat.{_<_, _≤_};
 ghost use lib.ListN.{length};
@@ -173,7 +176,8 @@ fn run_compile(line: &[u8], at: usize, space: &mut [u8]) {
     }
 }
 
-// One line: a diagram file (D), a record file (R), a record file under a diagram (J), or a diagram to compile (C).
+// One line: a diagram file (D), a record file (R), a record file under a diagram (J), a diagram to compile (C), or two diagrams to
+// compare (F), where there is only one witness also for its bytes (W).
 fn run(line: &[u8], space: &mut [u8], other: &mut [u8]) {
     let at = before(line, 58);
     let kind = laws::byte(line, 0);
@@ -191,6 +195,14 @@ fn run(line: &[u8], space: &mut [u8], other: &mut [u8]) {
     }
     if kind == 74 {
         run_site(line, at, space, other);
+        return;
+    }
+    if kind == 70 {
+        differences::run_compare(line, at, false, space, other);
+        return;
+    }
+    if kind == 87 {
+        differences::run_compare(line, at, true, space, other);
     }
 }
 

@@ -5,5 +5,6 @@ pub mod PutLaws
 pub mod SkipLaws
 pub mod FillLaws
 pub mod ReadyLaws
+pub mod HandedLaws
 pub mod LevelLaws
 pub mod WitnessLaws

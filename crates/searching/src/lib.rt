@@ -17,7 +17,12 @@ ghost use Rattle.laws.specs.Connective.{imp};
 ghost use Rattle.searching.specs.Choice.{choiceIn};
 ghost use Rattle.searching.specs.Answer.{Tells, Parts, Answer, Level};
 ghost use Rattle.searching.specs.Ready.{Skips, Ready};
+ghost use Rattle.searching.specs.Handed.{storedOf};
+
+mod handed; // handed.rt: a diagram on its way through the search
+
 use diagrams::StoredDiagram;
+use handed::DiagramBytes;
 use records::MemoryRecord;
 
 pub struct Found {
@@ -410,14 +415,40 @@ fn is_witness(old: StoredDiagram, new: StoredDiagram, m: MemoryRecord) -> bool
     is_parted(laws::front(&file, n), old, new)
 }
 
+// The same of diagrams that were handed on: old is in bytes and the arrays 1, new in bytes and the arrays 2.
+fn is_wanted<'a>(
+    old: DiagramBytes,
+    sets1: &'a [u32; 24],
+    lows1: &'a [u16; 32],
+    ups1: &'a [u16; 32],
+    new: DiagramBytes,
+    sets2: &'a [u32; 24],
+    lows2: &'a [u16; 32],
+    ups2: &'a [u16; 32],
+    m: MemoryRecord,
+) -> bool
+    requires { ⌜ Held (storedOf old (now sets1) (now lows1) (now ups1)) × Held (storedOf new (now sets2) (now lows2) (now ups2)) ⌝ }
+    ensures { λ b. ⌜ Tells (Witness (diagramOf (storedOf old (now (sets1 .entry)) (now (lows1 .entry)) (now (ups1 .entry)))) (diagramOf (storedOf new (now (sets2 .entry)) (now (lows2 .entry)) (now (ups2 .entry)))) m) b ⌝ }
+{
+    let before = handed::stored_of(old, sets1, lows1, ups1);
+    let after = handed::stored_of(new, sets2, lows2, ups2);
+    is_witness(before, after, m)
+}
+
 // ---- the search
 
 // Fills m from the spot `from` on so that it is a witness, or says that there is no way.
 fn fill<'a>(
     m: MemoryRecord,
     from: usize,
-    old: StoredDiagram,
-    new: StoredDiagram,
+    old: DiagramBytes,
+    sets1: &'a [u32; 24],
+    lows1: &'a [u16; 32],
+    ups1: &'a [u16; 32],
+    new: DiagramBytes,
+    sets2: &'a [u32; 24],
+    lows2: &'a [u16; 32],
+    ups2: &'a [u16; 32],
     kinds: &'a [u8; 24],
     k: usize,
     sizes: &'a [u8; 12],
@@ -427,13 +458,13 @@ fn fill<'a>(
     highs: &'a [u8; 768],
     limits: &'a [u16; 520],
 ) -> Found
-    requires { ⌜ Ready old new (now kinds) k (now sizes) (now dues) (now targets) (now lows) (now highs) (now limits) (m .count) × (from ≤ 520) × Blank m from ⌝ }
-    ensures { λ f. ⌜ Answer (diagramOf old) (diagramOf new) (now (limits .entry)) m from f ⌝ }
+    requires { ⌜ Ready (storedOf old (now sets1) (now lows1) (now ups1)) (storedOf new (now sets2) (now lows2) (now ups2)) (now kinds) k (now sizes) (now dues) (now targets) (now lows) (now highs) (now limits) (m .count) × (from ≤ 520) × Blank m from ⌝ }
+    ensures { λ f. ⌜ Answer (diagramOf (storedOf old (now (sets1 .entry)) (now (lows1 .entry)) (now (ups1 .entry)))) (diagramOf (storedOf new (now (sets2 .entry)) (now (lows2 .entry)) (now (ups2 .entry)))) (now (limits .entry)) m from f ⌝ }
 {
     let at = skip(limits, from);
     if at == 520 {
         return Found {
-            ok: is_witness(old, new, m),
+            ok: is_wanted(old, sets1, lows1, ups1, new, sets2, lows2, ups2, m),
             witness: m,
         };
     }
@@ -461,7 +492,13 @@ fn fill<'a>(
             put(m, at, v as u8),
             at + 1,
             old,
+            sets1,
+            lows1,
+            ups1,
             new,
+            sets2,
+            lows2,
+            ups2,
             kinds,
             k,
             sizes,
@@ -499,11 +536,25 @@ pub fn search<'a>(
 {
     let limits = limits_of(old, n);
     let m = blank_record(n);
+    let before = handed::bytes_of(old);
+    let after = handed::bytes_of(new);
+    let sets1 = old.types.sets;
+    let lows1 = old.associations.lows;
+    let ups1 = old.associations.ups;
+    let sets2 = new.types.sets;
+    let lows2 = new.associations.lows;
+    let ups2 = new.associations.ups;
     fill(
         m,
         0,
-        old,
-        new,
+        before,
+        &sets1,
+        &lows1,
+        &ups1,
+        after,
+        &sets2,
+        &lows2,
+        &ups2,
         kinds,
         old.types.count,
         sizes,

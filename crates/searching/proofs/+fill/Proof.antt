@@ -5,9 +5,11 @@ use borrow.Author.Needs.{needs}
 use Prim.Native.Nat.{_-_, _<_, _≤_, ℕ}
 use native.Mathlib.Omega.{arith}
 use Rattle.laws.proofs.SearchLaws.{by-no}
+use Rattle.files.specs.Diagram.{Diagram}
 use Rattle.diagrams.specs.View.{diagramOf}
 use Rattle.fillings.specs.Spots.{Sized}
 use Rattle.searching.specs.Answer.{Answer}
+use Rattle.searching.specs.Handed.{storedOf}
 use Rattle.searching.specs.declared.Found.{Found}
 use Rattle.searching.proofs.FillLaws.{NoneBelow, answer-hit, answer-leaf, answer-none, none-more, none-unfit}
 use Rattle.searching.proofs.PutLaws.{blank-put}
@@ -18,7 +20,7 @@ use borrow.Fn.PlainCycle.{Measures, is, falls, and}
 use Rattle.searching.proofs.fill.Reads as fill
 use Rattle.searching.proofs.fill.Kinds as fill-kinds
 use Rattle.searching.proofs.+fill.Lts-fill as fill-lts
-use Rattle.searching.proofs.is_witness.Reads as is-witness-reads
+use Rattle.searching.proofs.is_wanted.Reads as is-wanted-reads
 use Rattle.searching.proofs.put.Reads as put-reads
 use Rattle.searching.proofs.skip.Reads as skip-reads
 use Rattle.searching.proofs.spot_fits.Reads as spot-fits-reads
@@ -36,13 +38,13 @@ fill-below t = and 1 fill-kinds.ps (falls 1 fill-kinds.ps _<_ μ-fill t) fill.Pr
 
 -- what the calls ask and give
 abbrev calls : ℕ → fill-lts.Claims
-calls t = (skip-reads.Asked, skip-reads.Learnt, is-witness-reads.Asked, is-witness-reads.Learnt, spot-fits-reads.Asked, spot-fits-reads.Learnt, put-reads.Asked, put-reads.Learnt, fill-below t, fill.Post)
+calls t = (skip-reads.Asked, skip-reads.Learnt, is-wanted-reads.Asked, is-wanted-reads.Learnt, spot-fits-reads.Asked, spot-fits-reads.Learnt, put-reads.Asked, put-reads.Learnt, fill-below t, fill.Post)
 
 abbrev fill-Inv-loop : fill-lts.InvT-loop
-fill-Inv-loop m from old new kinds k sizes dues targets lows highs limits at most types v₀ v = (v ≤ most) × (most ≤ 256) × NoneBelow (diagramOf old) (diagramOf new) limits m at v
+fill-Inv-loop m from old sets1 lows1 ups1 new sets2 lows2 ups2 kinds k sizes dues targets lows highs limits at most types v₀ v = (v ≤ most) × (most ≤ 256) × NoneBelow (diagramOf (storedOf old sets1 lows1 ups1)) (diagramOf (storedOf new sets2 lows2 ups2)) limits m at v
 
 abbrev fill-μ-loop : fill-lts.MeasureT-loop
-fill-μ-loop m from old new kinds k sizes dues targets lows highs limits at most types v₀ v = most - v
+fill-μ-loop m from old sets1 lows1 ups1 new sets2 lows2 ups2 kinds k sizes dues targets lows highs limits at most types v₀ v = most - v
 
 -- the record that came in has its arrays' lengths
 sized : (t : ℕ) (c : fill-lts.Start (calls t) (fill-at t) fill.Post fill-Inv-loop fill-μ-loop) → Sized (c .args .m)
@@ -52,24 +54,31 @@ sized t c = search needs
 spot-in : (t : ℕ) (e : fill-lts.Else1 (calls t) (fill-at t) fill.Post fill-Inv-loop fill-μ-loop) → e .before .skip .result < 520
 spot-in t e = omega (arith, e .if1 .left, e .before .skip .ensures .closed .high)
 
+-- what the diagrams that came in say
+abbrev before : (t : ℕ) → fill-lts.Start (calls t) (fill-at t) fill.Post fill-Inv-loop fill-μ-loop → Diagram
+before t c = let a = c .args in diagramOf (storedOf (a .old) (a .sets1 .now) (a .lows1 .now) (a .ups1 .now))
+
+abbrev after : (t : ℕ) → fill-lts.Start (calls t) (fill-at t) fill.Post fill-Inv-loop fill-μ-loop → Diagram
+after t c = let a = c .args in diagramOf (storedOf (a .new) (a .sets2 .now) (a .lows2 .now) (a .ups2 .now))
+
 -- the closed spots are passed over
 passed : (t : ℕ) (s : fill-lts.After-skip (calls t) (fill-at t) fill.Post fill-Inv-loop fill-μ-loop) {f : Found}
-    → let a = s .before .args in Answer (diagramOf (a .old)) (diagramOf (a .new)) (a .limits .now) (a .m) (s .skip .result) f
-    → Answer (diagramOf (a .old)) (diagramOf (a .new)) (a .limits .now) (a .m) (a .from) f
+    → let a = s .before .args in Answer (before t (s .before)) (after t (s .before)) (a .limits .now) (a .m) (s .skip .result) f
+    → Answer (before t (s .before)) (after t (s .before)) (a .limits .now) (a .m) (a .from) f
 passed t s = answer-skip (s .skip .ensures .closed) (s .before .pre .1 .2)
 
 fill-skip-requires : (t : ℕ) → fill-lts.Need-skip-requires (calls t) (fill-at t) fill.Post fill-Inv-loop fill-μ-loop
 fill-skip-requires t c κs = c .pre .1 .1
 
-fill-is-witness-requires : (t : ℕ) → fill-lts.Need-is-witness-requires (calls t) (fill-at t) fill.Post fill-Inv-loop fill-μ-loop
-fill-is-witness-requires t c κs =
+fill-is-wanted-requires : (t : ℕ) → fill-lts.Need-is-wanted-requires (calls t) (fill-at t) fill.Post fill-Inv-loop fill-μ-loop
+fill-is-wanted-requires t c κs =
     let r = c .before .before .pre .1 .0 in
     (r .old-held, r .new-held)
 
 fill-returns : (t : ℕ) → fill-lts.Need-returns (calls t) (fill-at t) fill.Post fill-Inv-loop fill-μ-loop
 fill-returns t c =
     let s = c .before .before in
-    passed t s (answer-leaf (sized t (s .before)) (c .before .if1 .taken) (c .is-witness .ensures))
+    passed t s (answer-leaf (sized t (s .before)) (c .before .if1 .taken) (c .is-wanted .ensures))
 
 fill-mul-most : (t : ℕ) → fill-lts.Need-mul-most (calls t) (fill-at t) fill.Post fill-Inv-loop fill-μ-loop
 fill-mul-most t c = search needs
@@ -155,7 +164,7 @@ pub +fill-spec : {M : Type 1} → statement M
     fill-Inv-loop
     fill-μ-loop
     (fill-skip-requires t)
-    (fill-is-witness-requires t)
+    (fill-is-wanted-requires t)
     (fill-returns t)
     (fill-mul-most t)
     (fill-element-copy-out-most t)
