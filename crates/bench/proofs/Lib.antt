@@ -1,2 +1,4 @@
 pub mod BenchLaws
+pub mod CallLaws
 pub mod PartLaws
+pub mod StoreLaws
