@@ -21,7 +21,7 @@ use Rattle.bench.specs.declared.Place.{Place}
 abbrev pub fullPlace : StoredDiagram → Place
 fullPlace d = record { loaded = true; diagram = d }
 
-pub place-is : (b : Bench) (p : ℕ) → placeOf p (benchOf b) ≡ diagramIn (placeIn b p)
+place-is : (b : Bench) (p : ℕ) → placeOf p (benchOf b) ≡ diagramIn (placeIn b p)
 unfolding placeOf benchOf placeIn
 place-is b p = by (eqb p 0)
   where

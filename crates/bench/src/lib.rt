@@ -137,7 +137,7 @@ impl Bench {
             };
         }
         let diagram = l.diagram;
-        let b = with_place(
+        let loaded = with_place(
             self,
             place,
             Place {
@@ -145,8 +145,9 @@ impl Bench {
                 diagram,
             },
         );
+        let w = no_witness();
         Replied {
-            bench: with_witness(b, no_witness()),
+            bench: with_witness(loaded, w),
             reply: Reply::Done,
         }
     }
@@ -162,9 +163,10 @@ impl Bench {
                 reply: Reply::Refused(10),
             };
         }
-        let b = with_place(self, place, empty_place());
+        let emptied = with_place(self, place, empty_place());
+        let w = no_witness();
         Replied {
-            bench: with_witness(b, no_witness()),
+            bench: with_witness(emptied, w),
             reply: Reply::Done,
         }
     }
