@@ -1,1 +1,3 @@
 pub mod BenchLaws
+pub mod StayLaws
+pub mod HandOutLaws
