@@ -1,3 +1,4 @@
 pub mod BenchLaws
 pub mod StayLaws
 pub mod HandOutLaws
+pub mod CompareLaws
