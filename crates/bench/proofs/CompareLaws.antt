@@ -33,11 +33,11 @@ use Rattle.bench.proofs.StayLaws.{same-stays}
 
 -- ---- places
 
-empty-in : (x : Place) → not (x .loaded) ≡ true → diagramIn x ≡ none
+pub empty-in : (x : Place) → not (x .loaded) ≡ true → diagramIn x ≡ none
 unfolding diagramIn
 empty-in x e = ap (λ (t : Bool). cond t (some (diagramOf (x .diagram))) none) (not-true (x .loaded) e)
 
-loaded-in : (x : Place) → not (x .loaded) ≡ false → diagramIn x ≡ some (diagramOf (x .diagram))
+pub loaded-in : (x : Place) → not (x .loaded) ≡ false → diagramIn x ≡ some (diagramOf (x .diagram))
 unfolding diagramIn
 loaded-in x e = ap (λ (t : Bool). cond t (some (diagramOf (x .diagram))) none) (not-false (x .loaded) e)
 
@@ -96,6 +96,10 @@ places-stay b e bound reply w q r = record {
 pub compare-held : (b : Bench) → Valid b → not (b .old .loaded) ≡ false → not (b .new .loaded) ≡ false → Held (b .old .diagram) × Held (b .new .diagram)
 compare-held b v m n = (v .old .held (not-false _ m), v .new .held (not-false _ n))
 
+-- the count is at most 8, so a byte holds it
+pub compare-count : {old new : Diagram} {bound : ℕ} {f : Found} → comparing.Compares old new bound f → f .ok ≡ true → f .witness .count < 256
+compare-count c t = let k = c .within t .few in omega arith
+
 -- ---- the ways out
 
 module _ (b : Bench) (bound : ℕ) (v : Valid b) where
@@ -124,10 +128,6 @@ module _ (b : Bench) (bound : ℕ) (v : Valid b) where
       (loaded-in (b .old) m) (loaded-in (b .new) n) (x, f, e)
 
   module _ {f : Found} (c : comparing.Compares (diagramOf (b .old .diagram)) (diagramOf (b .new .diagram)) bound f) where
-    -- the count is at most 8, so a byte holds it
-    pub compare-count : f .ok ≡ true → f .witness .count < 256
-    compare-count t = let k = c .within t .few in omega arith
-
     finds-by : (t : Bool) → f .ok ≡ t
         → Finds (diagramOf (b .old .diagram)) (diagramOf (b .new .diagram)) bound (cond t (some (recordOf (diagramOf (b .old .diagram)) (f .witness))) none)
     unfolding comparing.witnessIn

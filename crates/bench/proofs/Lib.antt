@@ -2,3 +2,4 @@ pub mod BenchLaws
 pub mod StayLaws
 pub mod HandOutLaws
 pub mod CompareLaws
+pub mod RunLaws

@@ -20,11 +20,11 @@ returns-3 c = search (needs, compare-new)
 compare-requires : tie.Need-compare-requires
 compare-requires c κs = compare-held _ (c .before .before .before .before .before .before .before .pre) (c .before .before .if2 .left) (c .if3 .left)
 
+cast-count : tie.Need-cast-count
+cast-count c = record { fits = compare-count (c .before .before .before .compare .ensures) (c .before .before .if4 .taken) }
+
 with-witness-requires : tie.Need-with-witness-requires
 with-witness-requires c κs = search needs
-
-cast-t13 : tie.Need-cast-t13
-cast-t13 c = search (needs, compare-count)
 
 returns-4 : tie.Need-returns-4
 returns-4 c = search (needs, compare-gap)
@@ -50,8 +50,8 @@ compare-spec =
     returns-2
     returns-3
     compare-requires
+    cast-count
     with-witness-requires
-    cast-t13
     returns-4
     no-witness-requires
     with-witness-requires-2
