@@ -5,3 +5,4 @@ pub mod HandedOut
 pub mod BenchCases
 pub mod View
 pub mod Calls
+pub mod Runs

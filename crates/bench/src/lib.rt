@@ -290,6 +290,7 @@ impl Bench {
         let f = comparing::compare(x.diagram, y.diagram, bound);
         if f.ok {
             let found = f.witness;
+            let count = found.count as u8;
             let w = Witness {
                 stored: true,
                 place: 0,
@@ -297,7 +298,7 @@ impl Bench {
             };
             return Replied {
                 bench: with_witness(self, w),
-                reply: Reply::Difference(found.count as u8),
+                reply: Reply::Difference(count),
             };
         }
         Replied {
