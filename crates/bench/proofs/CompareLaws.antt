@@ -29,7 +29,7 @@ use Rattle.bench.specs.declared.Bench.{Bench}
 use Rattle.bench.specs.declared.Place.{Place}
 use Rattle.bench.specs.declared.Reply.the-variants.{Difference, NoDifference, Refused}
 use Rattle.bench.specs.declared.Witness.{Witness}
-use Rattle.bench.proofs.StayLaws.{same-stays}
+use Rattle.bench.proofs.CallLaws.{stays-all}
 
 -- ---- places
 
@@ -104,17 +104,17 @@ compare-count c t = let k = c .within t .few in omega arith
 
 module _ (b : Bench) (bound : ℕ) (v : Valid b) where
   pub compare-bound : 8 < bound → Does b (Compare bound) (record { bench = b; reply = Refused 9 }) []
-  compare-bound h = record { step = step-of (benchOf b) bound _ true _ _ (lt-ltb 8 bound h) refl refl refl; stays = same-stays b _ _; valid = v }
+  compare-bound h = record { step = step-of (benchOf b) bound _ true _ _ (lt-ltb 8 bound h) refl refl refl; stays = stays-all b _ _; valid = v }
 
   pub compare-old : bound ≤ 8 → not (b .old .loaded) ≡ true → Does b (Compare bound) (record { bench = b; reply = Refused 21 }) []
   unfolding benchOf
-  compare-old h m = record { step = step-of (benchOf b) bound _ false none _ (le-ltb 8 bound h) (empty-in (b .old) m) refl refl; stays = same-stays b _ _; valid = v }
+  compare-old h m = record { step = step-of (benchOf b) bound _ false none _ (le-ltb 8 bound h) (empty-in (b .old) m) refl refl; stays = stays-all b _ _; valid = v }
 
   pub compare-new : bound ≤ 8 → not (b .old .loaded) ≡ false → not (b .new .loaded) ≡ true → Does b (Compare bound) (record { bench = b; reply = Refused 21 }) []
   unfolding benchOf
   compare-new h m n = record {
     step = step-of (benchOf b) bound _ false (some (diagramOf (b .old .diagram))) none (le-ltb 8 bound h) (loaded-in (b .old) m) (empty-in (b .new) n) refl;
-    stays = same-stays b _ _;
+    stays = stays-all b _ _;
     valid = v;
   }
 

@@ -3,7 +3,6 @@ pub mod BenchLaws
 pub mod CallLaws
 pub mod PartLaws
 pub mod StoreLaws
-pub mod StayLaws
 pub mod HandOutLaws
 pub mod CompareLaws
 pub mod RunLaws
