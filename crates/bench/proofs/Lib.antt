@@ -1,1 +1,8 @@
+pub mod AskLaws
 pub mod BenchLaws
+pub mod CallLaws
+pub mod PartLaws
+pub mod StoreLaws
+pub mod HandOutLaws
+pub mod CompareLaws
+pub mod RunLaws

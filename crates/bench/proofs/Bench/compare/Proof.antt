@@ -1,0 +1,58 @@
+use Rattle.bench.proofs.CompareLaws.{compare-bound, compare-count, compare-gap, compare-held, compare-new, compare-none, compare-old}
+use borrow.Author.Needs.{needs}
+use Rattle.bench.proofs.Bench.compare.Statement.{statement}
+use Rattle.bench.proofs.Bench.compare.Tie as tie
+use Rattle.bench.proofs.Bench.compare.Reads as reads
+use Rattle.bench.proofs.Bench.compare.Lts as lts
+use Rattle.bench.proofs.no_witness.Reads as no-witness-reads
+use Rattle.bench.proofs.with_witness.Reads as with-witness-reads
+use Rattle.comparing.proofs.compare.Reads as compare-reads
+
+returns : tie.Need-returns
+returns c = search (needs, compare-bound)
+
+returns-2 : tie.Need-returns-2
+returns-2 c = search (needs, compare-old)
+
+returns-3 : tie.Need-returns-3
+returns-3 c = search (needs, compare-new)
+
+compare-requires : tie.Need-compare-requires
+compare-requires c κs = compare-held _ (c .before .before .before .before .before .before .before .pre) (c .before .before .if2 .left) (c .if3 .left)
+
+cast-count : tie.Need-cast-count
+cast-count c = record { fits = compare-count (c .before .before .before .compare .ensures) (c .before .before .if4 .taken) }
+
+with-witness-requires : tie.Need-with-witness-requires
+with-witness-requires c κs = search needs
+
+returns-4 : tie.Need-returns-4
+returns-4 c = search (needs, compare-gap)
+
+no-witness-requires : tie.Need-no-witness-requires
+no-witness-requires c κs = search needs
+
+with-witness-requires-2 : tie.Need-with-witness-requires-2
+with-witness-requires-2 c κs = search needs
+
+returns-5 : tie.Need-returns-5
+returns-5 c =
+    let e = c .before .before in
+    let n = e .before .before in
+    compare-none _ _ (n .before .before .before .before .before .before .before .pre) (e .before .compare .ensures) (search needs) (n .before .before .if2 .left) (n .if3 .left)
+    (e .if4 .left) (c .before .no-witness .ensures) (c .with-witness2 .ensures)
+
+pub compare-spec : {M : Type 1} → statement M
+compare-spec =
+    tie.close
+    (tie.spec
+    returns
+    returns-2
+    returns-3
+    compare-requires
+    cast-count
+    with-witness-requires
+    returns-4
+    no-witness-requires
+    with-witness-requires-2
+    returns-5)
