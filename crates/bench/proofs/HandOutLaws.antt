@@ -80,3 +80,5 @@ module _ (b : Bench) (s : List ℕ) (v : Valid b) where
 
       whole : handOut (benchOf b) (benchOf b .witness) s ≡ out-by (benchOf b) (named b) s true
       whole = out-some (benchOf b) (named b) s true (one-witness b e) (le-leb 60000 (length s) l)
+
+pub ruleset hand-outs = (hand-none, hand-short, hand-done)
