@@ -20,8 +20,8 @@ use Rattle.searching.specs.declared.Found.{Found}
 use Rattle.comparing.specs.Compared as comparing
 use Rattle.comparing.specs.Difference.{Finds}
 use Rattle.bench.specs.Bench as abstract
-use Rattle.bench.specs.Bench.{Compare, Outcome, difference, dropWitness, gives, noDifference, refusal, storeWitness}
-use Rattle.bench.specs.Calls.{Does, Stays, Valid, spares}
+use Rattle.bench.specs.Bench.{Compare, Outcome, difference, dropWitness, gives, noDifference, storeWitness}
+use Rattle.bench.specs.Calls.{Does, Stays, Valid}
 use Rattle.bench.specs.Row.{dropsOrStores, isRefusal}
 use Rattle.bench.specs.Step.{Compares, found}
 use Rattle.bench.specs.View.{benchOf, diagramIn, noWitness, withWitnessIn, witnessIn}
@@ -161,3 +161,5 @@ module _ (b : Bench) (bound : ℕ) (v : Valid b) where
       where
         same : y ≡ withWitnessIn b noWitness
         same = e ∙ ap (withWitnessIn b) q
+
+pub ruleset compares = (compare-bound, compare-old, compare-new, compare-gap)

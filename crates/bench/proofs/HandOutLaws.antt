@@ -5,7 +5,7 @@ use native.Mathlib.Omega.{arith}
 use mathlib.Core.Bool.{Bool, cond, false, not, true}
 use mathlib.Core.List.{List}
 use mathlib.Core.Option.{Option, none, some}
-use mathlib.Core.Path.{_∙_, _≡_, ap, refl, sym}
+use mathlib.Core.Path.{_∙_, _≡_, ap, sym}
 use lib.Dec.{leb}
 use lib.ListN.{length}
 use borrow.Author.Tests.{le-leb, lt-leb, not-false, not-true}
@@ -80,3 +80,5 @@ module _ (b : Bench) (s : List ℕ) (v : Valid b) where
 
       whole : handOut (benchOf b) (benchOf b .witness) s ≡ out-by (benchOf b) (named b) s true
       whole = out-some (benchOf b) (named b) s true (one-witness b e) (le-leb 60000 (length s) l)
+
+pub ruleset hand-outs = (hand-none, hand-short, hand-done)

@@ -14,7 +14,7 @@ use Rattle.files.specs.Diagram.{Diagram}
 use Rattle.bench.specs.Bench as abstract
 use Rattle.bench.specs.Bench.{Outcome, difference}
 use Rattle.bench.specs.Calls.{Valid, ValidPlace}
-use Rattle.bench.specs.Row.{Event, Keeps, Row, dropsOrStores}
+use Rattle.bench.specs.Row.{Row, dropsOrStores}
 use Rattle.bench.specs.Runs.{Did, Made, Run, RunHandsOut, RunStays, RunsRight, after, eventOf, eventsOf, listed, outcomeOf, replied}
 use Rattle.bench.specs.Step.{Compares, Step}
 use Rattle.bench.specs.View.{benchOf, diagramIn, freshIn, noPlace, noWitness, replyOf, witnessIn}

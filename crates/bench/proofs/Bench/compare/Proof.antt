@@ -1,4 +1,4 @@
-use Rattle.bench.proofs.CompareLaws.{compare-bound, compare-count, compare-gap, compare-held, compare-new, compare-none, compare-old}
+use Rattle.bench.proofs.CompareLaws.{compare-count, compare-held, compare-none, compares}
 use borrow.Author.Needs.{needs}
 use Rattle.bench.proofs.Bench.compare.Statement.{statement}
 use Rattle.bench.proofs.Bench.compare.Tie as tie
@@ -9,13 +9,13 @@ use Rattle.bench.proofs.with_witness.Reads as with-witness-reads
 use Rattle.comparing.proofs.compare.Reads as compare-reads
 
 returns : tie.Need-returns
-returns c = search (needs, compare-bound)
+returns c = search (needs, compares)
 
 returns-2 : tie.Need-returns-2
-returns-2 c = search (needs, compare-old)
+returns-2 c = search (needs, compares)
 
 returns-3 : tie.Need-returns-3
-returns-3 c = search (needs, compare-new)
+returns-3 c = search (needs, compares)
 
 compare-requires : tie.Need-compare-requires
 compare-requires c κs = compare-held _ (c .before .before .before .before .before .before .before .pre) (c .before .before .if2 .left) (c .if3 .left)
@@ -27,7 +27,7 @@ with-witness-requires : tie.Need-with-witness-requires
 with-witness-requires c κs = search needs
 
 returns-4 : tie.Need-returns-4
-returns-4 c = search (needs, compare-gap)
+returns-4 c = search (needs, compares)
 
 no-witness-requires : tie.Need-no-witness-requires
 no-witness-requires c κs = search needs
