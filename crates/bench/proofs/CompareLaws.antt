@@ -19,11 +19,11 @@ use Rattle.records.proofs.WrittenLaws.{written-count}
 use Rattle.searching.specs.declared.Found.{Found}
 use Rattle.comparing.specs.Compared as comparing
 use Rattle.comparing.specs.Difference.{Finds}
-use Rattle.bench.specs.Bench as abstract
-use Rattle.bench.specs.Bench.{Compare, Outcome, difference, dropWitness, gives, noDifference, storeWitness}
+use Rattle.steps.specs.Bench as abstract
+use Rattle.steps.specs.Bench.{Compare, Outcome, difference, dropWitness, gives, noDifference, storeWitness}
 use Rattle.bench.specs.Calls.{Does, Stays, Valid}
-use Rattle.bench.specs.Row.{dropsOrStores, isRefusal}
-use Rattle.bench.specs.Step.{Compares, found}
+use Rattle.steps.specs.Row.{dropsOrStores, isRefusal}
+use Rattle.steps.specs.Step.{Compares, found}
 use Rattle.bench.specs.View.{benchOf, diagramIn, noWitness, withWitnessIn, witnessIn}
 use Rattle.bench.specs.declared.Bench.{Bench}
 use Rattle.bench.specs.declared.Place.{Place}

@@ -18,10 +18,10 @@ use Rattle.diagrams.specs.View.{diagramOf}
 use Rattle.records.specs.Written.{recordOf}
 use Rattle.records.proofs.WithinLaws.{within-complete}
 use Rattle.writing.specs.Writes.{Writes, WritesWithin, writable}
-use Rattle.bench.specs.Bench as abstract
-use Rattle.bench.specs.Bench.{HandOut, Outcome, refusal, written}
+use Rattle.steps.specs.Bench as abstract
+use Rattle.steps.specs.Bench.{HandOut, Outcome, refusal, written}
 use Rattle.bench.specs.Calls.{Does, Valid}
-use Rattle.bench.specs.Step.{handOut}
+use Rattle.steps.specs.Step.{handOut}
 use Rattle.bench.specs.View.{benchOf, witnessIn}
 use Rattle.bench.specs.declared.Bench.{Bench}
 use Rattle.bench.specs.declared.Reply.the-variants.{Refused, Written}

@@ -1,5 +1,4 @@
 pub mod AskLaws
-pub mod BenchLaws
 pub mod CallLaws
 pub mod PartLaws
 pub mod StoreLaws

@@ -10,7 +10,7 @@ use borrow.Author.Tests.{not-false, not-true}
 use Rattle.diagrams.specs.Held.{Held}
 use Rattle.diagrams.specs.View.{diagramOf}
 use Rattle.diagrams.specs.declared.StoredDiagram.{StoredDiagram}
-use Rattle.bench.specs.Bench.{dropWitness, placeOf, withPlace}
+use Rattle.steps.specs.Bench.{dropWitness, placeOf, withPlace}
 use Rattle.bench.specs.Calls.{Valid, ValidPlace}
 use Rattle.bench.specs.View.{benchOf, diagramIn, noPlace, noWitness, placeIn, withPlaceIn, withWitnessIn, witnessIn}
 use Rattle.bench.specs.declared.Bench.{Bench}

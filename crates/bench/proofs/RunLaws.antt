@@ -11,17 +11,17 @@ use mathlib.Core.Path.{_∙_, _≡_, ap, refl, subst, sym}
 use lib.Dec.{ltb}
 use Rattle.laws.proofs.ConnectiveLaws.{known}
 use Rattle.files.specs.Diagram.{Diagram}
-use Rattle.bench.specs.Bench as abstract
-use Rattle.bench.specs.Bench.{Outcome, difference}
+use Rattle.steps.specs.Bench as abstract
+use Rattle.steps.specs.Bench.{Outcome, difference}
 use Rattle.bench.specs.Calls.{Valid, ValidPlace}
-use Rattle.bench.specs.Row.{Row, dropsOrStores}
+use Rattle.steps.specs.Row.{Row, dropsOrStores}
 use Rattle.bench.specs.Runs.{Did, Made, Run, RunHandsOut, RunStays, RunsRight, after, eventOf, eventsOf, listed, outcomeOf, replied}
-use Rattle.bench.specs.Step.{Compares, Step}
+use Rattle.steps.specs.Step.{Compares, Step}
 use Rattle.bench.specs.View.{benchOf, diagramIn, freshIn, noPlace, noWitness, replyOf, witnessIn}
 use Rattle.bench.specs.declared.Bench.{Bench}
 use Rattle.bench.specs.declared.Place.{Place}
 use Rattle.bench.specs.declared.Reply.{Reply}
-use Rattle.bench.proofs.BenchLaws.{hands-out}
+use Rattle.steps.proofs.BenchLaws.{hands-out}
 use Rattle.bench.proofs.CompareLaws.{empty-in, loaded-in}
 
 -- ---- one call

@@ -3,8 +3,8 @@
 use mathlib.Core.Bool.{Bool, false, not, true}
 use mathlib.Core.List.{List, [], _∷_}
 use mathlib.Core.Path.{_≡_}
-use Rattle.bench.specs.Bench.{Bench, Call, Clear, Compare, Compile, Evaluate, HandOut, Judge, Load, Outcome, Reply, difference, done, firstFalse, fresh, noDifference, records, refusal, rule, written}
-use Rattle.bench.specs.Step.{Step}
+use Rattle.steps.specs.Bench.{Bench, Call, Clear, Compare, Compile, Evaluate, HandOut, Judge, Load, Outcome, Reply, difference, done, firstFalse, fresh, noDifference, records, refusal, rule, written}
+use Rattle.steps.specs.Step.{Step}
 
 pub record Event : Type 0 where
   pub call : Call

@@ -21,10 +21,10 @@ use Rattle.files.specs.Refusal.{Answer, accepted, refused}
 use Rattle.comparing.specs.Difference.{Finds, Least}
 use Rattle.comparing.specs.HandedOut as comparing
 use Rattle.comparing.proofs.WitnessLaws.{least-out, one-count}
-use Rattle.bench.specs.Bench.{Bench, Call, Clear, Compare, Compile, Evaluate, HandOut, Judge, Load, Outcome, Reply, difference, done, dropWitness, firstFalse, gives, noDifference, placeOf, records, refusal, rule, storeWitness, withPlace, written}
-use Rattle.bench.specs.HandedOut.{HandedOut, HandsOut, OneReply}
-use Rattle.bench.specs.Row.{Event, Keeps, Row, dropsOrStores, isRefusal}
-use Rattle.bench.specs.Step.{Compares, Step, clear, compiling, evaluating, found, handOut, inPlace, judging, load, needing, reading}
+use Rattle.steps.specs.Bench.{Bench, Call, Clear, Compare, Compile, Evaluate, HandOut, Judge, Load, Outcome, Reply, difference, done, dropWitness, firstFalse, gives, noDifference, placeOf, records, refusal, rule, storeWitness, withPlace, written}
+use Rattle.steps.specs.HandedOut.{HandedOut, HandsOut, OneReply}
+use Rattle.steps.specs.Row.{Event, Keeps, Row, dropsOrStores, isRefusal}
+use Rattle.steps.specs.Step.{Compares, Step, clear, compiling, evaluating, found, handOut, inPlace, judging, load, needing, reading}
 
 -- ---- replies told apart
 
