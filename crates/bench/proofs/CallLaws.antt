@@ -5,8 +5,8 @@ use mathlib.Core.List.{List, []}
 use mathlib.Core.Path.{refl}
 use Rattle.steps.specs.Bench.{Call}
 use Rattle.steps.specs.Bench as abstract
-use Rattle.bench.specs.Calls.{Does, Stays, Valid}
 use Rattle.steps.specs.Step.{Step}
+use Rattle.bench.specs.Calls.{Does, Stays, Valid}
 use Rattle.bench.specs.View.{benchOf, replyOf}
 use Rattle.bench.specs.declared.Bench.{Bench}
 use Rattle.bench.specs.declared.Reply.{Reply}

@@ -29,11 +29,11 @@ place-is b p = by (eqb p 0)
     by true = refl
     by false = refl
 
-empty-in : (x : Place) → not (x .loaded) ≡ true → diagramIn x ≡ none
+pub empty-in : (x : Place) → not (x .loaded) ≡ true → diagramIn x ≡ none
 unfolding diagramIn
 empty-in x n = rw (not-true (x .loaded) n)
 
-full-in : (x : Place) → not (x .loaded) ≡ false → diagramIn x ≡ some (diagramOf (x .diagram))
+pub full-in : (x : Place) → not (x .loaded) ≡ false → diagramIn x ≡ some (diagramOf (x .diagram))
 unfolding diagramIn
 full-in x n = rw (not-false (x .loaded) n)
 
@@ -91,16 +91,16 @@ valid-fresh = valid-dropped noPlace noPlace valid-no-place valid-no-place
 abbrev pub storedIn : Bench → ℕ → Place → Bench
 storedIn b p x = withWitnessIn (withPlaceIn b p x) noWitness
 
-no-witness-in : (x y : Place) → witnessIn (record { old = x; new = y; witness = noWitness }) ≡ none
-unfolding witnessIn noWitness
-no-witness-in x y = refl
+pub bench-dropped : (b : Bench) → benchOf (withWitnessIn b noWitness) ≡ dropWitness (benchOf b)
+unfolding benchOf witnessIn dropWitness noWitness
+bench-dropped b = refl
 
 -- of both places, p is one
 module _ (b : Bench) where
   pub stored-is : (p : ℕ) (x : Place) → p ≤ 1 → benchOf (storedIn b p x) ≡ dropWitness (withPlace p (diagramIn x) (benchOf b))
   unfolding benchOf withPlaceIn dropWitness withPlace
-  stored-is zero x h = rw (no-witness-in x (b .new))
-  stored-is (suc zero) x h = rw (no-witness-in (b .old) x)
+  stored-is zero x h = bench-dropped (withPlaceIn b 0 x)
+  stored-is (suc zero) x h = bench-dropped (withPlaceIn b 1 x)
   stored-is (suc (suc p)) x h = absurd (omega arith)
 
   pub valid-stored : (p : ℕ) (x : Place) → p ≤ 1 → Valid b → ValidPlace x → Valid (storedIn b p x)

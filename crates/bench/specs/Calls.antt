@@ -11,7 +11,7 @@ use Rattle.diagrams.specs.Held.{Held}
 use Rattle.diagrams.specs.View.{diagramOf}
 use Rattle.records.specs.Written.{Within}
 use Rattle.steps.specs.Bench as abstract
-use Rattle.steps.specs.Bench.{Call, Clear, Compare, Compile, Evaluate, HandOut, Judge, Load, Outcome}
+use Rattle.steps.specs.Bench.{Call, Clear, Compare, Compile, Evaluate, HandOut, Judge, Load}
 use Rattle.steps.specs.Row.{dropsOrStores, isRefusal}
 use Rattle.steps.specs.Step.{Step}
 use Rattle.bench.specs.View.{benchOf, noPlace, noWitness, replyOf}

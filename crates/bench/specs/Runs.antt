@@ -8,9 +8,9 @@ use mathlib.Core.Path.{_≡_}
 use Rattle.diagrams.specs.View.{diagramOf}
 use Rattle.steps.specs.Bench as abstract
 use Rattle.steps.specs.Bench.{Call, Compare, Compile, HandOut, Outcome}
-use Rattle.bench.specs.Calls.{Does, DoesWith, Valid}
 use Rattle.steps.specs.HandedOut.{HandedOut}
 use Rattle.steps.specs.Row.{Event, Keeps, Row}
+use Rattle.bench.specs.Calls.{Does, DoesWith, Valid}
 use Rattle.bench.specs.View.{benchOf, freshIn, replyOf}
 use Rattle.bench.specs.declared.Bench.{Bench}
 use Rattle.bench.specs.declared.Listed.{Listed}
