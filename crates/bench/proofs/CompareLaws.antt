@@ -70,8 +70,11 @@ places-stay b e bound reply w q r = record {
 }
 
 -- both diagrams were read
-pub compare-held : (b : Bench) → Valid b → not (b .old .loaded) ≡ false → not (b .new .loaded) ≡ false → Held (b .old .diagram) × Held (b .new .diagram)
-compare-held b v m n = (v .old .held (not-false _ m), v .new .held (not-false _ n))
+pub old-held : (b : Bench) → Valid b → not (b .old .loaded) ≡ false → Held (b .old .diagram)
+old-held b v n = v .old .held (not-false _ n)
+
+pub new-held : (b : Bench) → Valid b → not (b .new .loaded) ≡ false → Held (b .new .diagram)
+new-held b v n = v .new .held (not-false _ n)
 
 -- the count is at most 8, so a byte holds it
 pub compare-count : {old new : Diagram} {bound : ℕ} {f : Found} → comparing.Compares old new bound f → f .ok ≡ true → f .witness .count < 256
@@ -137,4 +140,4 @@ module _ (b : Bench) (bound : ℕ) (v : Valid b) where
         same : y ≡ withWitnessIn b noWitness
         same = e ∙ ap (withWitnessIn b) q
 
-pub ruleset compares = (compare-bound, compare-old, compare-new, compare-gap)
+pub ruleset compares = (compare-bound, compare-old, compare-new, compare-gap, compare-none)
