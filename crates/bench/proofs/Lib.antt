@@ -5,3 +5,5 @@ pub mod StoreLaws
 pub mod HandOutLaws
 pub mod CompareLaws
 pub mod RunLaws
+pub mod LowestLaws
+pub mod Demands

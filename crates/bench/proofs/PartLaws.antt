@@ -3,10 +3,12 @@
 use Prim.Native.Nat.{_≤_, suc, zero, ℕ}
 use native.Mathlib.Omega.{arith}
 use mathlib.Core.Bool.{Bool, cond, false, false≢true, not, true, true≢false}
-use mathlib.Core.Option.{none, some}
+use mathlib.Core.Option.{Option, none, some}
 use mathlib.Core.Path.{_∙_, _≡_, ap, refl, subst, sym}
 use lib.Dec.{eqb}
 use borrow.Author.Tests.{not-false, not-true}
+use Rattle.files.specs.Diagram.{Diagram}
+use Rattle.files.specs.WellFormedDiagram.{WfDiagram}
 use Rattle.diagrams.specs.Held.{Held}
 use Rattle.diagrams.specs.View.{diagramOf}
 use Rattle.diagrams.specs.declared.StoredDiagram.{StoredDiagram}
@@ -75,6 +77,19 @@ valid-place b p v = by (eqb p 0)
 -- a diagram in a place is one that was read
 pub held-place : {b : Bench} (p : ℕ) {x : Place} → Valid b → x ≡ placeIn b p → not (x .loaded) ≡ false → Held (x .diagram)
 held-place {b} p {x} v is n = subst ValidPlace (sym is) (valid-place b p v) .held (not-false (x .loaded) n)
+
+-- so it is well formed
+pub wf-place : (b : Bench) (p : ℕ) (d : Diagram) → Valid b → placeOf p (benchOf b) ≡ some d → WfDiagram d
+unfolding diagramIn
+wf-place b p d v e = subst Wf (sym (place-is b p) ∙ e) (by (placeIn b p .loaded) refl)
+  where
+    Wf : Option Diagram → Type 0
+    Wf none = Unit {0}
+    Wf (some x) = WfDiagram x
+
+    by : (t : Bool) → placeIn b p .loaded ≡ t → Wf (cond t (some (diagramOf (placeIn b p .diagram))) none)
+    by true h = valid-place b p v .held h .wf
+    by false h = tt
 
 not-stored : {A : Type 0} → noWitness .stored ≡ true → A
 unfolding noWitness

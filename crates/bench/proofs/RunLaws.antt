@@ -26,7 +26,7 @@ use Rattle.bench.proofs.PartLaws.{empty-in, full-in, valid-fresh}
 
 -- ---- one call
 
-made-step : (b : Bench) (m : Made) → Did b m → Step (benchOf b) (eventOf m .call) (eventOf m .outcome)
+pub made-step : (b : Bench) (m : Made) → Did b m → Step (benchOf b) (eventOf m .call) (eventOf m .outcome)
 made-step b (replied c r buffer) d = d .step
 made-step b (listed p r) d = d .step
 
@@ -34,7 +34,7 @@ made-valid : (b : Bench) (m : Made) → Did b m → Valid (after m)
 made-valid b (replied c r buffer) d = d .valid
 made-valid b (listed p r) d = d .valid
 
-made-stays : (b : Bench) (m : Made) → Did b m → dropsOrStores (eventOf m .call) (eventOf m .outcome .reply) ≡ false → after m ≡ b
+pub made-stays : (b : Bench) (m : Made) → Did b m → dropsOrStores (eventOf m .call) (eventOf m .outcome .reply) ≡ false → after m ≡ b
 made-stays b (replied c r buffer) d h = d .stays .all h
 made-stays b (listed p r) d h = d .stays .all h
 
