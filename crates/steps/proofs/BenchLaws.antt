@@ -4,7 +4,7 @@
 -- Assumes nothing.
 use Prim.Native.Nat.{_≤_, suc, ℕ}
 use native.Mathlib.Omega.{arith}
-use mathlib.Core.Bool.{Bool, cond, false, false≢true, not, true, true≢false}
+use mathlib.Core.Bool.{Bool, cond, false, false≢true, true, true≢false}
 use mathlib.Core.List.{List, [], _∷_}
 use mathlib.Core.Option.{Option, Option·map, none, some}
 use mathlib.Core.Path.{_∙_, _≡_, ap, refl, subst, subst₂, sym}
@@ -21,10 +21,10 @@ use Rattle.files.specs.Refusal.{Answer, accepted, refused}
 use Rattle.comparing.specs.Difference.{Finds, Least}
 use Rattle.comparing.specs.HandedOut as comparing
 use Rattle.comparing.proofs.WitnessLaws.{least-out, one-count}
-use Rattle.bench.specs.Bench.{Bench, Call, Clear, Compare, Compile, Evaluate, HandOut, Judge, Load, Outcome, Reply, difference, done, dropWitness, firstFalse, gives, noDifference, placeOf, records, refusal, rule, storeWitness, withPlace, written}
-use Rattle.bench.specs.HandedOut.{HandedOut, HandsOut, OneReply}
-use Rattle.bench.specs.Row.{Event, Keeps, Row, dropsOrStores, isRefusal}
-use Rattle.bench.specs.Step.{Compares, Step, clear, compiling, evaluating, found, handOut, inPlace, judging, load, needing, reading}
+use Rattle.steps.specs.Bench.{Bench, Call, Clear, Compare, Compile, Evaluate, HandOut, Judge, Load, Outcome, Reply, difference, done, firstFalse, gives, noDifference, placeOf, records, refusal, rule, storeWitness, written}
+use Rattle.steps.specs.HandedOut.{HandedOut, HandsOut, OneReply}
+use Rattle.steps.specs.Row.{Event, Keeps, Row, dropsOrStores, isRefusal, lent}
+use Rattle.steps.specs.Step.{Compares, Step, clear, compiling, evaluating, found, handOut, inPlace, judging, load, needing, reading}
 
 -- ---- replies told apart
 
@@ -50,86 +50,92 @@ lengthOf noDifference = 0
 lengthOf (difference n) = 0
 lengthOf (written n) = suc n
 
--- ---- a row that keeps the witness keeps the bench
+-- ---- the ways out of a call: what holds of each holds of what the call gives
 
-load-refused : (b : Bench) (p : ℕ) (file : List ℕ) → isRefusal (load b p file .reply) ≡ true → load b p file .bench ≡ b
-unfolding load inPlace reading isRefusal
-load-refused b p file h = go (ltb 1 p) (readDiagram file) h
+module _ (P : Outcome → Type 0) (b : Bench) where
+  by-place : (p : ℕ) (o : Outcome) → P (gives (refusal 10) b) → P o → P (inPlace p b o)
+  unfolding inPlace
+  by-place p o r h = go (ltb 1 p)
+    where
+      go : (t : Bool) → P (cond t (gives (refusal 10) b) o)
+      go true = r
+      go false = h
+
+  by-need : (x : Option Diagram) (f : Diagram → Outcome) → P (gives (refusal 21) b) → ((d : Diagram) → P (f d)) → P (needing b x f)
+  unfolding needing
+  by-need none f r h = r
+  by-need (some d) f r h = h d
+
+  by-file : {A : Type 0} (a : Answer A) (f : A → Outcome) → ((n : ℕ) → P (gives (refusal n) b)) → ((x : A) → P (f x)) → P (reading b a f)
+  unfolding reading
+  by-file (refused n) f r h = r n
+  by-file (accepted x) f r h = h x
+
+  by-compare : (t : Bool) (x y : Option Diagram) (bound : ℕ) (o : Outcome) → Compares b t x y bound o → ((n : ℕ) → P (gives (refusal n) b))
+      → ((w : Option Record) → P (found b w)) → P o
+  by-compare true x y bound o s r h = subst P (sym s) (r 9)
+  by-compare false none y bound o s r h = subst P (sym s) (r 21)
+  by-compare false (some old) none bound o s r h = subst P (sym s) (r 21)
+  by-compare false (some old) (some new) bound o s r h = subst P (sym (s .2)) (h (s .0))
+
+  by-hand : (x : Option Record) (buffer : List ℕ) → ((n : ℕ) → P (record { reply = refusal n; bench = b; buffer = buffer }))
+      → ((n : ℕ) (after : List ℕ) → P (record { reply = written n; bench = b; buffer = after })) → P (handOut b x buffer)
+  unfolding handOut
+  by-hand none buffer r h = r 22
+  by-hand (some w) buffer r h = go (leb 60000 (length buffer))
+    where
+      go : (t : Bool) → P (cond t (record { reply = written (length (writeRecord w)); bench = b; buffer = over (writeRecord w) buffer })
+          (record { reply = refusal 20; bench = b; buffer = buffer }))
+      go true = h _ _
+      go false = r 20
+
+-- ---- what a call leaves
+
+-- a call that neither drops nor stores a witness leaves the bench as it came, and a refusal leaves the buffer
+pub record Leaves (b : Bench) (c : Call) (o : Outcome) : Type 0 where
+  pub bench : dropsOrStores c (o .reply) ≡ false → o .bench ≡ b
+  pub buffer : isRefusal (o .reply) ≡ true → o .buffer ≡ lent c
+
+kept : (b : Bench) (c : Call) (reply : Reply) → lent c ≡ [] → Leaves b c (gives reply b)
+kept b c reply e = record { bench = λ h. refl; buffer = λ h. sym e }
+
+changed : (b d : Bench) (c : Call) (reply : Reply) → lent c ≡ [] → dropsOrStores c reply ≡ true → Leaves b c (gives reply d)
+changed b d c reply e t = record { bench = λ h. absurd (true≢false (sym t ∙ h)); buffer = λ h. sym e }
+
+pub leaves : (b : Bench) (c : Call) (o : Outcome) → Step b c o → Leaves b c o
+unfolding dropsOrStores isRefusal lent load clear judging compiling evaluating found
+leaves b (Load p file) o s =
+    let P = Leaves b (Load p file) in
+    subst P (sym s)
+    (by-place P b p _ (kept b (Load p file) _ refl) (by-file P b (readDiagram file) _ (λ n. kept b (Load p file) _ refl) (λ d. changed b _ (Load p file) done refl refl)))
+leaves b (Clear p) o s =
+    let P = Leaves b (Clear p) in subst P (sym s) (by-place P b p _ (kept b (Clear p) _ refl) (changed b _ (Clear p) done refl refl))
+leaves b (Judge p file) o s =
+    let P = Leaves b (Judge p file) in
+    let k : (reply : Reply) → P (gives reply b) = λ reply. kept b (Judge p file) reply refl in
+    subst P (sym s) (by-place P b p _ (k _) (by-need P b (placeOf p b) _ (k _) (λ d. by-file P b (readRecord file) _ (λ n. k _) (λ r. k _))))
+leaves b (Compile p) o s =
+    let P = Leaves b (Compile p) in
+    let k : (reply : Reply) → P (gives reply b) = λ reply. kept b (Compile p) reply refl in
+    subst P (sym s) (by-place P b p _ (k _) (by-need P b (placeOf p b) _ (k _) (λ d. k _)))
+leaves b (Evaluate p file) o s =
+    let P = Leaves b (Evaluate p file) in
+    let k : (reply : Reply) → P (gives reply b) = λ reply. kept b (Evaluate p file) reply refl in
+    subst P (sym s) (by-place P b p _ (k _) (by-need P b (placeOf p b) _ (k _) (λ d. by-file P b (readRecord file) _ (λ n. k _) (λ r. k _))))
+leaves b (Compare bound) o s =
+    by-compare (Leaves b (Compare bound)) b (ltb 8 bound) (b .old) (b .new) bound o s (λ n. kept b (Compare bound) _ refl) given
   where
-    stored : Diagram → Outcome
-    stored d = gives done (dropWitness (withPlace p (some d) b))
-
-    go : (t : Bool) (a : Answer Diagram) → isRefusal (cond t (gives (refusal 10) b) (reading b a stored) .reply) ≡ true
-        → cond t (gives (refusal 10) b) (reading b a stored) .bench ≡ b
-    go true a e = refl
-    go false (refused n) e = refl
-    go false (accepted d) e = absurd (false≢true e)
-
-clear-refused : (b : Bench) (p : ℕ) → isRefusal (clear b p .reply) ≡ true → clear b p .bench ≡ b
-unfolding clear inPlace isRefusal
-clear-refused b p h = go (ltb 1 p) h
-  where
-    go : (t : Bool) → isRefusal (cond t (gives (refusal 10) b) (gives done (dropWitness (withPlace p none b))) .reply) ≡ true
-        → cond t (gives (refusal 10) b) (gives done (dropWitness (withPlace p none b))) .bench ≡ b
-    go true e = refl
-    go false e = absurd (false≢true e)
-
--- a call on a place that only replies
-placed : (b : Bench) (p : ℕ) (x : Option Diagram) (f : Diagram → Outcome) → ((d : Diagram) → f d .bench ≡ b) → inPlace p b (needing b x f) .bench ≡ b
-unfolding inPlace needing
-placed b p x f g = go (ltb 1 p) x
-  where
-    go : (t : Bool) (y : Option Diagram) → cond t (gives (refusal 10) b) (needing b y f) .bench ≡ b
-    go true y = refl
-    go false none = refl
-    go false (some d) = g d
-
-read-bench : {A : Type 0} (b : Bench) (a : Answer A) (f : A → Outcome) → ((x : A) → f x .bench ≡ b) → reading b a f .bench ≡ b
-unfolding reading
-read-bench b (refused n) f g = refl
-read-bench b (accepted x) f g = g x
-
-compare-refused : (b : Bench) (t : Bool) (x y : Option Diagram) (bound : ℕ) (o : Outcome) → Compares b t x y bound o
-    → isRefusal (o .reply) ≡ true → o .bench ≡ b
-unfolding found isRefusal
-compare-refused b true x y bound o s h = ap (λ (q : Outcome). q .bench) s
-compare-refused b false none y bound o s h = ap (λ (q : Outcome). q .bench) s
-compare-refused b false (some old) none bound o s h = ap (λ (q : Outcome). q .bench) s
-compare-refused b false (some old) (some new) bound o s h = absurd (go (s .0) (sym h ∙ ap (λ (q : Outcome). isRefusal (q .reply)) (s .2)))
-  where
-    go : (x : Option Record) → true ≡ isRefusal (found b x .reply) → ⊥
-    go none e = true≢false e
-    go (some w) e = true≢false e
-
-hand-bench : (b : Bench) (x : Option Record) (buffer : List ℕ) → handOut b x buffer .bench ≡ b
-unfolding handOut
-hand-bench b none buffer = refl
-hand-bench b (some w) buffer = go (leb 60000 (length buffer))
-  where
-    go : (t : Bool) → cond {A = Outcome} t (record { reply = written (length (writeRecord w)); bench = b; buffer = over (writeRecord w) buffer })
-        (record { reply = refusal 20; bench = b; buffer = buffer }) .bench ≡ b
-    go true = refl
-    go false = refl
-
-not-kept : (t : Bool) → not t ≡ false → t ≡ true
-not-kept true e = refl
-not-kept false e = absurd (true≢false e)
-
--- a call that neither drops nor stores a witness leaves the bench as it came
-pub stays : (b : Bench) (c : Call) (o : Outcome) → Step b c o → dropsOrStores c (o .reply) ≡ false → o .bench ≡ b
-unfolding dropsOrStores judging compiling evaluating
-stays b (Load p file) o s h =
-    ap (λ (q : Outcome). q .bench) s ∙ load-refused b p file (ap (λ (q : Outcome). isRefusal (q .reply)) (sym s) ∙ not-kept _ h)
-stays b (Clear p) o s h = ap (λ (q : Outcome). q .bench) s ∙ clear-refused b p (ap (λ (q : Outcome). isRefusal (q .reply)) (sym s) ∙ not-kept _ h)
-stays b (Judge p file) o s h = ap (λ (q : Outcome). q .bench) s ∙ placed b p (placeOf p b) _ (λ d. read-bench b (readRecord file) _ (λ r. refl))
-stays b (Compile p) o s h = ap (λ (q : Outcome). q .bench) s ∙ placed b p (placeOf p b) _ (λ d. refl)
-stays b (Evaluate p file) o s h = ap (λ (q : Outcome). q .bench) s ∙ placed b p (placeOf p b) _ (λ d. read-bench b (readRecord file) _ (λ r. refl))
-stays b (Compare bound) o s h = compare-refused b (ltb 8 bound) (b .old) (b .new) bound o s (not-kept _ h)
-stays b (HandOut buffer) o s h = ap (λ (q : Outcome). q .bench) s ∙ hand-bench b (b .witness) buffer
+    given : (w : Option Record) → Leaves b (Compare bound) (found b w)
+    given none = changed b _ (Compare bound) noDifference refl refl
+    given (some w) = changed b _ (Compare bound) (difference (objectCount w)) refl refl
+leaves b (HandOut buffer) o s =
+    subst (Leaves b (HandOut buffer)) (sym s)
+    (by-hand (Leaves b (HandOut buffer)) b (b .witness) buffer (λ n. record { bench = λ h. refl; buffer = λ h. refl })
+    (λ n after. record { bench = λ h. refl; buffer = λ h. absurd (false≢true h) }))
 
 pub row-stays : (b : Bench) (es : List Event) (c : Bench) → Row b es c → Keeps es → c ≡ b
 row-stays b [] c r k = sym r
-row-stays b (e ∷ es) c r k = row-stays (e .outcome .bench) es c (r .1) (k .1) ∙ stays b (e .call) (e .outcome) (r .0) (k .0)
+row-stays b (e ∷ es) c r k = row-stays (e .outcome .bench) es c (r .1) (k .1) ∙ leaves b (e .call) (e .outcome) (r .0) .bench (k .0)
 
 -- ---- what "difference" says
 

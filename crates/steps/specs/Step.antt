@@ -19,7 +19,7 @@ use Rattle.rules.specs.Compile.{compile, compiledBytes}
 use Rattle.rules.specs.Evaluate.{evaluate}
 use Rattle.rules.specs.Judge.{judge}
 use Rattle.comparing.specs.Difference.{Finds}
-use Rattle.bench.specs.Bench.{Bench, Call, Clear, Compare, Compile, Evaluate, HandOut, Judge, Load, Outcome, difference, done, dropWitness, firstFalse, gives, noDifference, placeOf, records, refusal, rule, storeWitness, withPlace, written}
+use Rattle.steps.specs.Bench.{Bench, Call, Clear, Compare, Compile, Evaluate, HandOut, Judge, Load, Outcome, difference, done, dropWitness, firstFalse, gives, noDifference, placeOf, records, refusal, rule, storeWitness, withPlace, written}
 
 -- ---- refusals of the calls: "Order: 9, 10, 21, then the file; 22, then 20."
 

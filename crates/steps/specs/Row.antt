@@ -1,10 +1,11 @@
 -- 01 "The bench": rows of calls, "refused ones included".
 -- Assumes nothing.
+use Prim.Native.Nat.{ℕ}
 use mathlib.Core.Bool.{Bool, false, not, true}
 use mathlib.Core.List.{List, [], _∷_}
 use mathlib.Core.Path.{_≡_}
-use Rattle.bench.specs.Bench.{Bench, Call, Clear, Compare, Compile, Evaluate, HandOut, Judge, Load, Outcome, Reply, difference, done, firstFalse, fresh, noDifference, records, refusal, rule, written}
-use Rattle.bench.specs.Step.{Step}
+use Rattle.steps.specs.Bench.{Bench, Call, Clear, Compare, Compile, Evaluate, HandOut, Judge, Load, Outcome, Reply, difference, done, firstFalse, noDifference, records, refusal, rule, written}
+use Rattle.steps.specs.Step.{Step}
 
 pub record Event : Type 0 where
   pub call : Call
@@ -15,10 +16,6 @@ abbrev pub Row : Bench → List Event → Bench → Type 0
 Row b [] last = b ≡ last
 Row b (e ∷ es) last = Step b (e .call) (e .outcome) × Row (e .outcome .bench) es last
 
--- "A bench is the fresh one or one that a call returned."
-abbrev pub Reached : Bench → Type 0
-Reached b = (es : List Event) × Row fresh es b
-
 unfoldable pub isRefusal : Reply → Bool
 isRefusal (refusal n) = true
 isRefusal done = false
@@ -28,6 +25,16 @@ isRefusal (firstFalse n) = false
 isRefusal noDifference = false
 isRefusal (difference n) = false
 isRefusal (written n) = false
+
+-- what the lent buffer holds before the call; [] where none is lent
+unfoldable pub lent : Call → List ℕ
+lent (Load p file) = []
+lent (Clear p) = []
+lent (Judge p file) = []
+lent (Compile p) = []
+lent (Evaluate p file) = []
+lent (Compare bound) = []
+lent (HandOut buffer) = buffer
 
 -- the call "drops or stores a witness": an accepted load, clear or compare
 unfoldable pub dropsOrStores : Call → Reply → Bool

@@ -17,8 +17,8 @@ use Rattle.files.specs.RecordBytes.{linkBytes, valueBytes, writeRecord}
 use Rattle.files.specs.Refusal.{Answer, accepted, refused}
 use Rattle.rules.specs.CompileCases.{compiledOf, sameBytes}
 use Rattle.rules.specs.Marked.{card, fileE, fileP, fileQ, shelfOfThree, verdict}
-use Rattle.bench.specs.Bench.{Bench, Outcome, Reply, difference, done, dropWitness, firstFalse, fresh, noDifference, placeOf, records, refusal, rule, storeWitness, withPlace, written}
-use Rattle.bench.specs.Step.{clear, compiling, evaluating, found, handOut, inPlace, judging, load, needing, reading}
+use Rattle.steps.specs.Bench.{Bench, Outcome, Reply, difference, done, dropWitness, firstFalse, fresh, noDifference, placeOf, records, refusal, rule, storeWitness, withPlace, written}
+use Rattle.steps.specs.Step.{clear, compiling, evaluating, found, handOut, inPlace, judging, load, needing, reading}
 
 -- a reply as a number: a refusal is itself, an accepted reply 100 and its number
 unfoldable pub number : Reply → ℕ

@@ -9,9 +9,9 @@ use lib.ListN.{drop, length, take}
 use Rattle.files.specs.Diagram.{Diagram}
 use Rattle.files.specs.Record.{Record, objectCount}
 use Rattle.comparing.specs.Difference.{Gap}
-use Rattle.bench.specs.Bench.{Bench, Compare, HandOut, Outcome, difference, written}
-use Rattle.bench.specs.Row.{Event, Keeps, Row, isRefusal}
-use Rattle.bench.specs.Step.{Step}
+use Rattle.steps.specs.Bench.{Bench, Compare, HandOut, Outcome, difference, written}
+use Rattle.steps.specs.Row.{Event, Keeps, Row, isRefusal}
+use Rattle.steps.specs.Step.{Step}
 
 -- "Its bytes are the buffer's first ones, as many as the length returned, whatever the buffer held before."
 pub record HandedOut (old new : Diagram) (n : ℕ) (buffer : List ℕ) (o : Outcome) : Type 0 where
