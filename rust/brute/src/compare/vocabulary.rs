@@ -60,6 +60,14 @@ impl Vocabulary {
         ]
     }
 
+    /// Leaves the names of the two diagrams alone.
+    #[cfg(test)]
+    pub fn drop_foreign(&mut self) {
+        for list in self.lists() {
+            list.pop();
+        }
+    }
+
     /// A valid name that stands in none of the lists.
     fn foreign_name(&mut self) -> Name {
         let taken = self.lists().map(|list| list.clone()).concat();
