@@ -188,7 +188,7 @@ fn links_of_foreign_roles_agree_with_the_plainest_comparison() {
 #[test]
 fn three_objects_agree_with_the_plainest_comparison() {
     let found = agreeing(Size {
-        pairs: 40,
+        pairs: 15,
         bound: 3,
         associations: 2,
         attributes: 0,
