@@ -1,0 +1,26 @@
+//! An independent comparer: files, judging, compiling, evaluating, comparing and the bench,
+//! written from the specification alone and in the plainest form, to check others against.
+
+mod bench;
+mod bytes;
+mod compare;
+mod diagram;
+mod objects;
+mod predicates;
+mod record;
+mod refusal;
+mod replay;
+mod rules;
+
+pub use bench::Bench;
+pub use compare::{compare, compare_within, TooLarge};
+pub use diagram::{
+    read_diagram, Association, Attribute, Diagram, End, Form, Kind, Limits, Side, Type, ValueType,
+};
+pub use predicates::{compile, evaluate};
+pub use record::{read_record, write_record, Link, Record, Value};
+pub use replay::replay;
+pub use rules::judge;
+
+/// A name of a diagram or a record, without its length byte.
+pub type Name = Vec<u8>;
