@@ -47,6 +47,21 @@ pub fn diagram(random: &mut Random, size: Size) -> DiagramPlan {
     plan
 }
 
+/// The same diagram made easy to satisfy: classes only, and hardly any lower limit, so that what
+/// is left to differ are links.
+pub fn loosened(random: &mut Random, plan: &DiagramPlan) -> DiagramPlan {
+    let mut result = plan.clone();
+    for t in &mut result.types {
+        t.kind = 0;
+    }
+    for a in &mut result.associations {
+        for end in [&mut a.left, &mut a.right] {
+            end.low = u8::from(end.up > 0 && random.chance(1, 6));
+        }
+    }
+    result
+}
+
 /// Adds a value type, plain or with a few constants.
 pub fn add_value_type(random: &mut Random, plan: &mut DiagramPlan) {
     let taken: Vec<&[u8]> = plan.value_types.iter().map(|v| v.name.as_slice()).collect();

@@ -34,14 +34,26 @@ const EDITS: [Edit; 24] = [
     drop_something,
 ];
 
+const LINK_EDITS: [Edit; 4] = [change_arrow, change_form, share_role, disagree_on_role];
+
 /// A diagram that differs from this one by one or a few edits and is accepted too.
 pub fn edited(random: &mut Random, plan: &DiagramPlan) -> DiagramPlan {
+    edited_by(random, plan, &EDITS)
+}
+
+/// The same with edits of associations' arrows, forms and roles only.
+pub fn redrawn(random: &mut Random, plan: &DiagramPlan) -> DiagramPlan {
+    edited_by(random, plan, &LINK_EDITS)
+}
+
+/// Tries edits of the list until one or a few changed something and kept the format.
+fn edited_by(random: &mut Random, plan: &DiagramPlan, list: &[Edit]) -> DiagramPlan {
     let edits = *random.pick(&[1, 1, 1, 2, 3]);
     let mut result = plan.clone();
     let mut done = 0;
     for _ in 0..40 {
         let mut next = result.clone();
-        random.pick(&EDITS)(random, &mut next);
+        random.pick(list)(random, &mut next);
         if next != result && keeps_the_format(&next) {
             result = next;
             done += 1;
@@ -53,14 +65,18 @@ pub fn edited(random: &mut Random, plan: &DiagramPlan) -> DiagramPlan {
     result
 }
 
-/// Whether the plan keeps what edits may break: parents of interfaces, arrows of compositions.
+/// Whether the plan keeps what edits may break: the number of types, parents of interfaces, arrows
+/// of compositions.
 fn keeps_the_format(plan: &DiagramPlan) -> bool {
     let interfaces = plan.types.iter().filter(|t| t.kind == 2).all(|t| {
         let mut parents = t.parents.iter();
         parents.all(|parent| plan.types[usize::from(*parent)].kind == 2)
     });
-    let compositions = plan.associations.iter().all(|a| a.form == 0 || a.arrow != 2);
-    interfaces && compositions
+    let compositions = plan
+        .associations
+        .iter()
+        .all(|a| a.form == 0 || a.arrow != 2);
+    plan.types.len() <= 24 && interfaces && compositions
 }
 
 /// One of the diagram's associations, if it has any.
@@ -241,7 +257,11 @@ fn disagree_on_role(random: &mut Random, plan: &mut DiagramPlan) {
         return;
     };
     let right = random.chance(1, 2);
-    let end = if right { &mut again.right } else { &mut again.left };
+    let end = if right {
+        &mut again.right
+    } else {
+        &mut again.left
+    };
     if random.chance(1, 2) {
         end.of = random.below(plan.types.len()) as u8;
     } else {
@@ -305,9 +325,12 @@ fn drop_type(random: &mut Random, plan: &mut DiagramPlan) {
     let gone = random.below(plan.types.len());
     let lost = gone as u8;
     plan.types.remove(gone);
-    plan.types.iter_mut().for_each(|t| t.parents.retain(|p| *p != lost));
+    plan.types
+        .iter_mut()
+        .for_each(|t| t.parents.retain(|p| *p != lost));
     plan.attributes.retain(|a| a.owner != lost);
-    plan.associations.retain(|a| a.left.of != lost && a.right.of != lost);
+    plan.associations
+        .retain(|a| a.left.of != lost && a.right.of != lost);
     each_type_index(plan, |index| if index > lost { index - 1 } else { index });
 }
 
@@ -317,6 +340,7 @@ fn drop_something(random: &mut Random, plan: &mut DiagramPlan) {
     if attribute && !plan.attributes.is_empty() {
         plan.attributes.remove(random.below(plan.attributes.len()));
     } else if !plan.associations.is_empty() {
-        plan.associations.remove(random.below(plan.associations.len()));
+        plan.associations
+            .remove(random.below(plan.associations.len()));
     }
 }

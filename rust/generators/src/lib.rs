@@ -8,6 +8,7 @@ pub mod calls;
 pub mod damage;
 pub mod diagrams;
 pub mod edits;
+pub mod faults;
 pub mod fields;
 pub mod fillings;
 pub mod hex;
@@ -21,5 +22,7 @@ pub mod records;
 pub mod rows;
 
 pub use calls::CallPlan;
-pub use plan::{Association, Attribute, DiagramPlan, End, Link, RecordPlan, Type, Value, ValueType};
+pub use plan::{
+    Association, Attribute, DiagramPlan, End, Link, RecordPlan, Type, Value, ValueType,
+};
 pub use random::Random;

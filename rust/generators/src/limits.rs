@@ -76,10 +76,22 @@ fn association(left: &[u8], right: &[u8]) -> Association {
 fn counted(tag: u8, count: usize) -> DiagramPlan {
     let mut plan = base();
     match tag {
-        0x20 => plan.value_types = (0..count).map(|i| value_type(&numbered(b"V", i), i % 3)).collect(),
-        0x30 => plan.types = (0..count).map(|i| class(&numbered(b"T", i), i.min(4))).collect(),
+        0x20 => {
+            plan.value_types = (0..count)
+                .map(|i| value_type(&numbered(b"V", i), i % 3))
+                .collect()
+        }
+        0x30 => {
+            plan.types = (0..count)
+                .map(|i| class(&numbered(b"T", i), i.min(4)))
+                .collect()
+        }
         0x40 => plan.attributes = (0..count).map(|i| attribute(&numbered(b"x", i))).collect(),
-        _ => plan.associations = (0..count).map(|i| association(&numbered(b"l", i), b"r")).collect(),
+        _ => {
+            plan.associations = (0..count)
+                .map(|i| association(&numbered(b"l", i), b"r"))
+                .collect()
+        }
     }
     plan
 }
@@ -144,7 +156,10 @@ fn numbers() -> Vec<Vec<u8>> {
             (plan.associations[0].left.low, plan.associations[0].left.up) = (low, up);
             files.push(plan.file());
             plan.associations[0] = association(b"l", b"r");
-            (plan.associations[0].right.low, plan.associations[0].right.up) = (low, up);
+            (
+                plan.associations[0].right.low,
+                plan.associations[0].right.up,
+            ) = (low, up);
             files.push(plan.file());
         }
     }
@@ -161,7 +176,9 @@ pub fn full() -> DiagramPlan {
                 constants: (0..8).map(|c| long(b'c', c)).collect(),
             })
             .collect(),
-        types: (0..24).map(|at| class(&long(b't', at), at.min(4))).collect(),
+        types: (0..24)
+            .map(|at| class(&long(b't', at), at.min(4)))
+            .collect(),
         attributes: (0..32)
             .map(|at| Attribute {
                 owner: at as u8 % 24,

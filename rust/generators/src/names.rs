@@ -21,7 +21,9 @@ pub fn fresh(random: &mut Random, names: &[&str], taken: &[&[u8]]) -> Vec<u8> {
         .filter(|name| !taken.contains(&name.as_bytes()))
         .collect();
     if free.is_empty() {
-        return numbered(b"N", taken.len());
+        let mut others = (0..).map(|number| numbered(b"N", number));
+        let untaken = |name: &Vec<u8>| !taken.contains(&name.as_slice());
+        return others.find(untaken).unwrap_or_default();
     }
     random.pick(&free).as_bytes().to_vec()
 }

@@ -80,7 +80,12 @@ fn with_links(count: usize) -> RecordPlan {
 /// The file with one more field that has a fault of its own.
 fn with_one_more(plan: &RecordPlan, tag: u8) -> Vec<Vec<u8>> {
     let front = plan.file();
-    let tails: [&[u8]; 4] = [&[tag, 0, 0], &[tag, 0, 1], &[0x61, 0, 2, 1, 65], &[0x64, 0, 0]];
+    let tails: [&[u8]; 4] = [
+        &[tag, 0, 0],
+        &[tag, 0, 1],
+        &[0x61, 0, 2, 1, 65],
+        &[0x64, 0, 0],
+    ];
     tails.iter().map(|tail| [&front, *tail].concat()).collect()
 }
 
@@ -118,7 +123,9 @@ fn numbers() -> Vec<Vec<u8>> {
     let mut files = Vec::new();
     for (field, content) in base().fields().iter().map(|f| f.content.len()).enumerate() {
         for at in 0..content {
-            for number in [0, 1, 2, 7, 8, 9, 16, 17, 47, 48, 57, 58, 64, 95, 96, 123, 128, 255] {
+            for number in [
+                0, 1, 2, 7, 8, 9, 16, 17, 47, 48, 57, 58, 64, 95, 96, 123, 128, 255,
+            ] {
                 let mut fields = base().fields();
                 fields[field].content[at] = number;
                 files.push(file(&fields));

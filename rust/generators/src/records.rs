@@ -17,7 +17,9 @@ pub fn record(random: &mut Random, plan: &DiagramPlan, most: usize) -> RecordPla
     add_values(random, plan, &types, &mut record);
     add_links(random, plan, &types, &mut record);
     mend_columns(random, plan, &types, &mut record);
-    mirror(random, plan, &types, &mut record);
+    if random.chance(4, 5) {
+        mirror(random, plan, &types, &mut record);
+    }
     if random.chance(1, 2) {
         for _ in 0..random.between(1, 3) {
             change(random, &mut record);
@@ -112,7 +114,12 @@ fn instances(plan: &DiagramPlan, types: &[usize], c: &Carried) -> Vec<usize> {
 fn mirror(random: &mut Random, plan: &DiagramPlan, types: &[usize], record: &mut RecordPlan) {
     for c in carried(plan).iter().filter(|c| c.association.arrow == 3) {
         let add = random.chance(1, 2);
-        let links: Vec<Link> = record.links.iter().filter(|l| l.role == c.to.role).cloned().collect();
+        let links: Vec<Link> = record
+            .links
+            .iter()
+            .filter(|l| l.role == c.to.role)
+            .cloned()
+            .collect();
         for l in links {
             let (from, to) = (usize::from(l.from), usize::from(l.to));
             let ends = is_instance(plan, types[from], usize::from(c.from.of))

@@ -28,7 +28,12 @@ struct Row<'a> {
 }
 
 /// A row of about `length` calls on a few diagrams that are small edits of each other.
-pub fn row(random: &mut Random, length: usize, size: Size, affordable: Affordable) -> Vec<CallPlan> {
+pub fn row(
+    random: &mut Random,
+    length: usize,
+    size: Size,
+    affordable: Affordable,
+) -> Vec<CallPlan> {
     let mut diagrams = vec![diagram(random, size), DiagramPlan::default()];
     for _ in 0..2 {
         let next = edited(random, &diagrams[0]);
