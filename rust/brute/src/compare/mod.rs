@@ -2,10 +2,15 @@
 //! fewest objects first, with the old diagram's rules as the filter.
 //!
 //! Nothing here assumes that names outside the old diagram cannot occur: they are tried, and
-//! the old diagram's rules turn them away.
+//! the old diagram's rules turn them away. Three things keep it short, each with its reason
+//! beside it: the order of objects (`choose_types`), records in parts (`fill`), and rows that no
+//! later choice can mend (`types_beyond_mending`, `beyond_mending`). The tests in `plain` do
+//! without any of them.
 
 mod groups;
 mod links;
+#[cfg(test)]
+mod plain;
 mod values;
 mod vocabulary;
 

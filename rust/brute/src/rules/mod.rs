@@ -16,17 +16,17 @@ use crate::record::Record;
 pub fn judge(d: &Diagram, r: &Record) -> u8 {
     let type_names: Vec<&[u8]> = r.objects.iter().map(Vec::as_slice).collect();
     let objects = Objects::new(d, &type_names);
-    let kept = [
-        types::rule_1(&objects),
-        types::rule_2(&objects),
-        values::rule_3(&objects, &r.values),
-        values::rule_4(&objects, &r.values),
-        links::rule_5(&objects, &r.links),
-        links::rule_6(&objects, &r.links),
-        links::rule_7(&objects, &r.links),
-        links::rule_8(&objects, &r.links),
-        wholes::rule_9(&objects, &r.links),
+    let rules: [&dyn Fn() -> bool; 9] = [
+        &|| types::rule_1(&objects),
+        &|| types::rule_2(&objects),
+        &|| values::rule_3(&objects, &r.values),
+        &|| values::rule_4(&objects, &r.values),
+        &|| links::rule_5(&objects, &r.links),
+        &|| links::rule_6(&objects, &r.links),
+        &|| links::rule_7(&objects, &r.links),
+        &|| links::rule_8(&objects, &r.links),
+        &|| wholes::rule_9(&objects, &r.links),
     ];
-    let broken = (1..=9).zip(kept).find(|(_, kept)| !kept);
+    let broken = (1..=9).zip(rules).find(|(_, is_kept)| !is_kept());
     broken.map_or(0, |(rule, _)| rule)
 }
