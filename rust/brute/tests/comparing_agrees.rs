@@ -2,6 +2,8 @@
 
 #[path = "checks/comparing.rs"]
 mod comparing;
+#[path = "checks/product.rs"]
+mod product;
 
 use comparing::{comparing_agrees, Tally};
 

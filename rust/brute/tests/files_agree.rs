@@ -2,6 +2,8 @@
 
 #[path = "checks/files.rs"]
 mod files;
+#[path = "checks/product.rs"]
+mod product;
 
 use files::{diagram_files, diagrams_agree, record_files, records_agree, Tally};
 use generators::damage::damaged;

@@ -2,6 +2,8 @@
 
 #[path = "checks/judging.rs"]
 mod judging;
+#[path = "checks/product.rs"]
+mod product;
 
 use judging::{judging_agrees, Tally};
 

@@ -6,6 +6,8 @@ mod comparing;
 mod files;
 #[path = "checks/judging.rs"]
 mod judging;
+#[path = "checks/product.rs"]
+mod product;
 #[path = "checks/rows.rs"]
 mod rows;
 

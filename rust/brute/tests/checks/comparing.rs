@@ -1,8 +1,6 @@
 //! Do both comparers find the same difference between two releases?
 
-#[path = "product.rs"]
-mod product;
-
+use crate::product;
 use brute::{compare_within, judge, read_diagram, read_record, Diagram};
 use generators::diagrams::{diagram, loosened, Size, SMALL, TINY};
 use generators::edits::{edited, redrawn};

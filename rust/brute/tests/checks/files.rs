@@ -1,8 +1,6 @@
 //! Are the same files accepted, and refused for the same reason?
 
-#[path = "product.rs"]
-mod product;
-
+use crate::product;
 use brute::{read_diagram, read_record};
 use generators::damage::{cuts, damaged};
 use generators::diagrams::{diagram, Size, SMALL};

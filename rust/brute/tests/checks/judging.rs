@@ -1,8 +1,6 @@
 //! Are records judged and evaluated, and diagrams compiled, alike?
 
-#[path = "product.rs"]
-mod product;
-
+use crate::product;
 use brute::{compile, evaluate, judge, read_diagram, read_record};
 use generators::diagrams::{diagram, Size, SMALL};
 use generators::edits::edited;
