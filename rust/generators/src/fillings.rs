@@ -27,8 +27,7 @@ fn each_row(
         return receive(row);
     }
     for of in 0..plan.types.len() {
-        let second = plan.types[of].kind == 3 && row.contains(&of);
-        if is_concrete(plan, of) && !second {
+        if may_follow(plan, row, of) {
             row.push(of);
             let more = each_row(plan, row, count, receive);
             row.pop();
@@ -38,6 +37,13 @@ fn each_row(
         }
     }
     true
+}
+
+/// Whether an object of this type may come next. A search has no choice to test where there is only
+/// one type, and so may go on with it whatever its kind.
+fn may_follow(plan: &DiagramPlan, row: &[usize], of: usize) -> bool {
+    let second = plan.types[of].kind == 3 && row.contains(&of);
+    plan.types.len() == 1 || (is_concrete(plan, of) && !second)
 }
 
 /// The number of fillings of values and links for a row of types.
