@@ -8,7 +8,7 @@ mod product;
 use comparing::{comparing_agrees, Tally};
 
 /// Pairs of diagrams that are compared.
-const PAIRS: usize = 3_000;
+const PAIRS: usize = 4_000;
 
 #[test]
 fn compare_agrees_on_small_edits() {

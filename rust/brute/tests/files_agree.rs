@@ -25,7 +25,7 @@ fn occurred(tally: &Tally, wanted: std::ops::RangeInclusive<usize>, least: usize
 #[test]
 fn diagram_files_agree() {
     let mut tally = Tally::default();
-    for seed in 0..600 {
+    for seed in 0..1_500 {
         diagrams_agree(seed, &diagram_files(seed), &mut tally);
     }
     occurred(&tally, 0..=8, 20);
@@ -34,7 +34,7 @@ fn diagram_files_agree() {
 #[test]
 fn record_files_agree() {
     let mut tally = Tally::default();
-    for seed in 0..600 {
+    for seed in 0..1_500 {
         records_agree(seed, &record_files(seed), &mut tally);
     }
     occurred(&tally, 0..=6, 20);

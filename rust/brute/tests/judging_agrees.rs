@@ -10,7 +10,7 @@ use judging::{judging_agrees, Tally};
 #[test]
 fn judge_compile_and_evaluate_agree() {
     let mut tally = Tally::default();
-    for seed in 0..400 {
+    for seed in 0..1_500 {
         judging_agrees(seed, &mut tally);
     }
     for (rule, times) in tally.rules.iter().enumerate() {

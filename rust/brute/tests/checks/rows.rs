@@ -32,56 +32,72 @@ impl Tally {
     }
 }
 
-/// Runs the row of a seed on both sides, into buffers that hold the same bytes before.
+/// What both sides made of a list of calls, in buffers that held the same bytes before.
+pub struct Both {
+    before: Vec<u8>,
+    product: Vec<u8>,
+    independent: Vec<u8>,
+    written: usize,
+}
+
+/// Runs a list of calls on both sides; as many reply bytes must come, and what lies behind them
+/// must stay.
+pub fn on_both_sides(list: &[u8], before: Vec<u8>, shown: &str) -> Both {
+    let (mut product, mut independent) = (before.clone(), before.clone());
+    let written = boundary::replay(list, &mut product);
+    let expected = brute::replay(list, &mut independent);
+    assert_eq!(written, expected, "another number of reply bytes\n{shown}");
+    let untouched = product[written..] == before[written..];
+    assert!(untouched, "bytes behind the replies changed\n{shown}");
+    Both {
+        before,
+        product,
+        independent,
+        written,
+    }
+}
+
+/// Runs the row of a seed on both sides and compares reply by reply.
 pub fn rows_agree(seed: u64, tally: &mut Tally) {
     let mut random = Random::new(seed);
     let length = random.between(1, 24);
     let calls = row(&mut random, length, TINY, &mut ends_soon);
     let list = spoiled(&mut random, &calls);
     let space = any_reply_room(&mut random, room(&calls));
-    let before: Vec<u8> = (0..space).map(|_| random.byte()).collect();
-    let (mut product, mut independent) = (before.clone(), before.clone());
-    let written = boundary::replay(&list, &mut product);
-    let expected = brute::replay(&list, &mut independent);
+    let before = (0..space).map(|_| random.byte()).collect();
     let shown = format!("seed {seed}, room {space}\ncalls: {}", hex(&list));
-    assert_eq!(written, expected, "another number of reply bytes\n{shown}");
-    assert!(
-        product[written..] == before[written..],
-        "bytes behind the replies changed\n{shown}"
-    );
-    let got = split(&calls, &product[..written]);
-    let wanted = split(&calls, &independent[..written]);
+    let both = on_both_sides(&list, before, &shown);
+    if replies_agree(&calls, &both, &shown, tally) < calls.len() {
+        tally.stopped += 1;
+    }
+}
+
+/// Compares the replies one by one and gives their number; a witness handed out may be another.
+pub fn replies_agree(calls: &[CallPlan], both: &Both, shown: &str, tally: &mut Tally) -> usize {
+    let got = split(calls, &both.product[..both.written]);
+    let wanted = split(calls, &both.independent[..both.written]);
     assert_eq!(
         got.len(),
         wanted.len(),
         "another number of replies\n{shown}"
     );
-    if got.len() < calls.len() {
-        tally.stopped += 1;
-    }
-    let mut places = [None, None];
-    let mut count = 0;
-    let parts = calls.iter().zip(got.iter().zip(&wanted)).enumerate();
-    for (at, (call, (got, wanted))) in parts {
-        let shown = format!("call {at}: {}\n{shown}", name(call));
+    let (mut places, mut count, mut start) = ([None, None], 0, 0);
+    for (call, (got, wanted)) in calls.iter().zip(got.iter().zip(&wanted)) {
+        let shown = format!("{}, replies from byte {start}\n{shown}", name(call));
         tally.statuses[usize::from(wanted[0])] += 1;
         note(call, wanted, &mut places, &mut count);
         if matches!(call, CallPlan::HandOut { .. }) && wanted[0] == 0 {
             tally.witnesses += 1;
-            let behind = &before[offset(&product, got) + 5..];
-            witness(&shown, got, behind, count, &places);
+            witness(&shown, got, &both.before[start + 5..], count, &places);
         } else {
             assert_eq!(
                 got, wanted,
-                "the product's reply (left) differs (right)\n{shown}"
+                "the product's reply (left) is another\n{shown}"
             );
         }
+        start += got.len();
     }
-}
-
-/// Where a part of the replies begins.
-fn offset(whole: &[u8], part: &[u8]) -> usize {
-    part.as_ptr() as usize - whole.as_ptr() as usize
+    got.len()
 }
 
 /// Whether both sides can compare these diagrams up to this bound in a moment.
