@@ -1,9 +1,12 @@
-//! The bench: two places for diagrams, and at most one witness.
+//! The bench: two places for diagrams, and at most one witness. Each call names its refusals in
+//! the order in which they are tried.
 
 use crate::compare::compare;
-use crate::diagram::{read_diagram, Diagram};
+use crate::diagram::Diagram;
+use crate::diagram_file::read_diagram;
 use crate::predicates::{compile, evaluate};
-use crate::record::{read_record, write_record, Record};
+use crate::record::Record;
+use crate::record_file::{read_record, write_record};
 use crate::refusal::{
     require, BOUND_ABOVE_8, BUFFER_SMALL, NO_WITNESS, PLACE_ABOVE_1, PLACE_EMPTY,
 };
@@ -17,6 +20,7 @@ pub struct Bench {
 }
 
 impl Bench {
+    /// Puts a diagram into a place and drops the witness: 10, then the file.
     pub fn load(&mut self, place: u8, file: &[u8]) -> Result<(), u8> {
         require(place <= 1, PLACE_ABOVE_1)?;
         let diagram = read_diagram(file)?;
@@ -25,6 +29,7 @@ impl Bench {
         Ok(())
     }
 
+    /// Empties a place and drops the witness: 10.
     pub fn clear(&mut self, place: u8) -> Result<(), u8> {
         require(place <= 1, PLACE_ABOVE_1)?;
         self.places[usize::from(place)] = None;
@@ -32,21 +37,24 @@ impl Bench {
         Ok(())
     }
 
+    /// Gives 0 or the lowest rule broken: 10, 21, then the file.
     pub fn judge(&self, place: u8, file: &[u8]) -> Result<u8, u8> {
         let diagram = self.diagram(place)?;
         Ok(judge(diagram, &read_record(file)?))
     }
 
+    /// Gives the compiled records: 10, 21.
     pub fn compile(&self, place: u8) -> Result<Vec<[u8; 5]>, u8> {
         Ok(compile(self.diagram(place)?))
     }
 
+    /// Gives what the compiled records say of a record: 10, 21, then the file.
     pub fn evaluate(&self, place: u8, file: &[u8]) -> Result<u8, u8> {
         let diagram = self.diagram(place)?;
         Ok(evaluate(diagram, &read_record(file)?))
     }
 
-    /// Gives the object count of a difference, or none where there is no difference.
+    /// Gives the object count of a difference, or none where there is no difference: 9, 21.
     pub fn compare(&mut self, bound: u8) -> Result<Option<u8>, u8> {
         require(bound <= 8, BOUND_ABOVE_8)?;
         let old = self.diagram(0)?;
@@ -56,7 +64,7 @@ impl Bench {
         Ok(self.witness.as_ref().map(count))
     }
 
-    /// Writes the witness to the front of the buffer and gives its length.
+    /// Writes the witness to the front of the buffer and gives its length: 22, then 20.
     pub fn hand_out(&self, buffer: &mut [u8]) -> Result<usize, u8> {
         let witness = self.witness.as_ref().ok_or(NO_WITNESS)?;
         require(buffer.len() >= 60_000, BUFFER_SMALL)?;

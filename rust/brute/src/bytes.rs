@@ -78,6 +78,7 @@ impl Content<'_> {
         self.name_of_length(0..=16)
     }
 
+    /// Takes a length byte within a range and a name of that length.
     fn name_of_length(&mut self, lengths: RangeInclusive<u8>) -> Result<Name, u8> {
         let length = self.byte_within(lengths)?;
         let split = self.0.split_at_checked(usize::from(length));

@@ -5,9 +5,11 @@ mod bench;
 mod bytes;
 mod compare;
 mod diagram;
+mod diagram_file;
 mod objects;
 mod predicates;
 mod record;
+mod record_file;
 mod refusal;
 mod replay;
 mod rules;
@@ -15,10 +17,12 @@ mod rules;
 pub use bench::Bench;
 pub use compare::{compare, compare_within, TooLarge};
 pub use diagram::{
-    read_diagram, Association, Attribute, Diagram, End, Form, Kind, Limits, Side, Type, ValueType,
+    Association, Attribute, Diagram, End, Form, Kind, Limits, Side, Type, ValueType,
 };
+pub use diagram_file::read_diagram;
 pub use predicates::{compile, evaluate};
-pub use record::{read_record, write_record, Link, Record, Value};
+pub use record::{Link, Record, Value};
+pub use record_file::{read_record, write_record};
 pub use replay::replay;
 pub use rules::judge;
 

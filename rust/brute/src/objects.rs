@@ -10,6 +10,7 @@ pub struct Objects<'a> {
 }
 
 impl<'a> Objects<'a> {
+    /// The objects of these types under a diagram.
     pub fn new(diagram: &'a Diagram, type_names: &[&'a [u8]]) -> Self {
         let types_of = |name: &&'a [u8]| types_reached(diagram, name);
         Objects {

@@ -28,6 +28,7 @@ pub fn replay(calls: &[u8], replies: &mut [u8]) -> usize {
     at
 }
 
+/// Takes a call off the list; none where it is cut off or unknown.
 fn take_call<'a>(rest: &mut &'a [u8]) -> Option<Call<'a>> {
     match take_byte(rest)? {
         1 => Some(Call::Load(take_byte(rest)?, take_file(rest)?)),
@@ -41,12 +42,14 @@ fn take_call<'a>(rest: &mut &'a [u8]) -> Option<Call<'a>> {
     }
 }
 
+/// Takes so many bytes, if they are there.
 fn take<'a>(rest: &mut &'a [u8], length: usize) -> Option<&'a [u8]> {
     let (taken, behind) = rest.split_at_checked(length)?;
     *rest = behind;
     Some(taken)
 }
 
+/// Takes one byte.
 fn take_byte(rest: &mut &[u8]) -> Option<u8> {
     Some(take(rest, 1)?[0])
 }
@@ -57,6 +60,7 @@ fn take_length(rest: &mut &[u8]) -> Option<usize> {
     usize::try_from(u32::from_be_bytes(bytes)).ok()
 }
 
+/// Takes a length and that many bytes.
 fn take_file<'a>(rest: &mut &'a [u8]) -> Option<&'a [u8]> {
     let length = take_length(rest)?;
     take(rest, length)
@@ -89,6 +93,7 @@ fn list_bytes(list: &[[u8; 5]]) -> Vec<u8> {
     bytes
 }
 
+/// 0 for no difference; 1 and the object count for a difference.
 fn difference_bytes(count: Option<u8>) -> Vec<u8> {
     match count {
         Some(count) => vec![1, count],

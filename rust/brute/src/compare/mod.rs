@@ -31,6 +31,7 @@ pub struct TooLarge;
 struct Budget(u64);
 
 impl Budget {
+    /// Takes one step off, if there is one left.
     fn spend(&mut self) -> Result<(), TooLarge> {
         self.0 = self.0.checked_sub(1).ok_or(TooLarge)?;
         Ok(())
@@ -68,6 +69,7 @@ pub fn compare_within(
     Ok(None)
 }
 
+/// A pair of diagrams and what the enumeration over it needs.
 struct Search<'a> {
     old: &'a Diagram,
     new: &'a Diagram,

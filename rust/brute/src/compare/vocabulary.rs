@@ -14,6 +14,7 @@ pub struct Vocabulary {
 }
 
 impl Vocabulary {
+    /// The names of both diagrams and one that neither has.
     pub fn of(old: &Diagram, new: &Diagram) -> Self {
         let mut vocabulary = Vocabulary {
             types: Vec::new(),
@@ -31,6 +32,7 @@ impl Vocabulary {
         vocabulary
     }
 
+    /// Adds the names of a diagram.
     fn add_names(&mut self, diagram: &Diagram) {
         for value_type in &diagram.value_types {
             add(&mut self.value_types, &value_type.name);
@@ -50,6 +52,7 @@ impl Vocabulary {
         }
     }
 
+    /// All lists, to treat them alike.
     fn lists(&mut self) -> [&mut Vec<Name>; 5] {
         [
             &mut self.types,
@@ -58,6 +61,14 @@ impl Vocabulary {
             &mut self.constants,
             &mut self.roles,
         ]
+    }
+
+    /// Leaves the names of the two diagrams alone.
+    #[cfg(test)]
+    pub fn drop_foreign(&mut self) {
+        for list in self.lists() {
+            list.pop();
+        }
     }
 
     /// A valid name that stands in none of the lists.
@@ -69,6 +80,7 @@ impl Vocabulary {
     }
 }
 
+/// Adds a name that is not there yet.
 fn add(list: &mut Vec<Name>, name: &Name) {
     if !list.contains(name) {
         list.push(name.clone());

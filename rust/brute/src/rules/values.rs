@@ -35,6 +35,7 @@ pub fn rule_4_at(objects: &Objects, value: &Value) -> bool {
     declarations(objects, value.object, &value.attribute).all(|a| belongs(objects, value, a))
 }
 
+/// Tells whether a value belongs to the value type of a declaration.
 fn belongs(objects: &Objects, value: &Value, declaration: &Attribute) -> bool {
     let Some(value_type) = objects.diagram.value_type_named(&declaration.value_type) else {
         return false;

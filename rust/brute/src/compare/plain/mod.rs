@@ -92,50 +92,119 @@ impl Plain<'_> {
     }
 }
 
-/// The least number of objects of a record that old allows and new forbids.
-fn least_plainly(old: &Diagram, new: &Diagram, bound: usize) -> Option<usize> {
-    let vocabulary = Vocabulary::of(old, new);
+/// The least number of objects of a record over the vocabulary that old allows and new forbids.
+fn least_plainly(
+    old: &Diagram,
+    new: &Diagram,
+    bound: usize,
+    vocabulary: &Vocabulary,
+) -> Option<usize> {
     let mut plain = Plain {
         old,
         new,
-        vocabulary: &vocabulary,
+        vocabulary,
         record: Record::default(),
     };
-    (0..=bound).find(|&count| plain.finds(&spots(&vocabulary, count)))
+    (0..=bound).find(|&count| plain.finds(&spots(vocabulary, count)))
 }
 
-/// Compares pairs both plainly and not, and gives how many have a least record of 0, 1 or 2
+/// How large the pairs of a test are.
+struct Size {
+    pairs: u64,
+    bound: usize,
+    associations: usize,
+    attributes: usize,
+    /// Whether the foreign name is tried too, which takes a hundred times as long.
+    foreign: bool,
+}
+
+/// Compares pairs both plainly and not, and gives how many have a least record of 0, 1, 2 or 3
 /// objects, and how many have none. Every other pair has the same types, so that links decide.
-fn agreeing(pairs: u64, bound: usize, associations: usize, attributes: usize) -> [usize; 4] {
-    let mut found = [0; 4];
-    for pair in 0..pairs {
+fn agreeing(size: Size) -> [usize; 5] {
+    let mut found = [0; 5];
+    for pair in 0..size.pairs {
         let mut numbers = Numbers(pair);
         let types = [some_types(&mut numbers), some_types(&mut numbers)];
         let [old, new] = [0, pair as usize % 2]
-            .map(|i| some_diagram(&mut numbers, &types[i], associations, attributes));
-        let least = least_plainly(&old, &new, bound);
-        let record = compare(&old, &new, bound);
+            .map(|i| some_diagram(&mut numbers, &types[i], size.associations, size.attributes));
+        let mut vocabulary = Vocabulary::of(&old, &new);
+        if !size.foreign {
+            vocabulary.drop_foreign();
+        }
+        let least = least_plainly(&old, &new, size.bound, &vocabulary);
+        let record = compare(&old, &new, size.bound);
         let count = record.map(|record| record.objects.len());
         assert_eq!(count, least, "{old:?} {new:?}");
-        found[count.unwrap_or(3)] += 1;
+        found[count.unwrap_or(4)] += 1;
     }
     found
 }
 
+/// Asserts that each of the first `bound` + 1 numbers of objects came, and no difference too.
+fn assert_all_came(found: [usize; 5], bound: usize) {
+    let came = |number: &usize| *number > 0;
+    assert!(
+        found[..=bound].iter().all(came) && came(&found[4]),
+        "{found:?}"
+    );
+}
+
 #[test]
 fn values_agree_with_the_plainest_comparison() {
-    let found = agreeing(300, 1, 0, 3);
-    assert!(found[0] > 0 && found[1] > 0 && found[3] > 0, "{found:?}");
+    let found = agreeing(Size {
+        pairs: 300,
+        bound: 1,
+        associations: 0,
+        attributes: 3,
+        foreign: true,
+    });
+    assert_all_came(found, 1);
 }
 
 #[test]
 fn links_agree_with_the_plainest_comparison() {
-    let found = agreeing(100, 2, 2, 0);
-    assert!(found.iter().all(|&number| number > 0), "{found:?}");
+    let found = agreeing(Size {
+        pairs: 2000,
+        bound: 2,
+        associations: 2,
+        attributes: 0,
+        foreign: false,
+    });
+    assert_all_came(found, 2);
+}
+
+#[test]
+fn links_of_foreign_roles_agree_with_the_plainest_comparison() {
+    let found = agreeing(Size {
+        pairs: 20,
+        bound: 2,
+        associations: 2,
+        attributes: 0,
+        foreign: true,
+    });
+    assert_all_came(found, 1);
+}
+
+#[test]
+fn three_objects_agree_with_the_plainest_comparison() {
+    let found = agreeing(Size {
+        pairs: 15,
+        bound: 3,
+        associations: 2,
+        attributes: 0,
+        foreign: false,
+    });
+    assert_all_came(found, 2);
 }
 
 #[test]
 fn values_and_links_agree_with_the_plainest_comparison() {
-    let found = agreeing(200, 1, 2, 2);
-    assert!(found[0] > 0 && found[1] > 0 && found[3] > 0, "{found:?}");
+    let found = agreeing(Size {
+        pairs: 100,
+        bound: 2,
+        associations: 1,
+        attributes: 1,
+        foreign: false,
+    });
+    assert_all_came(found, 1);
 }
