@@ -185,12 +185,10 @@ fn build(name: &str, files: &[&str], words: Words) -> Result<Request, String> {
             files.join(" and ")
         ));
     }
-    if name != "compare" {
-        if words.bound.is_some() || words.out.is_some() {
-            return Err(format!(
-                "'{name}' has no options --bound and --out; 'compare' has."
-            ));
-        }
+    if name != "compare" && (words.bound.is_some() || words.out.is_some()) {
+        return Err(format!(
+            "'{name}' has no options --bound and --out; 'compare' has."
+        ));
     }
     let bound = words.bound.map_or(Ok(DEFAULT_BOUND), |b| bound_of(&b))?;
     let mut files = words.files.into_iter();

@@ -29,5 +29,9 @@ fn neither(file: &Loaded) -> Trouble {
     let (Err(Trouble::Refused(diagram)), Err(Trouble::Refused(record))) = both else {
         return Trouble::Unexpected;
     };
-    Trouble::Neither { diagram, record }
+    Trouble::Neither {
+        path: file.path.clone(),
+        first_byte: file.bytes.first().copied(),
+        refusals: [diagram.refusal, record.refusal],
+    }
 }

@@ -140,13 +140,13 @@ pub fn refused(file: &Loaded, kind: &'static FileKind, refusal: u8) -> Trouble {
         false => read_record(&file.bytes).err(),
     };
     let same = |fault: &Fault| fault.refusal == refusal;
-    Trouble::Refused(RefusedFile {
+    Trouble::Refused(Box::new(RefusedFile {
         path: file.path.clone(),
         kind,
         refusal,
         fault: found.filter(same),
         first_byte: file.bytes.first().copied(),
-    })
+    }))
 }
 
 /// The names in a diagram file that was accepted.

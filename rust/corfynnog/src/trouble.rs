@@ -16,11 +16,13 @@ pub enum Trouble {
     /// A file that could not be read, with the reason.
     Unreadable { path: PathBuf, why: String },
     /// The library refused a file; the fault where it could be found.
-    Refused(RefusedFile),
+    Refused(Box<RefusedFile>),
     /// The file starts as neither kind does, and the library refused it as both.
     Neither {
-        diagram: RefusedFile,
-        record: RefusedFile,
+        path: PathBuf,
+        first_byte: Option<u8>,
+        /// The refusals as a diagram file and as a record file.
+        refusals: [u8; 2],
     },
     /// The library refused the bound.
     BoundRefused { bound: u8, refusal: u8 },
@@ -45,7 +47,11 @@ impl Trouble {
             Trouble::Misused(misuse) => misused(misuse),
             Trouble::Unreadable { path, why } => unreadable(path, why),
             Trouble::Refused(file) => (file.words(), file.members()),
-            Trouble::Neither { diagram, record } => neither(diagram, record),
+            Trouble::Neither {
+                path,
+                first_byte,
+                refusals,
+            } => neither(path, *first_byte, *refusals),
             Trouble::BoundRefused { bound, refusal } => bound_refused(*bound, *refusal),
             Trouble::Unexpected => unexpected(),
         };
@@ -90,22 +96,20 @@ fn unreadable(path: &Path, why: &str) -> Words {
 }
 
 /// A file that starts as neither kind does.
-fn neither(diagram: &RefusedFile, record: &RefusedFile) -> Words {
-    let start = match diagram.first_byte {
+fn neither(path: &Path, first_byte: Option<u8>, [diagram, record]: [u8; 2]) -> Words {
+    let start = match first_byte {
         None => "it is empty".to_string(),
         Some(byte) => format!("it starts with the byte 0x{byte:02X}"),
     };
     let what = format!("{start}, but a diagram file starts with 0x10 and a record file with 0x60");
     let text = format!(
-        "{} is neither an acceptable diagram file (refusal {}) nor an acceptable record file (refusal {}): {what}. Check the file's name.",
-        diagram.path.display(),
-        diagram.refusal,
-        record.refusal
+        "{} is neither an acceptable diagram file (refusal {diagram}) nor an acceptable record file (refusal {record}): {what}. Check the file's name.",
+        path.display(),
     );
     let members = vec![
         ("result", Json::text("refused")),
-        ("refusal", Json::Number(diagram.refusal.into())),
-        ("file", Json::text(diagram.path.to_string_lossy())),
+        ("refusal", Json::Number(diagram.into())),
+        ("file", Json::text(path.to_string_lossy())),
         ("kind", Json::Null),
         ("text", Json::Text(what)),
     ];

@@ -108,7 +108,10 @@ pub fn wrong_sources(diagram: &Diagram, record: &Record) -> Vec<Breach> {
                 continue;
             }
             let (name, start) = (record.object_name(object), &diagram.types[way.from].name);
-            let from = count_of(count, start, &format!("{start} objects"));
+            let from = match count {
+                0 | 1 => count_of(count, start, start),
+                _ => format!("{count} {start} objects"),
+            };
             let asked = limits_in_words(way.sources);
             found.push(Breach {
                 sentence: format!(

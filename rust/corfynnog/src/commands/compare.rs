@@ -64,14 +64,23 @@ fn members(old: &Loaded, new: &Loaded, bound: u8) -> Vec<(&'static str, Json)> {
 /// No record within the bound is legal for old and illegal for new.
 fn no_difference(old: &Loaded, new: &Loaded, bound: u8) -> Outcome {
     let text = format!(
-        "No difference: every site of at most {} that {} allows is allowed by {} too.\n",
-        count_of(bound.into(), "object", "objects").replace("no objects", "0 objects"),
+        "No difference: every site of {} that {} allows is allowed by {} too.\n",
+        sites_within(bound),
         old.name(),
         new.name()
     );
     let mut members = members(old, new, bound);
     members.push(("result", Json::text("no difference")));
     Outcome::answer(FINE, text, members)
+}
+
+/// The sites that a bound covers.
+fn sites_within(bound: u8) -> String {
+    match bound {
+        0 => "no objects".to_string(),
+        1 => "at most 1 object".to_string(),
+        _ => format!("at most {bound} objects"),
+    }
 }
 
 /// The witness, and why new forbids it.
