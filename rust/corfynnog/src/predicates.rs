@@ -69,11 +69,11 @@ impl Predicate {
         let (from, to) = (&diagram.types[way.from].name, &diagram.types[way.to].name);
         let (role, limits) = (way.role, limits_in_words(self.limits()));
         match self.kind {
-            1 | 2 => format!("the {role} links of each {from}: {limits}, each to a {to}"),
-            3 | 4 => format!("the {from} objects with a {role} link to any one {to}: {limits}"),
+            1 | 2 => format!("links of role {role} from each {from}: {limits}, each to a {to}"),
+            3 | 4 => format!("{from} objects with a link of role {role} to each {to}: {limits}"),
             5 => {
                 let back = association.way(1).role;
-                format!("each {role} link from a {from} to a {to} has its {back} link back, and the other way about")
+                format!("a {from} has a link of role {role} to a {to} exactly when that has one of role {back} to it")
             }
             _ => format!("each {to} is part of at most one whole"),
         }

@@ -45,7 +45,7 @@ fn compare_finds_a_difference() {
     );
     assert!(ran.out.contains("Why q.diagram forbids it:\n  Rule 6: "));
     assert!(ran.out.contains(
-        "  Shelf0 has 3 cards links; allowed: at most 2.\n    composition [1] Shelf (shelf) -> (cards) Card [0..2]\n"
+        "  Shelf0 has 3 links of role cards; allowed: at most 2.\n    composition [1] Shelf (shelf) -> (cards) Card [0..2]\n"
     ));
 }
 
@@ -75,7 +75,7 @@ fn compare_tells_the_least_site() {
         .contains("objectdiagram witness {\n  Card0:Card {}\n}\n"));
     assert!(ran
         .out
-        .contains("  Card0 is the cards target of no Shelf; allowed: exactly 1.\n"));
+        .contains("  Card0 is the target of no Shelf by role cards; allowed: exactly 1.\n"));
     let ran = folder.line("compare e.diagram z.diagram");
     assert_eq!(ran.status, 1);
     assert!(ran.out.contains("objectdiagram witness {\n}\n"));
@@ -135,8 +135,8 @@ fn compile_lists_the_predicates() {
         ran.out,
         "p.diagram has 3 predicates.\n\n\
          0: composition [1] Shelf (shelf) -> (cards) Card [0..4]\n\
-        \x20  0  ObjLUAttrib  1 0 0 0 4  the cards links of each Shelf: at most 4, each to a Card\n\
-        \x20  1  ObjLU        3 0 0 1 1  the Shelf objects with a cards link to any one Card: exactly 1\n\
+        \x20  0  ObjLUAttrib  1 0 0 0 4  links of role cards from each Shelf: at most 4, each to a Card\n\
+        \x20  1  ObjLU        3 0 0 1 1  Shelf objects with a link of role cards to each Card: exactly 1\n\
         \x20  2  Composition  6 0 0 0 0  each Card is part of at most one whole\n"
     );
     let ran = folder.line("compile e.diagram");
@@ -162,7 +162,7 @@ fn evaluate_names_the_first_that_does_not_hold() {
         .starts_with("Not all hold: predicate 1 of p.diagram "));
     assert!(ran
         .out
-        .contains("  Card0 is the cards target of no Shelf; allowed: exactly 1.\n"));
+        .contains("  Card0 is the target of no Shelf by role cards; allowed: exactly 1.\n"));
     let ran = folder.line("evaluate z.diagram empty.record");
     assert_eq!(ran.status, 0);
     assert_eq!(

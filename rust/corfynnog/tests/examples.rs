@@ -22,7 +22,14 @@ fn example(name: &str) -> PathBuf {
 /// Compares an example's diagrams; the exit status and the answer.
 fn compare(name: &str, old: &str, new: &str, bound: &str) -> (i32, Value) {
     let path = |file: &str| example(name).join(file).to_string_lossy().into_owned();
-    let words = ["compare", &path(old), &path(new), "--bound", bound, "--json"];
+    let words = [
+        "compare",
+        &path(old),
+        &path(new),
+        "--bound",
+        bound,
+        "--json",
+    ];
     let ran = Folder::of(&format!("example_{name}_{old}")).run(&words);
     assert_eq!(ran.err, "");
     (ran.status, read(&ran.out))
@@ -44,7 +51,10 @@ fn the_files_are_those_that_the_program_writes() {
     for (name, old, new) in pairs {
         for (file, bytes) in [("old.diagram", old), ("new.diagram", new)] {
             let found = fs::read(example(name).join(file)).expect(name);
-            assert_eq!(found, bytes, "{name}/{file}: run 'cargo run --example write_examples'");
+            assert_eq!(
+                found, bytes,
+                "{name}/{file}: run 'cargo run --example write_examples'"
+            );
         }
     }
 }
@@ -57,7 +67,11 @@ fn the_texts_are_those_of_show() {
             let path = example(name).join(file);
             let ran = Folder::of(&format!("shown_{name}")).run(&["show", &path.to_string_lossy()]);
             assert_eq!(ran.status, 0);
-            assert!(readme.contains(&ran.out), "{name}: the text of {file} is\n{}", ran.out);
+            assert!(
+                readme.contains(&ran.out),
+                "{name}: the text of {file} is\n{}",
+                ran.out
+            );
         }
     }
 }
@@ -71,7 +85,7 @@ fn line_cards_differ() {
     assert_eq!(reason.get("rule").number(), 6);
     assert_eq!(
         reason.get("places").at(0).get("text").text(),
-        "Card0 has no lines links; allowed: 1 to 32."
+        "Card0 has no link of role lines; allowed: 1 to 32."
     );
 }
 
@@ -82,7 +96,10 @@ fn card_states_differ() {
     assert_eq!(answer.get("reason").get("rule").number(), 4);
     let place = answer.get("reason").get("places").at(0);
     assert_eq!(place.get("attribute").text(), "state");
-    assert!(place.get("text").text().ends_with("State has no constant blocked."));
+    assert!(place
+        .get("text")
+        .text()
+        .ends_with("State has no constant blocked."));
 }
 
 #[test]

@@ -122,13 +122,13 @@ fn rule_4_values() {
 
 #[test]
 fn rules_5_to_8_links() {
-    let stray = "  Card0 has a cards link to Shelf0, but no association carries cards from Card to Shelf.\n";
+    let stray = "  Card0 has a link of role cards to Shelf0, but no association carries cards from Card to Shelf.\n";
     expect("rule_5", &sites::p(), &sites::wrong_way(), "Rule 5", stray);
-    let many = "  Shelf0 has 5 cards links; allowed: at most 4.\n    composition [1] Shelf (shelf) -> (cards) Card [0..4]\n";
+    let many = "  Shelf0 has 5 links of role cards; allowed: at most 4.\n    composition [1] Shelf (shelf) -> (cards) Card [0..4]\n";
     expect("rule_6", &sites::p(), &sites::shelf_with(5), "Rule 6", many);
-    let none = "  Card0 is the cards target of no Shelf; allowed: exactly 1.\n    composition [1] Shelf (shelf) -> (cards) Card [0..4]\n";
+    let none = "  Card0 is the target of no Shelf by role cards; allowed: exactly 1.\n    composition [1] Shelf (shelf) -> (cards) Card [0..4]\n";
     expect("rule_7", &sites::p(), &sites::card(), "Rule 7", none);
-    let one_way = "  Line0 has the port link to Port0, but Port0 has no line link to Line0.\n    association [0..1] Line (line) <-> (port) Port [0..1]\n";
+    let one_way = "  Line0 has a link of role port to Port0, but Port0 has none of role line to Line0.\n    association [0..1] Line (line) <-> (port) Port [0..1]\n";
     expect(
         "rule_8",
         &sites::line_and_port(3),
@@ -146,7 +146,7 @@ fn rule_6_targets_of_another_type() {
     );
     let record = hex("60 00 01 02 61 00 02 01 4C 61 00 02 01 52 63 00 04 00 01 72 01");
     let places =
-        "  L0 has a r link to R0, which is no T.\n    association [*] L (l) -> (r) T [*]\n";
+        "  L0 has a link of role r to R0, which is no T.\n    association [*] L (l) -> (r) T [*]\n";
     expect("rule_6_type", &two_roles, &record, "Rule 6", places);
 }
 
@@ -158,7 +158,7 @@ fn rule_7_of_an_arrow_to_the_left() {
     let record = hex(
         "60 00 01 03 61 00 02 01 4C 61 00 02 01 52 61 00 02 01 52 63 00 04 01 01 6C 00 63 00 04 02 01 6C 00",
     );
-    let places = "  L0 is the l target of 2 R objects; allowed: at most 1.\n    association [1] L (l) <- (r) R [0..1]\n";
+    let places = "  L0 is the target of 2 R objects by role l; allowed: at most 1.\n    association [1] L (l) <- (r) R [0..1]\n";
     expect("rule_7_left", &diagram, &record, "Rule 7", places);
 }
 
@@ -200,7 +200,9 @@ fn many_places_are_counted() {
         record.extend(b"\x61\x00\x05\x04Card");
     }
     let text = why("many_places", &sites::p(), &record);
-    let told = text.matches("is the cards target of no Shelf").count();
+    let told = text
+        .matches("is the target of no Shelf by role cards")
+        .count();
     assert_eq!(told, 4);
     assert!(text.ends_with("  ... and 2 more places.\n"));
 }

@@ -17,7 +17,7 @@ pub fn not_carried(diagram: &Diagram, record: &Record) -> Vec<Breach> {
         let role = &link.role;
         Breach {
             sentence: format!(
-                "{from} has a {role} link to {to}, but no association carries {role} from {start} to {end}."
+                "{from} has a link of role {role} to {to}, but no association carries {role} from {start} to {end}."
             ),
             objects: vec![link.from, link.to],
             role: Some(role.clone()),
@@ -72,19 +72,19 @@ fn targets_of(diagram: &Diagram, record: &Record, way: &Way, object: usize) -> V
         if !diagram.is_instance(&record.types[target], way.to) {
             let other = record.object_name(target);
             let end = &diagram.types[way.to].name;
-            let sentence = format!("{name} has a {role} link to {other}, which is no {end}.");
+            let sentence =
+                format!("{name} has a link of role {role} to {other}, which is no {end}.");
             found.push(breach(sentence, Some(target)));
         }
     }
     if !way.targets.allow(targets.len()) {
-        let links = count_of(
-            targets.len(),
-            &format!("{role} link"),
-            &format!("{role} links"),
-        );
+        let links = match targets.len() {
+            0 => "no link".to_string(),
+            count => count_of(count, "link", "links"),
+        };
         let asked = limits_in_words(way.targets);
         found.push(breach(
-            format!("{name} has {links}; allowed: {asked}."),
+            format!("{name} has {links} of role {role}; allowed: {asked}."),
             None,
         ));
     }
@@ -115,7 +115,7 @@ pub fn wrong_sources(diagram: &Diagram, record: &Record) -> Vec<Breach> {
             let asked = limits_in_words(way.sources);
             found.push(Breach {
                 sentence: format!(
-                    "{name} is the {} target of {from}; allowed: {asked}.",
+                    "{name} is the target of {from} by role {}; allowed: {asked}.",
                     way.role
                 ),
                 objects: vec![object],
@@ -161,5 +161,7 @@ pub fn not_mirrored(diagram: &Diagram, record: &Record) -> Vec<Breach> {
 /// A link that is there and its counterpart that is not.
 fn one_sided(record: &Record, from: usize, role: &str, to: usize, counter: &str) -> String {
     let (from, to) = (record.object_name(from), record.object_name(to));
-    format!("{from} has the {role} link to {to}, but {to} has no {counter} link to {from}.")
+    format!(
+        "{from} has a link of role {role} to {to}, but {to} has none of role {counter} to {from}."
+    )
 }
