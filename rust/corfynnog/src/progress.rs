@@ -22,6 +22,8 @@ impl Progress {
     pub fn level(&self, level: u8, bound: u8) {
         let passed = match level {
             0 => String::new(),
+            1 => "no difference without objects; ".to_string(),
+            2 => "no difference with 1 object; ".to_string(),
             _ => format!("no difference with up to {} objects; ", level - 1),
         };
         self.show(&format!("{WIPE}{passed}trying {level} of {bound} ..."));
