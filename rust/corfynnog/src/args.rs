@@ -3,6 +3,8 @@
 use std::ffi::OsString;
 use std::path::PathBuf;
 
+use crate::options::{sort, Words};
+
 /// The bound where none is given: the most objects that a record has.
 const DEFAULT_BOUND: u8 = 8;
 
@@ -64,17 +66,6 @@ pub const COMMANDS: [(&str, &[&str]); 6] = [
     ("show", &["FILE"]),
 ];
 
-/// The words of a command line by kind; options may stand anywhere behind the command.
-#[derive(Default)]
-struct Words {
-    files: Vec<PathBuf>,
-    bound: Option<OsString>,
-    out: Option<PathBuf>,
-    json: bool,
-    help: bool,
-    version: bool,
-}
-
 /// Understands the words behind the program's name.
 pub fn understand(words: &[OsString]) -> Result<Request, Misuse> {
     let json = words.iter().any(|word| word == "--json");
@@ -129,67 +120,27 @@ fn help_on(topic: Option<&OsString>) -> Result<Request, String> {
     }
 }
 
-/// Sorts words into options and files; behind `--` all are files.
-fn sort(words: Vec<OsString>) -> Result<Words, String> {
-    let mut sorted = Words::default();
-    let mut words = words.into_iter();
-    while let Some(word) = words.next() {
-        let text = word.to_string_lossy().into_owned();
-        let (option, value) = match text.split_once('=') {
-            Some((option, value)) if option.starts_with("--") => (option, Some(value.into())),
-            _ => (text.as_str(), None),
-        };
-        match option {
-            "--" => sorted.files.extend(words.by_ref().map(PathBuf::from)),
-            "--json" if value.is_none() => sorted.json = true,
-            "-h" | "--help" if value.is_none() => sorted.help = true,
-            "-V" | "--version" if value.is_none() => sorted.version = true,
-            "--bound" => set(&mut sorted.bound, option, value.or_else(|| words.next()))?,
-            "--out" => {
-                let path = value.or_else(|| words.next()).map(PathBuf::from);
-                set(&mut sorted.out, option, path)?;
-            }
-            _ if text.starts_with('-') && text != "-" => {
-                return Err(format!("There is no option '{text}'."));
-            }
-            _ => sorted.files.push(PathBuf::from(word)),
-        }
-    }
-    Ok(sorted)
-}
-
-/// Keeps the value of an option that may be given once.
-fn set<T>(place: &mut Option<T>, option: &str, value: Option<T>) -> Result<(), String> {
-    if place.is_some() {
-        return Err(format!("The option {option} is given twice."));
-    }
-    if value.is_none() {
-        return Err(format!("The option {option} needs a value behind it."));
-    }
-    *place = value;
-    Ok(())
-}
-
-/// The command with as many files as it takes.
-fn build(name: &str, files: &[&str], words: Words) -> Result<Request, String> {
+/// The words are those that the command takes.
+fn try_words(name: &str, files: &[&str], words: &Words) -> Result<(), String> {
+    let all = files.join(" and ");
     if let Some(missing) = files.get(words.files.len()) {
-        return Err(format!(
-            "'{name}' needs {}; {missing} is missing.",
-            files.join(" and ")
-        ));
+        return Err(format!("'{name}' needs {all}; {missing} is missing."));
     }
     if let Some(extra) = words.files.get(files.len()) {
         let extra = extra.display();
-        return Err(format!(
-            "'{name}' takes {} only; '{extra}' is too much.",
-            files.join(" and ")
-        ));
+        return Err(format!("'{name}' takes {all} only; '{extra}' is too much."));
     }
     if name != "compare" && (words.bound.is_some() || words.out.is_some()) {
         return Err(format!(
             "'{name}' has no options --bound and --out; 'compare' has."
         ));
     }
+    Ok(())
+}
+
+/// The command with its files.
+fn build(name: &str, files: &[&str], words: Words) -> Result<Request, String> {
+    try_words(name, files, &words)?;
     let bound = words.bound.map_or(Ok(DEFAULT_BOUND), |b| bound_of(&b))?;
     let mut files = words.files.into_iter();
     let mut next = || files.next().unwrap_or_default();

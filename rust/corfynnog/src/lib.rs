@@ -19,6 +19,7 @@ mod json;
 mod kinds;
 mod names;
 mod object_diagram;
+mod options;
 mod outcome;
 mod predicates;
 mod progress;

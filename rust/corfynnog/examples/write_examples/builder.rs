@@ -67,9 +67,9 @@ impl DiagramFile {
         self.link_field(0, left, arrow, right)
     }
 
-    /// A composition; the left end is the whole.
-    pub fn composition(self, left: End, arrow: u8, right: End) -> DiagramFile {
-        self.link_field(1, left, arrow, right)
+    /// A composition whose parts have exactly one whole: the whole's type and role, then the part.
+    pub fn parts(self, (whole, role): (&'static str, &'static str), part: End) -> DiagramFile {
+        self.link_field(1, (whole, 1, 1, role), RIGHT, part)
     }
 
     /// An association of either form.

@@ -1,6 +1,6 @@
 //! The diagrams of the folder `examples`, release by release.
 
-use super::builder::{DiagramFile, ABSTRACT, BOTH, CLASS, INTERFACE, MANY, RIGHT, SINGLETON};
+use super::builder::{DiagramFile, ABSTRACT, BOTH, CLASS, INTERFACE, MANY, SINGLETON};
 
 /// A folder's name, its old diagram and its new one.
 pub type Pair = (&'static str, Vec<u8>, Vec<u8>);
@@ -21,13 +21,9 @@ fn line_cards(least: u8) -> Vec<u8> {
         .of_kind(CLASS, "Shelf", &[])
         .of_kind(CLASS, "Card", &[])
         .of_kind(CLASS, "Line", &[])
-        .composition(
-            ("Exchange", 1, 1, "exchange"),
-            RIGHT,
-            ("Shelf", 1, 1, "shelf"),
-        )
-        .composition(("Shelf", 1, 1, "home"), RIGHT, ("Card", 0, 4, "cards"))
-        .composition(("Card", 1, 1, "card"), RIGHT, ("Line", least, 32, "lines"))
+        .parts(("Exchange", "exchange"), ("Shelf", 1, 1, "shelf"))
+        .parts(("Shelf", "home"), ("Card", 0, 4, "cards"))
+        .parts(("Card", "card"), ("Line", least, 32, "lines"))
         .bytes()
 }
 
@@ -64,27 +60,11 @@ fn card_states(earlier: bool) -> Vec<u8> {
     file.attribute("Unit", "State", "state")
         .attribute("Exchange", "Serial", "serial")
         .attribute("TrunkCard", "Signalling", "signalling")
-        .composition(
-            ("Exchange", 1, 1, "exchange"),
-            RIGHT,
-            ("Rack", 0, 2, "racks"),
-        )
-        .composition(
-            ("Rack", 1, 1, "rack"),
-            RIGHT,
-            ("Shelf", 0, shelves, "shelves"),
-        )
-        .composition(("Shelf", 1, 1, "shelf"), RIGHT, ("Card", 0, 4, "cards"))
-        .composition(
-            ("LineCard", 1, 1, "lineCard"),
-            RIGHT,
-            ("Line", 0, 8, "lines"),
-        )
-        .composition(
-            ("TrunkCard", 1, 1, "trunkCard"),
-            RIGHT,
-            ("Trunk", 0, 4, "trunks"),
-        )
+        .parts(("Exchange", "exchange"), ("Rack", 0, 2, "racks"))
+        .parts(("Rack", "rack"), ("Shelf", 0, shelves, "shelves"))
+        .parts(("Shelf", "shelf"), ("Card", 0, 4, "cards"))
+        .parts(("LineCard", "lineCard"), ("Line", 0, 8, "lines"))
+        .parts(("TrunkCard", "trunkCard"), ("Trunk", 0, 4, "trunks"))
         .association(
             ("Line", 1, 1, "line"),
             BOTH,
@@ -109,22 +89,10 @@ fn few_families() -> Vec<u8> {
         .of_kind(CLASS, "Trunk", &["Port"])
         .attribute("LineCard", "State", "state")
         .attribute("TrunkCard", "State", "state")
-        .composition(
-            ("Exchange", 1, 1, "exchange"),
-            RIGHT,
-            ("Shelf", 1, 2, "shelves"),
-        )
-        .composition(("Shelf", 1, 1, "shelf"), RIGHT, ("Card", 0, 4, "cards"))
-        .composition(
-            ("LineCard", 1, 1, "lineCard"),
-            RIGHT,
-            ("Line", 1, 8, "lines"),
-        )
-        .composition(
-            ("TrunkCard", 1, 1, "trunkCard"),
-            RIGHT,
-            ("Trunk", 1, 4, "trunks"),
-        )
+        .parts(("Exchange", "exchange"), ("Shelf", 1, 2, "shelves"))
+        .parts(("Shelf", "shelf"), ("Card", 0, 4, "cards"))
+        .parts(("LineCard", "lineCard"), ("Line", 1, 8, "lines"))
+        .parts(("TrunkCard", "trunkCard"), ("Trunk", 1, 4, "trunks"))
         .bytes()
 }
 
@@ -149,21 +117,9 @@ fn new_families() -> Vec<u8> {
         .of_kind(SINGLETON, "Exchange", &[])
         .attribute("Card", "State", "state")
         .attribute("ToneCard", "Signalling", "signalling")
-        .composition(
-            ("Exchange", 1, 1, "exchange"),
-            RIGHT,
-            ("Shelf", 1, 4, "shelves"),
-        )
-        .composition(("Shelf", 1, 1, "shelf"), RIGHT, ("Card", 0, 8, "cards"))
-        .composition(
-            ("LineCard", 1, 1, "lineCard"),
-            RIGHT,
-            ("Line", 0, MANY, "lines"),
-        )
-        .composition(
-            ("TrunkCard", 1, 1, "trunkCard"),
-            RIGHT,
-            ("Trunk", 0, MANY, "trunks"),
-        )
+        .parts(("Exchange", "exchange"), ("Shelf", 1, 4, "shelves"))
+        .parts(("Shelf", "shelf"), ("Card", 0, 8, "cards"))
+        .parts(("LineCard", "lineCard"), ("Line", 0, MANY, "lines"))
+        .parts(("TrunkCard", "trunkCard"), ("Trunk", 0, MANY, "trunks"))
         .bytes()
 }
