@@ -59,7 +59,7 @@ run-stays b (m ∷ ms) c r k = run-stays (after m) ms c (r .1) (k .1) ∙ made-s
 
 -- ---- from the fresh bench
 
-fresh-stands : benchOf freshIn ≡ abstract.fresh
+pub fresh-stands : benchOf freshIn ≡ abstract.fresh
 unfolding benchOf diagramIn witnessIn noPlace noWitness
 fresh-stands = refl
 

@@ -1,0 +1,3 @@
+pub mod CallBytes
+pub mod ReplyBytes
+pub mod Puts
