@@ -8,6 +8,7 @@ mod reading;
 mod table;
 mod timing;
 
+/// Prints the three tables.
 fn main() {
     println!("Time for each call: the product, the independent comparer, and their ratio.");
     println!("A ratio below 1 says that the product was faster.");

@@ -12,10 +12,12 @@ use worked_files::{card, e, empty, main_record, p, q, s, shelf3, z};
 
 const BUFFER: Call = Call::HandOut { room: 60_000 };
 
+/// A load, in short.
 fn load(place: u8, file: &[u8]) -> Call<'_> {
     Call::Load { place, file }
 }
 
+/// A judge, in short.
 fn judging(place: u8, file: &[u8]) -> Call<'_> {
     Call::Judge { place, file }
 }

@@ -94,6 +94,7 @@ fn some_end<'a>(random: &mut Random, plan: &'a mut DiagramPlan) -> Option<&'a mu
     association(random, plan).map(|a| if right { &mut a.right } else { &mut a.left })
 }
 
+/// Gives one end other limits.
 fn change_limits(random: &mut Random, plan: &mut DiagramPlan) {
     let (low, up) = limits(random);
     if let Some(end) = some_end(random, plan) {
@@ -115,11 +116,13 @@ fn nudge_limit(random: &mut Random, plan: &mut DiagramPlan) {
     }
 }
 
+/// Gives a type any kind.
 fn change_kind(random: &mut Random, plan: &mut DiagramPlan) {
     let at = random.below(plan.types.len());
     plan.types[at].kind = random.below(4) as u8;
 }
 
+/// Gives an association any arrow.
 fn change_arrow(random: &mut Random, plan: &mut DiagramPlan) {
     let arrow = random.between(1, 4) as u8;
     if let Some(a) = association(random, plan) {
@@ -127,12 +130,14 @@ fn change_arrow(random: &mut Random, plan: &mut DiagramPlan) {
     }
 }
 
+/// Makes an association a composition, or the other way round.
 fn change_form(random: &mut Random, plan: &mut DiagramPlan) {
     if let Some(a) = association(random, plan) {
         a.form = 1 - a.form;
     }
 }
 
+/// Gives an end any role of the pool.
 fn change_role(random: &mut Random, plan: &mut DiagramPlan) {
     let role = one_of(random, &ROLES);
     if let Some(end) = some_end(random, plan) {
@@ -162,6 +167,7 @@ fn swap_ends(random: &mut Random, plan: &mut DiagramPlan) {
     }
 }
 
+/// Moves an end to any type.
 fn move_end(random: &mut Random, plan: &mut DiagramPlan) {
     let of = random.below(plan.types.len()) as u8;
     if let Some(end) = some_end(random, plan) {

@@ -46,11 +46,13 @@ fn too_many(random: &mut Random, plan: &mut DiagramPlan) {
     }
 }
 
+/// Gives two types one name.
 fn double_type_name(random: &mut Random, plan: &mut DiagramPlan) {
     let (one, other) = two_below(random, plan.types.len());
     plan.types[one].name = plan.types[other].name.clone();
 }
 
+/// Gives two value types one name.
 fn double_value_type_name(random: &mut Random, plan: &mut DiagramPlan) {
     if !plan.value_types.is_empty() {
         let (one, other) = two_below(random, plan.value_types.len());
@@ -58,6 +60,7 @@ fn double_value_type_name(random: &mut Random, plan: &mut DiagramPlan) {
     }
 }
 
+/// Gives a value type one constant twice, not side by side.
 fn double_constant(random: &mut Random, plan: &mut DiagramPlan) {
     if !plan.value_types.is_empty() {
         let at = random.below(plan.value_types.len());
@@ -65,6 +68,7 @@ fn double_constant(random: &mut Random, plan: &mut DiagramPlan) {
     }
 }
 
+/// Gives a type parents that do not rise, some of which name nothing either.
 fn falling_parents(random: &mut Random, plan: &mut DiagramPlan) {
     let at = random.below(plan.types.len());
     let own = at as u8;
@@ -75,12 +79,14 @@ fn falling_parents(random: &mut Random, plan: &mut DiagramPlan) {
     };
 }
 
+/// Gives a type a last parent that is not below it.
 fn parent_not_below(random: &mut Random, plan: &mut DiagramPlan) {
     let at = random.below(plan.types.len());
     let beyond = *random.pick(&[at as u8, at as u8 + 1, 24, 255]);
     plan.types[at].parents.push(beyond);
 }
 
+/// Lets an attribute or an end name a type that is not there.
 fn missing_type(random: &mut Random, plan: &mut DiagramPlan) {
     let beyond = *random.pick(&[plan.types.len() as u8, 24, 255]);
     if random.chance(1, 2) && !plan.attributes.is_empty() {
@@ -91,6 +97,7 @@ fn missing_type(random: &mut Random, plan: &mut DiagramPlan) {
     }
 }
 
+/// Lets an attribute name a value type that is not there.
 fn missing_value_type(random: &mut Random, plan: &mut DiagramPlan) {
     if !plan.attributes.is_empty() {
         let at = random.below(plan.attributes.len());
@@ -98,6 +105,7 @@ fn missing_value_type(random: &mut Random, plan: &mut DiagramPlan) {
     }
 }
 
+/// Makes a type an interface below whatever type stands before it.
 fn interface_below_class(random: &mut Random, plan: &mut DiagramPlan) {
     let at = random.below(plan.types.len());
     if at > 0 {
@@ -106,12 +114,14 @@ fn interface_below_class(random: &mut Random, plan: &mut DiagramPlan) {
     }
 }
 
+/// Turns an association into a composition drawn from the part.
 fn composition_with_arrow_2(random: &mut Random, plan: &mut DiagramPlan) {
     if let Some(association) = some_association(random, plan) {
         (association.form, association.arrow) = (1, 2);
     }
 }
 
+/// Gives an end limits that are out of range or in the wrong order.
 fn bad_limits(random: &mut Random, plan: &mut DiagramPlan) {
     let (low, up) = *random.pick(&[(101, 255), (0, 101), (0, 254), (2, 1), (1, 0), (100, 99)]);
     if let Some(end) = some_end(random, plan) {
@@ -119,6 +129,7 @@ fn bad_limits(random: &mut Random, plan: &mut DiagramPlan) {
     }
 }
 
+/// Puts a bad name where a name stands.
 fn bad_name(random: &mut Random, plan: &mut DiagramPlan) {
     let bad = *random.pick(&BAD_NAMES);
     match random.below(4) {
@@ -156,6 +167,7 @@ fn some_association<'a>(
     Some(&mut plan.associations[at])
 }
 
+/// One end of one of the associations.
 fn some_end<'a>(random: &mut Random, plan: &'a mut DiagramPlan) -> Option<&'a mut End> {
     let right = random.chance(1, 2);
     some_association(random, plan).map(|a| if right { &mut a.right } else { &mut a.left })

@@ -30,6 +30,7 @@ fn base() -> DiagramPlan {
     }
 }
 
+/// A value type with so many constants.
 fn value_type(name: &[u8], constants: usize) -> ValueType {
     ValueType {
         name: name.to_vec(),
@@ -46,6 +47,7 @@ fn class(name: &[u8], parents: usize) -> Type {
     }
 }
 
+/// An attribute of the first type, of the first value type.
 fn attribute(name: &[u8]) -> Attribute {
     Attribute {
         owner: 0,
@@ -54,6 +56,7 @@ fn attribute(name: &[u8]) -> Attribute {
     }
 }
 
+/// An end at the first type, without limits.
 fn end(role: &[u8]) -> End {
     End {
         of: 0,
@@ -63,6 +66,7 @@ fn end(role: &[u8]) -> End {
     }
 }
 
+/// An association of the first type with itself.
 fn association(left: &[u8], right: &[u8]) -> Association {
     Association {
         form: 0,

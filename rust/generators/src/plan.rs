@@ -70,6 +70,7 @@ pub struct RecordPlan {
 }
 
 impl ValueType {
+    /// The part's field.
     fn field(&self) -> Field {
         let mut content = Vec::new();
         put_name(&mut content, &self.name);
@@ -82,6 +83,7 @@ impl ValueType {
 }
 
 impl Type {
+    /// The part's field.
     fn field(&self) -> Field {
         let mut content = vec![self.kind];
         put_name(&mut content, &self.name);
@@ -92,6 +94,7 @@ impl Type {
 }
 
 impl Attribute {
+    /// The part's field.
     fn field(&self) -> Field {
         let mut content = vec![self.owner];
         put_name(&mut content, &self.name);
@@ -101,6 +104,7 @@ impl Attribute {
 }
 
 impl End {
+    /// Adds the end to its association's content.
     fn put(&self, content: &mut Vec<u8>) {
         content.extend_from_slice(&[self.of, self.low, self.up]);
         put_name(content, &self.role);
@@ -108,6 +112,7 @@ impl End {
 }
 
 impl Association {
+    /// The part's field.
     fn field(&self) -> Field {
         let mut content = vec![self.form, self.arrow];
         self.left.put(&mut content);
@@ -134,6 +139,7 @@ impl DiagramPlan {
 }
 
 impl Value {
+    /// The part's field.
     fn field(&self) -> Field {
         let mut content = vec![self.object];
         put_name(&mut content, &self.attribute);
@@ -144,6 +150,7 @@ impl Value {
 }
 
 impl Link {
+    /// The part's field.
     fn field(&self) -> Field {
         let mut content = vec![self.from];
         put_name(&mut content, &self.role);

@@ -43,6 +43,7 @@ fn object_counts() -> Vec<Vec<u8>> {
     files
 }
 
+/// An unnamed value.
 fn value(object: usize, attribute: &[u8]) -> Value {
     Value {
         object: object as u8,

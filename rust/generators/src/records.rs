@@ -137,6 +137,7 @@ fn mirror(random: &mut Random, plan: &DiagramPlan, types: &[usize], record: &mut
     }
 }
 
+/// The link between two objects by their indices.
 fn link(from: usize, role: &[u8], to: usize) -> Link {
     Link {
         from: from as u8,
@@ -145,6 +146,7 @@ fn link(from: usize, role: &[u8], to: usize) -> Link {
     }
 }
 
+/// Adds that link.
 fn push_link(record: &mut RecordPlan, from: usize, role: &[u8], to: usize) {
     record.links.push(link(from, role, to));
 }

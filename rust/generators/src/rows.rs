@@ -83,6 +83,7 @@ impl Row<'_> {
         }
     }
 
+    /// Loads one of the diagrams as it is.
     fn load_whole(&mut self, random: &mut Random, place: u8) {
         let plan = random.pick(&self.diagrams).clone();
         let file = plan.file();
@@ -103,6 +104,7 @@ impl Row<'_> {
         }
     }
 
+    /// Clears a place.
     fn clear(&mut self, random: &mut Random) {
         let place = any_place(random);
         self.calls.push(CallPlan::Clear { place });
@@ -137,6 +139,7 @@ impl Row<'_> {
         }
     }
 
+    /// Whether a compare of what the places hold ends soon; unknown diagrams might not.
     fn ends_soon(&mut self, bound: u8) -> bool {
         match (&self.held[0], &self.held[1]) {
             (Held::Diagram(old), Held::Diagram(new)) => (self.affordable)(old, new, bound),

@@ -102,6 +102,7 @@ fn pair(seed: u64) -> (DiagramPlan, DiagramPlan) {
     }
 }
 
+/// A load, in short.
 fn load(place: u8, file: Vec<u8>) -> CallPlan {
     CallPlan::Load { place, file }
 }

@@ -23,6 +23,7 @@ pub struct Tally {
 }
 
 impl Tally {
+    /// Nothing counted yet.
     pub fn new() -> Self {
         Tally {
             statuses: [0; 23],

@@ -45,6 +45,7 @@ fn after(answer: &str, name: &str) -> String {
     said.to_string()
 }
 
+/// A file of the table, found from this crate so that it does not matter where the test is started.
 fn text(file: &str) -> String {
     let mut path = PathBuf::from(env!("CARGO_MANIFEST_DIR"));
     path.extend(["..", "..", "crates", "cases", file]);

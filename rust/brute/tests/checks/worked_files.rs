@@ -52,6 +52,7 @@ pub fn empty() -> Vec<u8> {
     bytes("60 00 01 00")
 }
 
+/// Shelf and Card with the limits of either end as bytes.
 fn shelf_and_card(shelf: &str, cards: &str) -> Vec<u8> {
     bytes(&format!(
         "10 00 01 01  30 00 08 00 05 53 68 65 6C 66 00  30 00 07 00 04 43 61 72 64 00
