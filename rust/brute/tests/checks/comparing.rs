@@ -8,7 +8,7 @@ use generators::fillings::fillings;
 use generators::hex::hex;
 use generators::{CallPlan, DiagramPlan, Random};
 
-/// Objects up to which pairs are compared.
+/// Objects up to which pairs are compared, but for the largest.
 const BOUND: usize = 3;
 
 /// Nodes that the independent search may visit for a pair.
@@ -33,6 +33,24 @@ const WIDE: Size = Size {
     associations: 4,
 };
 
+/// As many parts as the format allows; compared with one object at most.
+const LARGE: Size = Size {
+    value_types: 12,
+    types: 24,
+    attributes: 32,
+    associations: 16,
+};
+
+/// Sizes of pairs, and the bound up to which pairs of that size are compared.
+const SIZES: [(Size, usize); 6] = [
+    (TINY, BOUND),
+    (SMALL, BOUND),
+    (LINKED, BOUND),
+    (LINKED, BOUND),
+    (WIDE, BOUND),
+    (LARGE, 1),
+];
+
 /// How many pairs had a difference (by its object count, and by the rule that new breaks), had
 /// none, or were left out.
 #[derive(Default, Debug)]
@@ -45,11 +63,11 @@ pub struct Tally {
 
 /// Compares the pair of a seed at every bound.
 pub fn comparing_agrees(seed: u64, tally: &mut Tally) {
-    let (old, new) = pair(seed);
+    let (old, new, most) = pair(seed);
     let (old_file, new_file) = (old.file(), new.file());
     let old = read_diagram(&old_file).expect("generated diagrams are accepted");
     let new = read_diagram(&new_file).expect("edited diagrams are accepted");
-    let Ok(found) = compare_within(&old, &new, BOUND, BUDGET) else {
+    let Ok(found) = compare_within(&old, &new, most, BUDGET) else {
         tally.skipped += 1;
         return;
     };
@@ -67,7 +85,7 @@ pub fn comparing_agrees(seed: u64, tally: &mut Tally) {
         hex(&new_file)
     );
     let mut calls = vec![load(0, old_file), load(1, new_file)];
-    for bound in 0..=BOUND as u8 {
+    for bound in 0..=most as u8 {
         calls.push(CallPlan::Compare { bound });
         calls.push(CallPlan::HandOut { room: 60_000 });
     }
@@ -79,11 +97,12 @@ pub fn comparing_agrees(seed: u64, tally: &mut Tally) {
     }
 }
 
-/// A small diagram and a small edit of it, in either order, of a size that can be searched.
-fn pair(seed: u64) -> (DiagramPlan, DiagramPlan) {
+/// A diagram and a small edit of it, in either order, that can be searched up to the bound beside
+/// them.
+fn pair(seed: u64) -> (DiagramPlan, DiagramPlan, usize) {
     let mut random = Random::new(seed);
     loop {
-        let size = *random.pick(&[TINY, SMALL, LINKED, LINKED, WIDE]);
+        let (size, bound) = *random.pick(&SIZES);
         let mut one = diagram(&mut random, size);
         if random.chance(1, 2) {
             one = loosened(&mut random, &one);
@@ -96,8 +115,8 @@ fn pair(seed: u64) -> (DiagramPlan, DiagramPlan) {
             true => (one, other),
             false => (other, one),
         };
-        if fillings(&old, BOUND, FILLINGS) < FILLINGS {
-            return (old, new);
+        if fillings(&old, bound, FILLINGS) < FILLINGS {
+            return (old, new, bound);
         }
     }
 }
