@@ -27,11 +27,10 @@ use Rattle.compiling.specs.Compiled.{Gives}
 use Rattle.compiling.specs.declared.Compiled.{Compiled}
 use Rattle.evaluating.specs.Evaluates.{Evaluates}
 use Rattle.evaluating.specs.declared.Evaluation.{Evaluation}
-use Rattle.bench.specs.Bench.{Compile, Evaluate, Judge}
-use Rattle.bench.specs.Bench as abstract
+use Rattle.steps.specs.Bench.{Compile, Evaluate, Judge}
+use Rattle.steps.specs.Row.{isRefusal}
+use Rattle.steps.specs.Step.{Step, compiling, evaluating, inPlace, judging, needing, reading}
 use Rattle.bench.specs.Calls.{Does, DoesWith, Valid}
-use Rattle.bench.specs.Row.{isRefusal}
-use Rattle.bench.specs.Step.{Step, compiling, evaluating, inPlace, judging, needing, reading}
 use Rattle.bench.specs.View.{benchOf, placeIn, replyOf}
 use Rattle.bench.specs.declared.Bench.{Bench}
 use Rattle.bench.specs.declared.Place.{Place}

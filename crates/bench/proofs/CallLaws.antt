@@ -3,10 +3,10 @@
 use Prim.Native.Nat.{ℕ}
 use mathlib.Core.List.{List, []}
 use mathlib.Core.Path.{refl}
-use Rattle.bench.specs.Bench.{Call}
-use Rattle.bench.specs.Bench as abstract
+use Rattle.steps.specs.Bench.{Call}
+use Rattle.steps.specs.Bench as abstract
+use Rattle.steps.specs.Step.{Step}
 use Rattle.bench.specs.Calls.{Does, Stays, Valid}
-use Rattle.bench.specs.Step.{Step}
 use Rattle.bench.specs.View.{benchOf, replyOf}
 use Rattle.bench.specs.declared.Bench.{Bench}
 use Rattle.bench.specs.declared.Reply.{Reply}

@@ -8,7 +8,7 @@ use mathlib.Core.List.{[]}
 use mathlib.Core.Option.{Option, none, some}
 use mathlib.Core.Path.{_∙_, _≡_, ap, refl, subst, subst₂, sym}
 use lib.Dec.{ltb}
-use borrow.Author.Tests.{le-ltb, lt-ltb, not-false, not-true}
+use borrow.Author.Tests.{le-ltb, lt-ltb, not-false}
 use Rattle.files.specs.Diagram.{Diagram}
 use Rattle.files.specs.Record.{Record, objectCount}
 use Rattle.diagrams.specs.Held.{Held}
@@ -19,27 +19,19 @@ use Rattle.records.proofs.WrittenLaws.{written-count}
 use Rattle.searching.specs.declared.Found.{Found}
 use Rattle.comparing.specs.Compared as comparing
 use Rattle.comparing.specs.Difference.{Finds}
-use Rattle.bench.specs.Bench as abstract
-use Rattle.bench.specs.Bench.{Compare, Outcome, difference, dropWitness, gives, noDifference, storeWitness}
+use Rattle.steps.specs.Bench as abstract
+use Rattle.steps.specs.Bench.{Compare, Outcome, difference, gives, noDifference, storeWitness}
+use Rattle.steps.specs.Row.{dropsOrStores, isRefusal}
+use Rattle.steps.specs.Step.{Compares, found}
 use Rattle.bench.specs.Calls.{Does, Stays, Valid}
-use Rattle.bench.specs.Row.{dropsOrStores, isRefusal}
-use Rattle.bench.specs.Step.{Compares, found}
-use Rattle.bench.specs.View.{benchOf, diagramIn, noWitness, withWitnessIn, witnessIn}
+use Rattle.bench.specs.View.{benchOf, noWitness, withWitnessIn, witnessIn}
 use Rattle.bench.specs.declared.Bench.{Bench}
-use Rattle.bench.specs.declared.Place.{Place}
 use Rattle.bench.specs.declared.Reply.the-variants.{Difference, NoDifference, Refused}
 use Rattle.bench.specs.declared.Witness.{Witness}
-use Rattle.bench.proofs.CallLaws.{stays-all}
+use Rattle.bench.proofs.CallLaws.{kept}
+use Rattle.bench.proofs.PartLaws.{bench-dropped, empty-in, full-in, valid-dropped}
 
--- ---- places
-
-pub empty-in : (x : Place) → not (x .loaded) ≡ true → diagramIn x ≡ none
-unfolding diagramIn
-empty-in x e = ap (λ (t : Bool). cond t (some (diagramOf (x .diagram))) none) (not-true (x .loaded) e)
-
-pub loaded-in : (x : Place) → not (x .loaded) ≡ false → diagramIn x ≡ some (diagramOf (x .diagram))
-unfolding diagramIn
-loaded-in x e = ap (λ (t : Bool). cond t (some (diagramOf (x .diagram))) none) (not-false (x .loaded) e)
+-- ---- a step
 
 -- a step of compare, from what is known of the bound and of both places
 step-of : (b : abstract.Bench) (bound : ℕ) (o : Outcome) (t : Bool) (x y : Option Diagram) → ltb 8 bound ≡ t → b .old ≡ x → b .new ≡ y
@@ -57,30 +49,15 @@ bench-stored : (b : Bench) (m : MemoryRecord) → benchOf (withWitnessIn b (stor
 unfolding benchOf witnessIn storeWitness
 bench-stored b m = refl
 
-bench-dropped : (b : Bench) → benchOf (withWitnessIn b noWitness) ≡ dropWitness (benchOf b)
-unfolding benchOf witnessIn dropWitness noWitness
-bench-dropped b = refl
-
-valid-stored : (b : Bench) (new : Diagram) (bound : ℕ) (f : Found) → Valid b → b .old .loaded ≡ true
+valid-witness : (b : Bench) (new : Diagram) (bound : ℕ) (f : Found) → Valid b → b .old .loaded ≡ true
     → comparing.Compares (diagramOf (b .old .diagram)) new bound f → f .ok ≡ true → Valid (withWitnessIn b (stored (f .witness)))
-valid-stored b new bound f v l c t = record {
+valid-witness b new bound f v l c t = record {
   old = v .old;
   new = v .new;
   ready = λ h. l;
   whose = λ h. refl;
   within = λ h. c .within t;
   none = λ h. absurd (true≢false h);
-}
-
-valid-dropped : (b : Bench) → Valid b → Valid (withWitnessIn b noWitness)
-unfolding noWitness
-valid-dropped b v = record {
-  old = v .old;
-  new = v .new;
-  ready = λ h. absurd (true≢false (sym h));
-  whose = λ h. absurd (true≢false (sym h));
-  within = λ h. absurd (true≢false (sym h));
-  none = λ h. refl;
 }
 
 -- an accepted compare leaves both places
@@ -93,8 +70,11 @@ places-stay b e bound reply w q r = record {
 }
 
 -- both diagrams were read
-pub compare-held : (b : Bench) → Valid b → not (b .old .loaded) ≡ false → not (b .new .loaded) ≡ false → Held (b .old .diagram) × Held (b .new .diagram)
-compare-held b v m n = (v .old .held (not-false _ m), v .new .held (not-false _ n))
+pub old-held : (b : Bench) → Valid b → not (b .old .loaded) ≡ false → Held (b .old .diagram)
+old-held b v n = v .old .held (not-false _ n)
+
+pub new-held : (b : Bench) → Valid b → not (b .new .loaded) ≡ false → Held (b .new .diagram)
+new-held b v n = v .new .held (not-false _ n)
 
 -- the count is at most 8, so a byte holds it
 pub compare-count : {old new : Diagram} {bound : ℕ} {f : Found} → comparing.Compares old new bound f → f .ok ≡ true → f .witness .count < 256
@@ -104,19 +84,17 @@ compare-count c t = let k = c .within t .few in omega arith
 
 module _ (b : Bench) (bound : ℕ) (v : Valid b) where
   pub compare-bound : 8 < bound → Does b (Compare bound) (record { bench = b; reply = Refused 9 }) []
-  compare-bound h = record { step = step-of (benchOf b) bound _ true _ _ (lt-ltb 8 bound h) refl refl refl; stays = stays-all b _ _; valid = v }
+  compare-bound h = kept b (Compare bound) (Refused 9) [] v (step-of (benchOf b) bound _ true _ _ (lt-ltb 8 bound h) refl refl refl)
 
   pub compare-old : bound ≤ 8 → not (b .old .loaded) ≡ true → Does b (Compare bound) (record { bench = b; reply = Refused 21 }) []
   unfolding benchOf
-  compare-old h m = record { step = step-of (benchOf b) bound _ false none _ (le-ltb 8 bound h) (empty-in (b .old) m) refl refl; stays = stays-all b _ _; valid = v }
+  compare-old h m = kept b (Compare bound) (Refused 21) [] v (step-of (benchOf b) bound _ false none _ (le-ltb 8 bound h) (empty-in (b .old) m) refl refl)
 
   pub compare-new : bound ≤ 8 → not (b .old .loaded) ≡ false → not (b .new .loaded) ≡ true → Does b (Compare bound) (record { bench = b; reply = Refused 21 }) []
   unfolding benchOf
-  compare-new h m n = record {
-    step = step-of (benchOf b) bound _ false (some (diagramOf (b .old .diagram))) none (le-ltb 8 bound h) (loaded-in (b .old) m) (empty-in (b .new) n) refl;
-    stays = stays-all b _ _;
-    valid = v;
-  }
+  compare-new h m n =
+      kept b (Compare bound) (Refused 21) [] v
+      (step-of (benchOf b) bound _ false (some (diagramOf (b .old .diagram))) none (le-ltb 8 bound h) (full-in (b .old) m) (empty-in (b .new) n) refl)
 
   -- a step that gives what was found
   step-found : (x : Option Record) (o : Outcome) → bound ≤ 8 → not (b .old .loaded) ≡ false → not (b .new .loaded) ≡ false
@@ -125,7 +103,7 @@ module _ (b : Bench) (bound : ℕ) (v : Valid b) where
   unfolding benchOf
   step-found x o h m n f e =
       step-of (benchOf b) bound o false (some (diagramOf (b .old .diagram))) (some (diagramOf (b .new .diagram))) (le-ltb 8 bound h)
-      (loaded-in (b .old) m) (loaded-in (b .new) n) (x, f, e)
+      (full-in (b .old) m) (full-in (b .new) n) (x, f, e)
 
   module _ {f : Found} (c : comparing.Compares (diagramOf (b .old .diagram)) (diagramOf (b .new .diagram)) bound f) where
     finds-by : (t : Bool) → f .ok ≡ t
@@ -141,7 +119,7 @@ module _ (b : Bench) (bound : ℕ) (v : Valid b) where
     compare-gap {y} h m n t e = record {
       step = step-found (some w) _ h m n (finds-by true t) is;
       stays = places-stay b y bound _ _ e refl;
-      valid = subst Valid (sym e) (valid-stored b _ bound f v (not-false _ m) c t);
+      valid = subst Valid (sym e) (valid-witness b _ bound f v (not-false _ m) c t);
     }
       where
         w : Record
@@ -156,10 +134,10 @@ module _ (b : Bench) (bound : ℕ) (v : Valid b) where
     compare-none {y} {w} h m n t q e = record {
       step = step-found none _ h m n (finds-by false t) (ap (λ (x : Bench). gives noDifference (benchOf x)) same ∙ ap (gives noDifference) (bench-dropped b));
       stays = places-stay b y bound _ _ e refl;
-      valid = subst Valid (sym same) (valid-dropped b v);
+      valid = subst Valid (sym same) (valid-dropped (b .old) (b .new) (v .old) (v .new));
     }
       where
         same : y ≡ withWitnessIn b noWitness
         same = e ∙ ap (withWitnessIn b) q
 
-pub ruleset compares = (compare-bound, compare-old, compare-new, compare-gap)
+pub ruleset compares = (compare-bound, compare-old, compare-new, compare-gap, compare-none)

@@ -18,14 +18,14 @@ use Rattle.diagrams.specs.View.{diagramOf}
 use Rattle.records.specs.Written.{recordOf}
 use Rattle.records.proofs.WithinLaws.{within-complete}
 use Rattle.writing.specs.Writes.{Writes, WritesWithin, writable}
-use Rattle.bench.specs.Bench as abstract
-use Rattle.bench.specs.Bench.{HandOut, Outcome, refusal, written}
+use Rattle.steps.specs.Bench as abstract
+use Rattle.steps.specs.Bench.{HandOut, Outcome, refusal, written}
+use Rattle.steps.specs.Step.{handOut}
 use Rattle.bench.specs.Calls.{Does, Valid}
-use Rattle.bench.specs.Step.{handOut}
 use Rattle.bench.specs.View.{benchOf, witnessIn}
 use Rattle.bench.specs.declared.Bench.{Bench}
 use Rattle.bench.specs.declared.Reply.the-variants.{Refused, Written}
-use Rattle.bench.proofs.CallLaws.{stays-all}
+use Rattle.bench.proofs.CallLaws.{kept}
 
 -- the witness, by the names of the old diagram
 abbrev named : Bench → Record
@@ -55,13 +55,11 @@ hand-held b v e = v .old .held (v .ready (not-false _ e))
 module _ (b : Bench) (s : List ℕ) (v : Valid b) where
   pub hand-none : not (b .witness .stored) ≡ true → Does b (HandOut s) (record { bench = b; reply = Refused 22 }) s
   unfolding handOut
-  hand-none e =
-      record { step = sym (ap (λ (x : Option Record). handOut (benchOf b) x s) (no-witness b e)); stays = stays-all b _ _; valid = v }
+  hand-none e = kept b (HandOut s) (Refused 22) s v (sym (ap (λ (x : Option Record). handOut (benchOf b) x s) (no-witness b e)))
 
   pub hand-short : not (b .witness .stored) ≡ false → length s < 60000 → Does b (HandOut s) (record { bench = b; reply = Refused 20 }) s
   unfolding out-by
-  hand-short e l =
-      record { step = sym (out-some (benchOf b) (named b) s false (one-witness b e) (lt-leb _ _ l)); stays = stays-all b _ _; valid = v }
+  hand-short e l = kept b (HandOut s) (Refused 20) s v (sym (out-some (benchOf b) (named b) s false (one-witness b e) (lt-leb _ _ l)))
 
   -- what the writer leaves: the file fits, and the diagram has an index for everything in it
   wrote : {n : ℕ} {t : List ℕ} → not (b .witness .stored) ≡ false → 60000 ≤ length s
@@ -73,7 +71,7 @@ module _ (b : Bench) (s : List ℕ) (v : Valid b) where
   pub hand-done : {n : ℕ} {t : List ℕ} → not (b .witness .stored) ≡ false → 60000 ≤ length s
       → WritesWithin (diagramOf (b .old .diagram)) (b .witness .found) s n t → Does b (HandOut s) (record { bench = b; reply = Written n }) t
   unfolding out-by
-  hand-done {n} {t} e l w = record { step = is (wrote e l w) ∙ sym whole; stays = stays-all b _ _; valid = v }
+  hand-done {n} {t} e l w = kept b (HandOut s) (Written n) t v (is (wrote e l w) ∙ sym whole)
     where
       is : Writes (named b) s n t → _≡_ {A = Outcome} (record { reply = written n; bench = benchOf b; buffer = t }) (out-by (benchOf b) (named b) s true)
       is x = cc (x .length-is, x .bytes)

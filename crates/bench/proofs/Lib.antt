@@ -1,8 +1,9 @@
 pub mod AskLaws
-pub mod BenchLaws
 pub mod CallLaws
 pub mod PartLaws
 pub mod StoreLaws
 pub mod HandOutLaws
 pub mod CompareLaws
 pub mod RunLaws
+pub mod LowestLaws
+pub mod Demands

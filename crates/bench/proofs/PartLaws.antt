@@ -3,14 +3,16 @@
 use Prim.Native.Nat.{_≤_, suc, zero, ℕ}
 use native.Mathlib.Omega.{arith}
 use mathlib.Core.Bool.{Bool, cond, false, false≢true, not, true, true≢false}
-use mathlib.Core.Option.{none, some}
+use mathlib.Core.Option.{Option, none, some}
 use mathlib.Core.Path.{_∙_, _≡_, ap, refl, subst, sym}
 use lib.Dec.{eqb}
 use borrow.Author.Tests.{not-false, not-true}
+use Rattle.files.specs.Diagram.{Diagram}
+use Rattle.files.specs.WellFormedDiagram.{WfDiagram}
 use Rattle.diagrams.specs.Held.{Held}
 use Rattle.diagrams.specs.View.{diagramOf}
 use Rattle.diagrams.specs.declared.StoredDiagram.{StoredDiagram}
-use Rattle.bench.specs.Bench.{dropWitness, placeOf, withPlace}
+use Rattle.steps.specs.Bench.{dropWitness, placeOf, withPlace}
 use Rattle.bench.specs.Calls.{Valid, ValidPlace}
 use Rattle.bench.specs.View.{benchOf, diagramIn, noPlace, noWitness, placeIn, withPlaceIn, withWitnessIn, witnessIn}
 use Rattle.bench.specs.declared.Bench.{Bench}
@@ -29,11 +31,11 @@ place-is b p = by (eqb p 0)
     by true = refl
     by false = refl
 
-empty-in : (x : Place) → not (x .loaded) ≡ true → diagramIn x ≡ none
+pub empty-in : (x : Place) → not (x .loaded) ≡ true → diagramIn x ≡ none
 unfolding diagramIn
 empty-in x n = rw (not-true (x .loaded) n)
 
-full-in : (x : Place) → not (x .loaded) ≡ false → diagramIn x ≡ some (diagramOf (x .diagram))
+pub full-in : (x : Place) → not (x .loaded) ≡ false → diagramIn x ≡ some (diagramOf (x .diagram))
 unfolding diagramIn
 full-in x n = rw (not-false (x .loaded) n)
 
@@ -76,6 +78,19 @@ valid-place b p v = by (eqb p 0)
 pub held-place : {b : Bench} (p : ℕ) {x : Place} → Valid b → x ≡ placeIn b p → not (x .loaded) ≡ false → Held (x .diagram)
 held-place {b} p {x} v is n = subst ValidPlace (sym is) (valid-place b p v) .held (not-false (x .loaded) n)
 
+-- so it is well formed
+pub wf-place : (b : Bench) (p : ℕ) (d : Diagram) → Valid b → placeOf p (benchOf b) ≡ some d → WfDiagram d
+unfolding diagramIn
+wf-place b p d v e = subst Wf (sym (place-is b p) ∙ e) (by (placeIn b p .loaded) refl)
+  where
+    Wf : Option Diagram → Type 0
+    Wf none = Unit {0}
+    Wf (some x) = WfDiagram x
+
+    by : (t : Bool) → placeIn b p .loaded ≡ t → Wf (cond t (some (diagramOf (placeIn b p .diagram))) none)
+    by true h = valid-place b p v .held h .wf
+    by false h = tt
+
 not-stored : {A : Type 0} → noWitness .stored ≡ true → A
 unfolding noWitness
 not-stored e = absurd (false≢true e)
@@ -91,16 +106,16 @@ valid-fresh = valid-dropped noPlace noPlace valid-no-place valid-no-place
 abbrev pub storedIn : Bench → ℕ → Place → Bench
 storedIn b p x = withWitnessIn (withPlaceIn b p x) noWitness
 
-no-witness-in : (x y : Place) → witnessIn (record { old = x; new = y; witness = noWitness }) ≡ none
-unfolding witnessIn noWitness
-no-witness-in x y = refl
+pub bench-dropped : (b : Bench) → benchOf (withWitnessIn b noWitness) ≡ dropWitness (benchOf b)
+unfolding benchOf witnessIn dropWitness noWitness
+bench-dropped b = refl
 
 -- of both places, p is one
 module _ (b : Bench) where
   pub stored-is : (p : ℕ) (x : Place) → p ≤ 1 → benchOf (storedIn b p x) ≡ dropWitness (withPlace p (diagramIn x) (benchOf b))
   unfolding benchOf withPlaceIn dropWitness withPlace
-  stored-is zero x h = rw (no-witness-in x (b .new))
-  stored-is (suc zero) x h = rw (no-witness-in (b .old) x)
+  stored-is zero x h = bench-dropped (withPlaceIn b 0 x)
+  stored-is (suc zero) x h = bench-dropped (withPlaceIn b 1 x)
   stored-is (suc (suc p)) x h = absurd (omega arith)
 
   pub valid-stored : (p : ℕ) (x : Place) → p ≤ 1 → Valid b → ValidPlace x → Valid (storedIn b p x)

@@ -3,7 +3,7 @@
 -- Assumes nothing.
 use Prim.Native.Nat.{ℕ}
 use native.Mathlib.Omega.{arith}
-use mathlib.Core.Bool.{Bool, false, not, true, true≢false}
+use mathlib.Core.Bool.{Bool, false, not, true}
 use mathlib.Core.List.{List, [], _∷_}
 use mathlib.Core.Logic.{⊎-elim}
 use mathlib.Core.Option.{Option, none, some}
@@ -11,22 +11,22 @@ use mathlib.Core.Path.{_∙_, _≡_, ap, refl, subst, sym}
 use lib.Dec.{ltb}
 use Rattle.laws.proofs.ConnectiveLaws.{known}
 use Rattle.files.specs.Diagram.{Diagram}
-use Rattle.bench.specs.Bench as abstract
-use Rattle.bench.specs.Bench.{Outcome, difference}
-use Rattle.bench.specs.Calls.{Valid, ValidPlace}
-use Rattle.bench.specs.Row.{Row, dropsOrStores}
+use Rattle.steps.specs.Bench as abstract
+use Rattle.steps.specs.Bench.{Outcome, difference}
+use Rattle.steps.specs.Row.{Row, dropsOrStores}
+use Rattle.steps.specs.Step.{Compares, Step}
+use Rattle.steps.proofs.BenchLaws.{hands-out}
+use Rattle.bench.specs.Calls.{Valid}
 use Rattle.bench.specs.Runs.{Did, Made, Run, RunHandsOut, RunStays, RunsRight, after, eventOf, eventsOf, listed, outcomeOf, replied}
-use Rattle.bench.specs.Step.{Compares, Step}
 use Rattle.bench.specs.View.{benchOf, diagramIn, freshIn, noPlace, noWitness, replyOf, witnessIn}
 use Rattle.bench.specs.declared.Bench.{Bench}
 use Rattle.bench.specs.declared.Place.{Place}
 use Rattle.bench.specs.declared.Reply.{Reply}
-use Rattle.bench.proofs.BenchLaws.{hands-out}
-use Rattle.bench.proofs.CompareLaws.{empty-in, loaded-in}
+use Rattle.bench.proofs.PartLaws.{empty-in, full-in, valid-fresh}
 
 -- ---- one call
 
-made-step : (b : Bench) (m : Made) → Did b m → Step (benchOf b) (eventOf m .call) (eventOf m .outcome)
+pub made-step : (b : Bench) (m : Made) → Did b m → Step (benchOf b) (eventOf m .call) (eventOf m .outcome)
 made-step b (replied c r buffer) d = d .step
 made-step b (listed p r) d = d .step
 
@@ -34,7 +34,7 @@ made-valid : (b : Bench) (m : Made) → Did b m → Valid (after m)
 made-valid b (replied c r buffer) d = d .valid
 made-valid b (listed p r) d = d .valid
 
-made-stays : (b : Bench) (m : Made) → Did b m → dropsOrStores (eventOf m .call) (eventOf m .outcome .reply) ≡ false → after m ≡ b
+pub made-stays : (b : Bench) (m : Made) → Did b m → dropsOrStores (eventOf m .call) (eventOf m .outcome .reply) ≡ false → after m ≡ b
 made-stays b (replied c r buffer) d h = d .stays .all h
 made-stays b (listed p r) d h = d .stays .all h
 
@@ -63,23 +63,8 @@ pub fresh-stands : benchOf freshIn ≡ abstract.fresh
 unfolding benchOf diagramIn witnessIn noPlace noWitness
 fresh-stands = refl
 
-empty-valid : ValidPlace noPlace
-unfolding noPlace
-empty-valid = record { held = λ h. absurd (true≢false (sym h)); empty = λ h. refl }
-
-fresh-valid : Valid freshIn
-unfolding noWitness
-fresh-valid = record {
-  old = empty-valid;
-  new = empty-valid;
-  ready = λ h. absurd (true≢false (sym h));
-  whose = λ h. absurd (true≢false (sym h));
-  within = λ h. absurd (true≢false (sym h));
-  none = λ h. refl;
-}
-
 pub runs-right : RunsRight
-runs-right ms b r = (subst (λ (x : abstract.Bench). Row x (eventsOf ms) (benchOf b)) fresh-stands (run-row freshIn ms b r), run-valid freshIn ms b fresh-valid r)
+runs-right ms b r = (subst (λ (x : abstract.Bench). Row x (eventsOf ms) (benchOf b)) fresh-stands (run-row freshIn ms b r), run-valid freshIn ms b valid-fresh r)
 
 -- ---- handed out after "difference"
 
@@ -104,6 +89,6 @@ run-hands-out b bound n r d h ms c run k buffer p given e =
     let new : b .new .loaded ≡ true = full-place (b .new) (full .1) in (
       old,
       new,
-      hands-out (benchOf b) _ _ bound n (outcomeOf r []) (loaded-in (b .old) (ap not old)) (loaded-in (b .new) (ap not new)) (d .step) said
+      hands-out (benchOf b) _ _ bound n (outcomeOf r []) (full-in (b .old) (ap not old)) (full-in (b .new) (ap not new)) (d .step) said
           (eventsOf ms) (benchOf c) (run-row (r .bench) ms c run) k buffer (outcomeOf p given) (e .step),
     )

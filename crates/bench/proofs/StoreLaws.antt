@@ -11,11 +11,11 @@ use Rattle.files.specs.Refusal.{accepted, refused}
 use Rattle.diagrams.specs.View.{diagramOf}
 use Rattle.loading.specs.Loads.{Loads, answerOf}
 use Rattle.loading.specs.declared.Loaded.{Loaded}
-use Rattle.bench.specs.Bench.{Clear, Load}
-use Rattle.bench.specs.Bench as abstract
+use Rattle.steps.specs.Bench.{Clear, Load}
+use Rattle.steps.specs.Bench as abstract
+use Rattle.steps.specs.Row.{dropsOrStores, isRefusal}
+use Rattle.steps.specs.Step.{Step, clear, inPlace, load, reading}
 use Rattle.bench.specs.Calls.{Does, Stays, Valid, spares}
-use Rattle.bench.specs.Row.{dropsOrStores, isRefusal}
-use Rattle.bench.specs.Step.{Step, clear, inPlace, load, reading}
 use Rattle.bench.specs.View.{benchOf, noPlace, noWitness, withPlaceIn, withWitnessIn}
 use Rattle.bench.specs.declared.Bench.{Bench}
 use Rattle.bench.specs.declared.Place.{Place}

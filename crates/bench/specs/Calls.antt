@@ -10,10 +10,10 @@ use lib.ListN.{replicate}
 use Rattle.diagrams.specs.Held.{Held}
 use Rattle.diagrams.specs.View.{diagramOf}
 use Rattle.records.specs.Written.{Within}
-use Rattle.bench.specs.Bench as abstract
-use Rattle.bench.specs.Bench.{Call, Clear, Compare, Compile, Evaluate, HandOut, Judge, Load, Outcome}
-use Rattle.bench.specs.Row.{dropsOrStores, isRefusal}
-use Rattle.bench.specs.Step.{Step}
+use Rattle.steps.specs.Bench as abstract
+use Rattle.steps.specs.Bench.{Call, Clear, Compare, Compile, Evaluate, HandOut, Judge, Load}
+use Rattle.steps.specs.Row.{dropsOrStores, isRefusal}
+use Rattle.steps.specs.Step.{Step}
 use Rattle.bench.specs.View.{benchOf, noPlace, noWitness, replyOf}
 use Rattle.bench.specs.declared.Bench.{Bench}
 use Rattle.bench.specs.declared.Listed.{Listed}

@@ -6,11 +6,11 @@ use mathlib.Core.Bool.{true}
 use mathlib.Core.List.{List, [], _∷_, map}
 use mathlib.Core.Path.{_≡_}
 use Rattle.diagrams.specs.View.{diagramOf}
-use Rattle.bench.specs.Bench as abstract
-use Rattle.bench.specs.Bench.{Call, Compare, Compile, HandOut, Outcome}
+use Rattle.steps.specs.Bench as abstract
+use Rattle.steps.specs.Bench.{Call, Compare, Compile, HandOut, Outcome}
+use Rattle.steps.specs.HandedOut.{HandedOut}
+use Rattle.steps.specs.Row.{Event, Keeps, Row}
 use Rattle.bench.specs.Calls.{Does, DoesWith, Valid}
-use Rattle.bench.specs.HandedOut.{HandedOut}
-use Rattle.bench.specs.Row.{Event, Keeps, Row}
 use Rattle.bench.specs.View.{benchOf, freshIn, replyOf}
 use Rattle.bench.specs.declared.Bench.{Bench}
 use Rattle.bench.specs.declared.Listed.{Listed}

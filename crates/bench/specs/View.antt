@@ -2,7 +2,7 @@
 -- Assumes nothing.
 use Prim.Native.Nat.{ℕ}
 use mathlib.Core.Bool.{cond, false}
-use mathlib.Core.List.{List, []}
+use mathlib.Core.List.{List}
 use mathlib.Core.Option.{Option, none, some}
 use lib.Dec.{eqb}
 use lib.ListN.{replicate}
@@ -11,7 +11,7 @@ use Rattle.files.specs.Record.{Record}
 use Rattle.diagrams.specs.Empty.{emptyDiagram}
 use Rattle.diagrams.specs.View.{diagramOf}
 use Rattle.records.specs.Written.{recordOf}
-use Rattle.bench.specs.Bench as abstract
+use Rattle.steps.specs.Bench as abstract
 use Rattle.bench.specs.declared.Bench.{Bench}
 use Rattle.bench.specs.declared.Place.{Place}
 use Rattle.bench.specs.declared.Reply.{Reply}

@@ -2,7 +2,7 @@
 ghost use mathlib.Core.List.{[]};
 ghost use mathlib.Core.Path.{_≡_};
 ghost use Prim.Native.Nat.{_<_, _≤_};
-ghost use Rattle.bench.specs.Bench.{Load, Clear, Judge, Compile, Evaluate, Compare, HandOut};
+ghost use Rattle.steps.specs.Bench.{Load, Clear, Judge, Compile, Evaluate, Compare, HandOut};
 ghost use Rattle.bench.specs.View.{freshIn, noPlace, noWitness, placeIn, withPlaceIn, withWitnessIn};
 ghost use Rattle.bench.specs.Calls.{Does, DoesWith, Valid};
 use diagrams::StoredDiagram;

@@ -3,6 +3,7 @@
 // behind a blank; where two files are asked for, a blank and a slash stand between them. Before two diagrams to compare stands
 // the bound, one byte, with a blank and a slash behind it.
 mod differences; // differences.rt: two diagrams compared
+mod rows; // rows.rt: a row of calls
 
 use libc::STDOUT_FILENO;
 ghost use Prim.Native.Nat.{_<_, _≤_};
@@ -11,6 +12,11 @@ ghost use Rattle.diagrams.specs.Held.{Held};
 
 // Room for the whole input.
 fn input() -> [u8; 262144] {
+    [0u8; 262144]
+}
+
+// Room for the replies of a row of calls.
+fn reply_room() -> [u8; 262144] {
     [0u8; 262144]
 }
 
@@ -177,8 +183,8 @@ fn run_compile(line: &[u8], at: usize, space: &mut [u8]) {
 }
 
 // One line: a diagram file (D), a record file (R), a record file under a diagram (J), a diagram to compile (C), or two diagrams to
-// compare (F), where there is only one witness also for its bytes (W).
-fn run(line: &[u8], space: &mut [u8], other: &mut [u8]) {
+// compare (F), where there is only one witness also for its bytes (W), or a row of calls (B).
+fn run(line: &[u8], space: &mut [u8], other: &mut [u8], replies: &mut [u8]) {
     let at = before(line, 58);
     let kind = laws::byte(line, 0);
     if kind == 68 {
@@ -203,15 +209,19 @@ fn run(line: &[u8], space: &mut [u8], other: &mut [u8]) {
     }
     if kind == 87 {
         differences::run_compare(line, at, true, space, other);
+        return;
+    }
+    if kind == 66 {
+        rows::run_row(line, at, space, replies);
     }
 }
 
 // All lines.
-fn run_all(text: &[u8], space: &mut [u8], other: &mut [u8]) {
+fn run_all(text: &[u8], space: &mut [u8], other: &mut [u8], replies: &mut [u8]) {
     let mut rest = text;
     while 0 < rest.len() {
         let k = before(rest, 10);
-        run(laws::front(rest, k), space, other);
+        run(laws::front(rest, k), space, other, replies);
         let next = laws::past(laws::past(rest, k), 1);
         rest = next;
     }
@@ -222,5 +232,6 @@ fn main() {
     let n = io::read_full(0, &mut text);
     let mut space = room();
     let mut other = room();
-    run_all(&text[..n], &mut space, &mut other);
+    let mut replies = reply_room();
+    run_all(&text[..n], &mut space, &mut other, &mut replies);
 }

@@ -6,7 +6,7 @@ use native.Mathlib.Omega.{arith}
 use mathlib.Core.List.{List, [], _∷_, _++_}
 use mathlib.Core.Path.{_≡_, refl}
 use lib.ListN.{length}
-use Rattle.bench.specs.Bench as bench
+use Rattle.steps.specs.Bench as steps
 use Rattle.bench.specs.View.{replyOf}
 use Rattle.bench.specs.declared.Reply.{Reply}
 use Rattle.bench.specs.declared.Reply.the-variants.{Done, Rule, Records, FirstFalse, NoDifference, Difference, Written, Refused}
@@ -59,10 +59,10 @@ says-head r d m d′ s n h₃ h₂ h₁ h₀ es en e₃ e₂ e₁ e₀ p = rw (�
 
 -- ---- lengths
 
-pub some-bytes : (r : bench.Reply) → 0 < length (replyBytes r)
+pub some-bytes : (r : steps.Reply) → 0 < length (replyBytes r)
 unfolding replyBytes
 some-bytes r = omega arith
 
-pub five-bytes : (r : bench.Reply) → length (headBytes r) ≡ 5
+pub five-bytes : (r : steps.Reply) → length (headBytes r) ≡ 5
 unfolding headBytes four
 five-bytes r = refl

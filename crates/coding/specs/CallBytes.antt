@@ -12,8 +12,8 @@ use mathlib.Core.Bool.{Bool, cond, _||_}
 use mathlib.Core.List.{List}
 use lib.Dec.{eqb, leb}
 use lib.ListN.{drop, getD, length, take}
-use Rattle.bench.specs.Bench as bench
-use Rattle.bench.specs.Bench.{Call}
+use Rattle.steps.specs.Bench as steps
+use Rattle.steps.specs.Bench.{Call}
 use Rattle.coding.specs.declared.Next.{Next}
 use Rattle.coding.specs.declared.Next.the-variants.{Halt, Load, Clear, Judge, Compile, Evaluate, Compare, HandOut}
 
@@ -57,13 +57,13 @@ pub data Read : Type 0 where
 -- the call that it is: a file is the bytes behind the length; the buffer that is lent is the room behind the reply's first five bytes
 unfoldable pub readAs : List ℕ → List ℕ → Next → Read
 readAs s room Halt = halt
-readAs s room (Load p n) = call (bench.Load p (take n (drop 6 s))) (drop (6 + n) s)
-readAs s room (Clear p) = call (bench.Clear p) (drop 2 s)
-readAs s room (Judge p n) = call (bench.Judge p (take n (drop 6 s))) (drop (6 + n) s)
-readAs s room (Compile p) = call (bench.Compile p) (drop 2 s)
-readAs s room (Evaluate p n) = call (bench.Evaluate p (take n (drop 6 s))) (drop (6 + n) s)
-readAs s room (Compare bound) = call (bench.Compare bound) (drop 2 s)
-readAs s room (HandOut n) = call (bench.HandOut (take n (drop 5 room))) (drop 5 s)
+readAs s room (Load p n) = call (steps.Load p (take n (drop 6 s))) (drop (6 + n) s)
+readAs s room (Clear p) = call (steps.Clear p) (drop 2 s)
+readAs s room (Judge p n) = call (steps.Judge p (take n (drop 6 s))) (drop (6 + n) s)
+readAs s room (Compile p) = call (steps.Compile p) (drop 2 s)
+readAs s room (Evaluate p n) = call (steps.Evaluate p (take n (drop 6 s))) (drop (6 + n) s)
+readAs s room (Compare bound) = call (steps.Compare bound) (drop 2 s)
+readAs s room (HandOut n) = call (steps.HandOut (take n (drop 5 room))) (drop 5 s)
 
 -- the call at the front of s, whose reply goes to the front of room
 unfoldable pub readCall : List ℕ → List ℕ → Read

@@ -3,7 +3,7 @@
 -- Assumes nothing.
 use Prim.Native.Nat.{ℕ, _/_, _%_}
 use mathlib.Core.List.{List, [], _∷_, _++_}
-use Rattle.bench.specs.Bench.{Call, Clear, Compare, Compile, Evaluate, HandOut, Judge, Load, Outcome, Reply, difference, done, firstFalse, noDifference, records, refusal, rule, written}
+use Rattle.steps.specs.Bench.{Call, Clear, Compare, Compile, Evaluate, HandOut, Judge, Load, Outcome, Reply, difference, done, firstFalse, noDifference, records, refusal, rule, written}
 
 -- four bytes, high byte first
 unfoldable pub four : ℕ → List ℕ

@@ -32,7 +32,8 @@ use Rattle.masks.specs.Masks.{linkIn}
 use Rattle.tables.specs.Tables.{Instances, RoleSlots}
 use Rattle.tables.proofs.OwnLaws.{role-same}
 use Rattle.tables.proofs.TableLaws.{instances-at, role-named}
-use Rattle.object_rules.specs.LinksIn.{joins, linkFits, permitsAt}
+use Rattle.permits.specs.Permits.{joins, permitsAt}
+use Rattle.object_rules.specs.LinksIn.{linkFits}
 use Rattle.object_rules.specs.ValuesIn.{ownSlot}
 use Rattle.tables.proofs.UnderLaws.{both-under, imp-under}
 use Rattle.object_rules.proofs.OwnSlotLaws.{own-role}

@@ -2,20 +2,19 @@
 -- answer, and the branch.
 -- Assumes nothing.
 use Prim.Native.Nat.{_%_, _*_, _+_, _-_, _/_, ℕ}
-use mathlib.Core.Bool.{Bool, _||_, false, not, true}
+use mathlib.Core.Bool.{Bool, false, not, true}
 use mathlib.Core.List.{List}
 use mathlib.Core.Path.{_∙_, _≡_, ap, ap₂, refl, sym}
 use lib.Dec.{eqb}
 use lib.ListN.{getD}
 use borrow.Author.Tests.{eq-eqb, ne-eqb}
 use Rattle.laws.specs.Bounded.{all, any, tally}
-use Rattle.laws.specs.Connective.{both, either, same}
+use Rattle.laws.specs.Connective.{both, same}
 use Rattle.laws.proofs.ConnectiveLaws.{both-of}
 use Rattle.laws.proofs.SearchLaws.{by-yes, imp-no, imp-yes}
-use Rattle.rules.specs.Arrow.{carriesLeft, carriesRight}
 use Rattle.object_rules.specs.TypesIn.{singleAt, typedAt}
-use Rattle.object_rules.specs.ValuesIn.{agreesAt, declaresAt, dueAt, ownSlot, valueFits}
-use Rattle.object_rules.specs.LinksIn.{joins, permitsAt}
+use Rattle.declarations.specs.Declares.{agreesAt, declaresAt}
+use Rattle.object_rules.specs.ValuesIn.{dueAt, ownSlot, valueFits}
 
 -- a read at an index that is known
 read : (l : List ℕ) (i : ℕ) {w b : ℕ} → w ≡ i → b ≡ getD l w 0 → b ≡ getD l i 0
@@ -45,11 +44,6 @@ due-by values owners masks slots n o a e f g h b q r =
 
 -- ---- rule 4
 
-pub agrees-by : (owners types masks slots : List ℕ) (o s t a : ℕ) {r : Bool} {w b : ℕ} → r ≡ declaresAt owners masks slots o s a → not r ≡ false
-    → w ≡ a → b ≡ getD types w 0 → eqb b t ≡ agreesAt owners types masks slots o s t a
-unfolding agreesAt
-agrees-by owners types masks slots o s t a e h f q = imp-yes (by-yes e h) (ap (λ (k : ℕ). eqb k t) (read types a f q))
-
 none-kept : (a : Bool) {b : ℕ} → b ≡ 0 → both a (not (eqb b 0)) ≡ false
 unfolding both
 none-kept true e = ap not (eq-eqb _ _ e)
@@ -66,15 +60,3 @@ unfolding valueFits
 fits-by values owners types masks slots n x e h f z t q =
     imp-yes (both-of _ _ (by-yes e h) (ap not (ne-eqb _ _ (λ k. z (f ∙ k)))))
     (q ∙ ap (λ (k : ℕ). all (agreesAt owners types masks slots (x / 32) (x % 32) k) n) (t ∙ ap (λ (k : ℕ). (k - 1) / 8) f))
-
--- ---- rule 5
-
-pub permits-by : (arrows types masks slots : List ℕ) (s o p a : ℕ) {w b : ℕ} {c1 c2 q1 q2 : Bool} → w ≡ a → b ≡ getD arrows w 0
-    → c1 ≡ carriesRight b → q1 ≡ joins c1 types masks slots s o p (a * 2) (a * 2 + 1)
-    → c2 ≡ carriesLeft b → q2 ≡ joins c2 types masks slots s o p (a * 2 + 1) (a * 2)
-    → q1 || q2 ≡ permitsAt arrows types masks slots s o p a
-unfolding permitsAt either
-permits-by arrows types masks slots s o p a e f c1 q1 c2 q2 =
-    let b = read arrows a e f in
-    ap₂ (λ (x y : Bool). x || y) (q1 ∙ ap (λ (c : Bool). joins c types masks slots s o p (a * 2) (a * 2 + 1)) (c1 ∙ ap carriesRight b))
-    (q2 ∙ ap (λ (c : Bool). joins c types masks slots s o p (a * 2 + 1) (a * 2)) (c2 ∙ ap carriesLeft b))

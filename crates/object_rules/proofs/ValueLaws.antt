@@ -29,7 +29,8 @@ use Rattle.memory_rules.specs.SiteIn.{keptValue, siteIn, valueKept, valuedIn}
 use Rattle.tables.specs.Tables.{AttributeSlots, Coded, Instances}
 use Rattle.tables.proofs.OwnLaws.{attribute-below, attribute-same}
 use Rattle.tables.proofs.TableLaws.{attribute-owner, attribute-type, instances-at}
-use Rattle.object_rules.specs.ValuesIn.{agreesAt, declaresAt, dueAt, dueFor, ownSlot, valueFits}
+use Rattle.declarations.specs.Declares.{agreesAt, declaresAt}
+use Rattle.object_rules.specs.ValuesIn.{dueAt, dueFor, ownSlot, valueFits}
 use Rattle.tables.proofs.BelongLaws.{belongs-known, belongs-none}
 use Rattle.tables.proofs.UnderLaws.{both-implied, both-under, imp-under}
 use Rattle.object_rules.proofs.OwnSlotLaws.{own-attribute}

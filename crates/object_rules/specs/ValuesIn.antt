@@ -5,17 +5,13 @@ use mathlib.Core.Bool.{Bool, not}
 use mathlib.Core.List.{List}
 use lib.Dec.{eqb, ltb}
 use lib.ListN.{getD}
-use Rattle.laws.specs.Bits.{bit}
 use Rattle.laws.specs.Bounded.{all, any}
 use Rattle.laws.specs.Connective.{both, imp, same}
+use Rattle.declarations.specs.Declares.{agreesAt, declaresAt}
 
 -- slot s is one of n, and its name's own
 unfoldable pub ownSlot : List ℕ → ℕ → ℕ → Bool
 ownSlot slots n s = both (ltb s n) (eqb (getD slots s 0) s)
-
--- attribute a is one of object o's type or of an ancestor, and has the name in slot s
-unfoldable pub declaresAt : List ℕ → List ℕ → List ℕ → ℕ → ℕ → ℕ → Bool
-declaresAt owners masks slots o s a = both (bit o (getD masks (getD owners a 0) 0)) (eqb (getD slots a 0) s)
 
 -- rule 3, for object o and the name of attribute a: a value is there exactly when one of n attributes declares it
 unfoldable pub dueAt : List ℕ → List ℕ → List ℕ → List ℕ → ℕ → ℕ → ℕ → Bool
@@ -24,10 +20,6 @@ dueAt values owners masks slots n o a =
 
 unfoldable pub dueFor : List ℕ → List ℕ → List ℕ → List ℕ → ℕ → ℕ → Bool
 dueFor values owners masks slots n o = all (dueAt values owners masks slots n o) n
-
--- rule 4, for a value of value type t in slot s of object o, and attribute a
-unfoldable pub agreesAt : List ℕ → List ℕ → List ℕ → List ℕ → ℕ → ℕ → ℕ → ℕ → Bool
-agreesAt owners types masks slots o s t a = imp (declaresAt owners masks slots o s a) (eqb (getD types a 0) t)
 
 -- rule 4, for the value at x, of object x / 32 in slot x % 32, and n attributes; its code is one less than what is kept
 unfoldable pub valueFits : List ℕ → List ℕ → List ℕ → List ℕ → List ℕ → ℕ → ℕ → Bool

@@ -10,7 +10,7 @@ use borrow.Rule.Slice.PartMut.{putMid}
 use Rattle.laws.specs.Lists.{over}
 use Rattle.laws.proofs.ListLaws.{from-is}
 use Rattle.laws.proofs.OverLaws.{over-nil, put-on}
-use Rattle.bench.specs.Bench as bench
+use Rattle.steps.specs.Bench as steps
 use Rattle.bench.specs.Calls.{Valid}
 use Rattle.bench.specs.View.{benchOf, freshIn}
 use Rattle.bench.specs.declared.Bench.{Bench}
@@ -32,7 +32,7 @@ pub record Going (calls out₀ out : List ℕ) (b : Bench) (rest : List ℕ) (at
   pub fits : at ≤ length out₀
   pub bytes : out ≡ over replies out₀
   pub size : length out ≡ length out₀
-  pub goes : (more : List ℕ) → Replays (benchOf b) rest (drop at out₀) more → Replays bench.fresh calls out₀ (replies ++ more)
+  pub goes : (more : List ℕ) → Replays (benchOf b) rest (drop at out₀) more → Replays steps.fresh calls out₀ (replies ++ more)
 
 pub begins : (calls out : List ℕ) (b : Bench) → b ≡ freshIn → Valid b → Going calls out out b calls 0
 begins calls out b e v = record {
@@ -42,7 +42,7 @@ begins calls out b e v = record {
   fits = omega arith;
   bytes = sym (over-nil out);
   size = refl;
-  goes = λ more r. subst (λ (x : bench.Bench). Replays x calls out more) (ap benchOf e ∙ fresh-stands) r;
+  goes = λ more r. subst (λ (x : steps.Bench). Replays x calls out more) (ap benchOf e ∙ fresh-stands) r;
 }
 
 module _ (calls out₀ out : List ℕ) (b : Bench) (rest : List ℕ) (at : ℕ) (g : Going calls out₀ out b rest at) (t : Turn) (after : List ℕ) where
@@ -69,7 +69,7 @@ module _ (calls out₀ out : List ℕ) (b : Bench) (rest : List ℕ) (at : ℕ) 
         fits = omega (arith, small, w .count);
         bytes = put-on (g .replies) (w .reply) out₀ out after at (g .count) small (g .bytes) (w .bytes);
         size = s ∙ g .size;
-        goes = λ more r. subst (Replays bench.fresh calls out₀) (sym (append-assoc (g .replies) (w .reply) more))
+        goes = λ more r. subst (Replays steps.fresh calls out₀) (sym (append-assoc (g .replies) (w .reply) more))
             (g .goes (w .reply ++ more) (subst (λ (x : List ℕ). Replays (benchOf b) rest x (w .reply ++ more)) room-is
             (w .on more (rw (room-is, drop-drop (t .wrote) at out₀, ← e) r))));
       }

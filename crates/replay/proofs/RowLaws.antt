@@ -3,7 +3,7 @@
 use mathlib.Core.List.{List, [], _∷_, _++_}
 use mathlib.Core.Path.{_≡_, refl, ap}
 use Prim.Native.Nat.{ℕ}
-use Rattle.bench.specs.Bench.{Bench}
+use Rattle.steps.specs.Bench.{Bench}
 use Rattle.coding.specs.ReplyBytes.{outcomeBytes}
 use Rattle.replay.specs.Replays.{CodesRow, Replays, ReplaysRow, full, goes, halts, rowBytes}
 

@@ -10,10 +10,10 @@ use lib.ListN.{length, take, drop, length-append, length-drop, length-take}
 use borrow.Rule.Slice.PartMut.{putMid}
 use Rattle.laws.specs.Lists.{over}
 use Rattle.laws.proofs.OverLaws.{over-mid}
-use Rattle.bench.specs.Bench as bench
-use Rattle.bench.specs.Bench.{Call, Outcome}
+use Rattle.steps.specs.Bench as steps
+use Rattle.steps.specs.Bench.{Call, Outcome}
 use Rattle.bench.specs.Calls.{Does, DoesWith, Valid}
-use Rattle.bench.specs.Step.{Step}
+use Rattle.steps.specs.Step.{Step}
 use Rattle.bench.specs.View.{benchOf, replyOf}
 use Rattle.bench.specs.declared.Bench.{Bench}
 use Rattle.bench.specs.declared.Listed.{Listed}
@@ -71,7 +71,7 @@ module _ (b : Bench) (s room : List ℕ) (t : Turn) (after : List ℕ) (c : Call
 
 -- ---- the calls, one law each
 
-abbrev Ends : Bench → bench.Reply → ℕ → Turn → List ℕ → List ℕ → Type 0
+abbrev Ends : Bench → steps.Reply → ℕ → Turn → List ℕ → List ℕ → Type 0
 Ends e reply k t room after = (t .bench ≡ e) × ((t .used ≡ k) × Puts (replyBytes reply) room (t .wrote) after)
 
 module _ {x : Next} (b : Bench) (s room none : List ℕ) (t : Turn) (after : List ℕ) (d : Replied) (e : x ≡ nextOf s (length room)) (en : none ≡ take 0 s) where
@@ -90,42 +90,42 @@ module _ {x : Next} (b : Bench) (s room none : List ℕ) (t : Turn) (after : Lis
       turned b s room t after c _ k r (does .step) some little (subst Valid (sym (q .0)) (does .valid)) (ap benchOf (q .0)) (q .1 .0)
       (replyBytes (replyOf (d .reply) [])) coded (some-bytes (replyOf (d .reply) [])) (rw (en) at (q .1 .1))
 
-  pub turned-load : (p n : ℕ) (f g : List ℕ) → x ≡ Load p n → g ≡ drop 6 s → f ≡ take n g → Does b (bench.Load p f) d [] → Answers (6 + n) → Turned b s room t after
+  pub turned-load : (p n : ℕ) (f g : List ℕ) → x ≡ Load p n → g ≡ drop 6 s → f ≡ take n g → Does b (steps.Load p f) d [] → Answers (6 + n) → Turned b s room t after
   unfolding readAs outcomeBytes
   turned-load p n f g k eg ef does q =
-      plain (bench.Load p f) (6 + n) (rw (ef, eg) (next-is (Load p n) k)) does (omega arith) (load-whole s (length room) e p n k) refl q
+      plain (steps.Load p f) (6 + n) (rw (ef, eg) (next-is (Load p n) k)) does (omega arith) (load-whole s (length room) e p n k) refl q
 
-  pub turned-clear : (p : ℕ) → x ≡ Clear p → Does b (bench.Clear p) d [] → Answers 2 → Turned b s room t after
+  pub turned-clear : (p : ℕ) → x ≡ Clear p → Does b (steps.Clear p) d [] → Answers 2 → Turned b s room t after
   unfolding readAs outcomeBytes
-  turned-clear p k does q = plain (bench.Clear p) 2 (next-is (Clear p) k) does (omega arith) (clear-whole s (length room) e p k) refl q
+  turned-clear p k does q = plain (steps.Clear p) 2 (next-is (Clear p) k) does (omega arith) (clear-whole s (length room) e p k) refl q
 
-  pub turned-judge : (p n : ℕ) (f g : List ℕ) → x ≡ Judge p n → g ≡ drop 6 s → f ≡ take n g → Does b (bench.Judge p f) d [] → Answers (6 + n) → Turned b s room t after
+  pub turned-judge : (p n : ℕ) (f g : List ℕ) → x ≡ Judge p n → g ≡ drop 6 s → f ≡ take n g → Does b (steps.Judge p f) d [] → Answers (6 + n) → Turned b s room t after
   unfolding readAs outcomeBytes
   turned-judge p n f g k eg ef does q =
-      plain (bench.Judge p f) (6 + n) (rw (ef, eg) (next-is (Judge p n) k)) does (omega arith) (judge-whole s (length room) e p n k) refl q
+      plain (steps.Judge p f) (6 + n) (rw (ef, eg) (next-is (Judge p n) k)) does (omega arith) (judge-whole s (length room) e p n k) refl q
 
-  pub turned-evaluate : (p n : ℕ) (f g : List ℕ) → x ≡ Evaluate p n → g ≡ drop 6 s → f ≡ take n g → Does b (bench.Evaluate p f) d [] → Answers (6 + n)
+  pub turned-evaluate : (p n : ℕ) (f g : List ℕ) → x ≡ Evaluate p n → g ≡ drop 6 s → f ≡ take n g → Does b (steps.Evaluate p f) d [] → Answers (6 + n)
       → Turned b s room t after
   unfolding readAs outcomeBytes
   turned-evaluate p n f g k eg ef does q =
-      plain (bench.Evaluate p f) (6 + n) (rw (ef, eg) (next-is (Evaluate p n) k)) does (omega arith) (evaluate-whole s (length room) e p n k) refl q
+      plain (steps.Evaluate p f) (6 + n) (rw (ef, eg) (next-is (Evaluate p n) k)) does (omega arith) (evaluate-whole s (length room) e p n k) refl q
 
-  pub turned-compare : (bound : ℕ) → x ≡ Compare bound → Does b (bench.Compare bound) d [] → Answers 2 → Turned b s room t after
+  pub turned-compare : (bound : ℕ) → x ≡ Compare bound → Does b (steps.Compare bound) d [] → Answers 2 → Turned b s room t after
   unfolding readAs outcomeBytes
-  turned-compare bound k does q = plain (bench.Compare bound) 2 (next-is (Compare bound) k) does (omega arith) (compare-whole s (length room) e bound k) refl q
+  turned-compare bound k does q = plain (steps.Compare bound) 2 (next-is (Compare bound) k) does (omega arith) (compare-whole s (length room) e bound k) refl q
 
 -- compile: its list stands beside its reply
 pub turned-compile : {x : Next} (b : Bench) (s room : List ℕ) (t : Turn) (after : List ℕ) (d : Listed) (p : ℕ) → x ≡ nextOf s (length room) → x ≡ Compile p
-    → DoesWith b (bench.Compile p) d → Ends (d .bench) (replyOf (d .reply) (d .list)) 2 t room after → Turned b s room t after
+    → DoesWith b (steps.Compile p) d → Ends (d .bench) (replyOf (d .reply) (d .list)) 2 t room after → Turned b s room t after
 unfolding readCall readAs outcomeBytes
 turned-compile b s room t after d p e k does q =
-    turned b s room t after (bench.Compile p) _ 2 (ap (readAs s room) (sym e ∙ k)) (does .step) (omega arith) (compile-whole s (length room) e p k)
+    turned b s room t after (steps.Compile p) _ 2 (ap (readAs s room) (sym e ∙ k)) (does .step) (omega arith) (compile-whole s (length room) e p k)
     (subst Valid (sym (q .0)) (does .valid)) (ap benchOf (q .0)) (q .1 .0) (replyBytes (replyOf (d .reply) (d .list))) refl
     (some-bytes (replyOf (d .reply) (d .list))) (q .1 .1)
 
 -- hand out: the buffer that it was lent lies behind its own first five bytes
 pub turned-hand-out : {x : Next} (b : Bench) (s room after es mid : List ℕ) (n k m : ℕ) (d : Replied) → x ≡ nextOf s (length room) → x ≡ HandOut n
-    → k ≡ n → length (putMid 5 k room es) ≡ length room → Does b (bench.HandOut (take k (drop 5 room))) d es → mid ≡ putMid 5 k room es
+    → k ≡ n → length (putMid 5 k room es) ≡ length room → Does b (steps.HandOut (take k (drop 5 room))) d es → mid ≡ putMid 5 k room es
     → Puts (headBytes (replyOf (d .reply) [])) mid m after → Turned b s room (record { bench = d .bench; used = 5; wrote = 5 + n }) after
 unfolding readCall readAs outcomeBytes
 turned-hand-out b s room after es mid n k m d e h kn len does em p =
@@ -147,6 +147,6 @@ turned-hand-out b s room after es mid n k m d e h kn len does em p =
     let total : length mid ≡ length room = ap length em ∙ len in
     let bytes : after ≡ over (hs ++ es) room =
     p .fits (omega (arith, five, total, w .1)) .1 ∙ ap (over hs) (em ∙ ap (λ (j : ℕ). putMid 5 j room es) kn) ∙ over-mid hs es room 5 n five size (w .1) in
-    turned-fits b s room (record { bench = d .bench; used = 5; wrote = 5 + n }) after (bench.HandOut (take k (drop 5 room))) _ 5
-    (ap (readAs s room) (sym e ∙ h) ∙ ap (λ (j : ℕ). call (bench.HandOut (take j (drop 5 room))) (drop 5 s)) (sym kn)) (does .step) (omega arith) (w .0)
+    turned-fits b s room (record { bench = d .bench; used = 5; wrote = 5 + n }) after (steps.HandOut (take k (drop 5 room))) _ 5
+    (ap (readAs s room) (sym e ∙ h) ∙ ap (λ (j : ℕ). call (steps.HandOut (take j (drop 5 room))) (drop 5 s)) (sym kn)) (does .step) (omega arith) (w .0)
     (does .valid) refl refl (hs ++ es) refl (omega (arith, whole)) (omega (arith, whole, w .1)) (sym whole) bytes

@@ -7,9 +7,9 @@ use mathlib.Core.List.{List, [], _∷_, _++_}
 use mathlib.Core.Path.{_≡_}
 use lib.ListN.{drop, length}
 use Rattle.laws.specs.Lists.{over}
-use Rattle.bench.specs.Bench.{Bench, Call, Outcome, fresh}
-use Rattle.bench.specs.Row.{Event, Row}
-use Rattle.bench.specs.Step.{Step}
+use Rattle.steps.specs.Bench.{Bench, Call, Outcome, fresh}
+use Rattle.steps.specs.Row.{Event, Row}
+use Rattle.steps.specs.Step.{Step}
 use Rattle.coding.specs.CallBytes.{call, halt, readCall}
 use Rattle.coding.specs.ReplyBytes.{outcomeBytes}
 

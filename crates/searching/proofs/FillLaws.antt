@@ -22,7 +22,7 @@ use Rattle.searching.specs.declared.Found.{Found}
 use Rattle.type_tables.proofs.SpotLaws.{fits-agree, spot-fits}
 use Rattle.fillings.proofs.SpotLaws.{row-length, spot-type}
 use Rattle.fillings.proofs.WrittenLaws.{wanted-witness}
-use Rattle.searching.proofs.PutLaws.{alike-sized, alike-sym, alike-trans, same}
+use Rattle.searching.proofs.AlikeLaws.{alike-sized, alike-sym, alike-trans, same}
 use Rattle.searching.proofs.RowLaws.{into, leaf}
 
 -- no completion whose value at the spot is below v is wanted

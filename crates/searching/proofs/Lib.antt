@@ -1,7 +1,5 @@
-pub mod StepLaws
-pub mod LimitLaws
 pub mod RowLaws
-pub mod PutLaws
+pub mod AlikeLaws
 pub mod SkipLaws
 pub mod FillLaws
 pub mod ReadyLaws

@@ -1,7 +1,7 @@
--- Rows of spots: a store in an appended row, an appended row taken apart, and what `Filled` says of one spot more and of none.
+-- Rows of spots: an appended row taken apart, and what `Filled` says of one spot more and of none.
 -- Assumes nothing.
 use Prim.Native.Nat.{_+_, _<_, _≤_, suc, zero, ℕ}
-use mathlib.Core.List.{List, [], _++_, _∷_}
+use mathlib.Core.List.{List, _++_}
 use mathlib.Core.Logic.{⊎-elim}
 use mathlib.Core.Path.{_∙_, _≡_, ap, refl, sym}
 use native.Mathlib.Decide.{decLt}
@@ -10,11 +10,6 @@ use lib.ListN.{drop, getD, length, length-set, replicate, set, take}
 use lib.Seq.{drop-append-seam, ext-getD, getD-set-other, getD-set-same, take-append-seam}
 use Rattle.laws.proofs.BoundedLaws.{last}
 use Rattle.fillings.specs.Spots.{Filled}
-
-pub set-right : (xs ys : List ℕ) (i j v : ℕ) → j ≡ length xs + i → set (xs ++ ys) j v ≡ xs ++ set ys i v
-set-right [] ys i j v e = let h : j ≡ i = omega arith in rw h
-set-right (x ∷ xs) ys i zero v e = absurd (omega arith)
-set-right (x ∷ xs) ys i (suc j) v e = ap (λ (l : List ℕ). x ∷ l) (set-right xs ys i j v (omega arith))
 
 pub front : (a b c d : List ℕ) → length a ≡ length c → a ++ b ≡ c ++ d → a ≡ c
 front a b c d l e = sym (take-append-seam a b) ∙ ap (λ (n : ℕ). take n (a ++ b)) l ∙ ap (λ (z : List ℕ). take (length c) z) e ∙ take-append-seam c d

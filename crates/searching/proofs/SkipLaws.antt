@@ -1,28 +1,16 @@
--- Closed spots: one more, and what is answered past them is answered before them.
+-- What is answered past closed spots is answered before them.
 -- Assumes nothing.
-use Prim.Native.Nat.{_+_, _<_, _≤_, ℕ}
+use Prim.Native.Nat.{ℕ}
 use mathlib.Core.List.{List}
-use mathlib.Core.Logic.{⊎-elim}
 use mathlib.Core.Path.{_∙_, _≡_, sym}
 use native.Mathlib.Omega.{arith}
 use lib.ListN.{getD}
-use Rattle.laws.proofs.BoundedLaws.{last}
 use Rattle.files.specs.Diagram.{Diagram}
 use Rattle.records.specs.declared.MemoryRecord.{MemoryRecord}
 use Rattle.fillings.specs.Spots.{Blank, Closed, Completes, spots}
 use Rattle.searching.specs.Answer.{Answer}
 use Rattle.searching.specs.declared.Found.{Found}
 use Rattle.searching.proofs.RowLaws.{by-size}
-
-pub closed-none : (limits : List ℕ) (at : ℕ) → at ≤ 520 → Closed limits at at
-closed-none limits at h = record { low = omega arith; high = h; shut = λ i l k. absurd (omega arith) }
-
-pub closed-more : (limits : List ℕ) (at j : ℕ) → j < 520 → getD limits j 0 ≡ 1 → Closed limits at j → Closed limits at (j + 1)
-closed-more limits at j h e z = record {
-  low = omega (arith, z .low);
-  high = omega arith;
-  shut = λ i l k. ⊎-elim (λ q. rw q e) (z .shut i l) (last {k = i} {n = j} (omega arith));
-}
 
 module _ {limits : List ℕ} {m : MemoryRecord} {at j : ℕ} (z : Closed limits at j) (b : Blank m at) where
   past : (y : MemoryRecord) → Completes limits m at y → Completes limits m j y

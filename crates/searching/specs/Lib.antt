@@ -1,4 +1,3 @@
 pub mod Answer
-pub mod Choice
 pub mod Handed
 pub mod Ready

@@ -6,11 +6,9 @@ use Rattle.bench.proofs.empty_place.Reads as reads
 use Rattle.bench.proofs.empty_place.Lts as lts
 use Rattle.diagrams.proofs.empty_diagram.Reads as empty-diagram-reads
 
--- src/lib.rt:59:18
 empty-diagram-requires : tie.Need-empty-diagram-requires
 empty-diagram-requires c κs = search needs
 
--- src/lib.rt:54:1
 returns : tie.Need-returns
 unfolding noPlace
 returns c = rw (c .empty-diagram .ensures)

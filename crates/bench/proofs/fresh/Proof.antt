@@ -11,19 +11,15 @@ use Rattle.bench.proofs.fresh.Lts as lts
 use Rattle.bench.proofs.empty_place.Reads as empty-place-reads
 use Rattle.bench.proofs.no_witness.Reads as no-witness-reads
 
--- src/lib.rt:86:14
 empty-place-requires : tie.Need-empty-place-requires
 empty-place-requires c κs = search needs
 
--- src/lib.rt:87:14
 empty-place-requires-2 : tie.Need-empty-place-requires-2
 empty-place-requires-2 c κs = search needs
 
--- src/lib.rt:88:18
 no-witness-requires : tie.Need-no-witness-requires
 no-witness-requires c κs = search needs
 
--- src/lib.rt:82:1
 returns : tie.Need-returns
 returns c =
     let e : _≡_ {A = Bench} (record { old = c .before .before .empty-place .result; new = c .before .empty-place2 .result; witness = c .no-witness .result }) freshIn = cc in

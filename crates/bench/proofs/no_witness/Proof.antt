@@ -6,7 +6,6 @@ use Rattle.bench.proofs.no_witness.Tie as tie
 use Rattle.bench.proofs.no_witness.Reads as reads
 use Rattle.bench.proofs.no_witness.Lts as lts
 
--- src/lib.rt:63:1
 returns : tie.Need-returns
 unfolding noWitness
 returns c = refl

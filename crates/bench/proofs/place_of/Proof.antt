@@ -6,12 +6,10 @@ use Rattle.bench.proofs.place_of.Tie as tie
 use Rattle.bench.proofs.place_of.Reads as reads
 use Rattle.bench.proofs.place_of.Lts as lts
 
--- src/lib.rt:112:1
 returns : tie.Need-returns
 unfolding placeIn
 returns c = rw (eq-eqb _ 0 (c .before .if1 .taken))
 
--- src/lib.rt:112:1
 returns-2 : tie.Need-returns-2
 unfolding placeIn
 returns-2 c = rw (ne-eqb _ 0 (c .before .if1 .left))

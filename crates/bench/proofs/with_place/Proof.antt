@@ -6,12 +6,10 @@ use Rattle.bench.proofs.with_place.Tie as tie
 use Rattle.bench.proofs.with_place.Reads as reads
 use Rattle.bench.proofs.with_place.Lts as lts
 
--- src/lib.rt:92:1
 returns : tie.Need-returns
 unfolding withPlaceIn
 returns c = rw (eq-eqb _ 0 (c .if1 .taken))
 
--- src/lib.rt:92:1
 returns-2 : tie.Need-returns-2
 unfolding withPlaceIn
 returns-2 c = rw (ne-eqb _ 0 (c .if1 .left))

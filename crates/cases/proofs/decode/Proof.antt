@@ -18,51 +18,39 @@ Inv-loop s out₀ n t₀ i₀ out t i = (i ≤ n) × ((n ≤ length out) × (len
 abbrev μ-loop : tie.MeasureT-loop
 μ-loop s out₀ n t₀ i₀ out t i = n - i
 
--- src/main.rt:67:9
 pairs-requires : tie.Need-pairs-requires Inv-loop μ-loop
 pairs-requires c κs = search needs
 
--- src/main.rt:70:5
 loop-holds : tie.Need-loop-holds Inv-loop μ-loop
 loop-holds c = search needs
 
--- src/main.rt:71:23
 byte-requires : tie.Need-byte-requires Inv-loop μ-loop
 byte-requires c κs = search needs
 
--- src/main.rt:71:41
 byte-requires-2 : tie.Need-byte-requires-2 Inv-loop μ-loop
 byte-requires-2 c κs = search needs
 
--- src/main.rt:71:18
 pair-requires : tie.Need-pair-requires Inv-loop μ-loop
 pair-requires c κs = search needs
 
--- src/main.rt:71:9
 slice-write-out : tie.Need-slice-write-out Inv-loop μ-loop
 slice-write-out c = search needs
 
--- src/main.rt:72:13
 past-requires : tie.Need-past-requires Inv-loop μ-loop
 past-requires c κs = search needs
 
--- src/main.rt:74:9
 add-i : tie.Need-add-i Inv-loop μ-loop
 add-i c = search needs
 
--- src/main.rt:70:5
 loop-less : tie.Need-loop-less Inv-loop μ-loop
 loop-less c = search needs
 
--- src/main.rt:70:5
 loop-again : tie.Need-loop-again Inv-loop μ-loop
 loop-again c = simp length-set (search needs)
 
--- src/main.rt:64:1
 same-length : tie.Need-same-length Inv-loop μ-loop
 same-length c = c .before .loop .inv .1 .1
 
--- src/main.rt:64:1
 returns : tie.Need-returns Inv-loop μ-loop
 returns c = search needs
 

@@ -13,51 +13,39 @@ Inv-loop k list j₀ t5 j = j ≤ 5
 abbrev μ-loop : tie.MeasureT-loop
 μ-loop k list j₀ t5 j = 5 - j
 
--- src/main.rt:140:5
 loop-holds : tie.Need-loop-holds Inv-loop μ-loop
 loop-holds c = search needs
 
--- src/main.rt:141:38
 slice-aggregate-write-all : tie.Need-slice-aggregate-write-all Inv-loop μ-loop
 slice-aggregate-write-all c = search needs
 
--- src/main.rt:141:9
 write-all-requires : tie.Need-write-all-requires Inv-loop μ-loop
 write-all-requires c κs = search needs
 
--- src/main.rt:142:47
 mul-print-decimal : tie.Need-mul-print-decimal Inv-loop μ-loop
 mul-print-decimal c = search needs
 
--- src/main.rt:142:47
 add-print-decimal : tie.Need-add-print-decimal Inv-loop μ-loop
 add-print-decimal c = search needs
 
--- src/main.rt:142:42
 array-read-print-decimal : tie.Need-array-read-print-decimal Inv-loop μ-loop
 array-read-print-decimal c = search needs
 
--- src/main.rt:142:42
 cast-print-decimal : tie.Need-cast-print-decimal Inv-loop μ-loop
 cast-print-decimal c = search needs
 
--- src/main.rt:142:9
 print-decimal-requires : tie.Need-print-decimal-requires Inv-loop μ-loop
 print-decimal-requires c κs = search needs
 
--- src/main.rt:143:9
 add-j : tie.Need-add-j Inv-loop μ-loop
 add-j c = search needs
 
--- src/main.rt:140:5
 loop-less : tie.Need-loop-less Inv-loop μ-loop
 loop-less c = search needs
 
--- src/main.rt:140:5
 loop-again : tie.Need-loop-again Inv-loop μ-loop
 loop-again c = search needs
 
--- src/main.rt:136:1
 returns : tie.Need-returns Inv-loop μ-loop
 returns c = search needs
 

@@ -14,58 +14,51 @@ use Rattle.laws.proofs.front.Reads as front-reads
 use Rattle.laws.proofs.past.Reads as past-reads
 
 abbrev Inv-loop : tie.InvT-loop
-Inv-loop text space₀ other₀ rest₀ space other rest = (length space ≡ length space₀) × (length other ≡ length other₀)
+Inv-loop text space₀ other₀ replies₀ rest₀ space other replies rest =
+    (length space ≡ length space₀) × ((length other ≡ length other₀) × (length replies ≡ length replies₀))
 
 abbrev μ-loop : tie.MeasureT-loop
-μ-loop text space₀ other₀ rest₀ space other rest = length rest
+μ-loop text space₀ other₀ replies₀ rest₀ space other replies rest = length rest
 
--- src/main.rt:145:5
 loop-holds : tie.Need-loop-holds Inv-loop μ-loop
 loop-holds c = search needs
 
--- src/main.rt:146:13
 before-requires : tie.Need-before-requires Inv-loop μ-loop
 before-requires c κs = search needs
 
--- src/main.rt:147:13
 front-requires : tie.Need-front-requires Inv-loop μ-loop
 front-requires c κs = search needs
 
--- src/main.rt:147:9
 run-requires : tie.Need-run-requires Inv-loop μ-loop
 run-requires c κs = search needs
 
--- src/main.rt:148:31
 past-requires : tie.Need-past-requires Inv-loop μ-loop
 past-requires c κs = search needs
 
--- src/main.rt:148:13
 past-requires-2 : tie.Need-past-requires-2 Inv-loop μ-loop
 past-requires-2 c κs = search needs
 
--- src/main.rt:145:5
 loop-less : tie.Need-loop-less Inv-loop μ-loop
 loop-less c =
-    let t : List ℕ = c .before .before .before .before .before .before .before .before .before .before .before .before .loop .rest .now in
+    let t : List ℕ = c .before .before .before .before .before .before .before .before .before .before .before .before .before .before .before .loop .rest .now in
     let u : List ℕ = c .before .past .result .now in
-    let k : ℕ = c .before .before .before .before .before .before .before .before .before .before .before2 .result in
+    let k : ℕ = c .before .before .before .before .before .before .before .before .before .before .before .before .before .before2 .result in
     let e : length (c .past2 .result .now) ≡ length u - 1 = ap length (c .past2 .ensures) ∙ length-drop 1 u in
     let f : length u ≡ length t - k = ap length (c .before .past .ensures) ∙ length-drop k t in
     omega (arith, e, f)
 
--- src/main.rt:145:5
 loop-again : tie.Need-loop-again Inv-loop μ-loop
 loop-again c = search needs
 
--- src/main.rt:143:1
 same-length : tie.Need-same-length Inv-loop μ-loop
 same-length c = search needs
 
--- src/main.rt:143:1
 same-length-2 : tie.Need-same-length-2 Inv-loop μ-loop
 same-length-2 c = search needs
 
--- src/main.rt:143:1
+same-length-3 : tie.Need-same-length-3 Inv-loop μ-loop
+same-length-3 c = search needs
+
 returns : tie.Need-returns Inv-loop μ-loop
 returns c = search needs
 
@@ -85,4 +78,5 @@ run-all-spec =
     loop-again
     same-length
     same-length-2
+    same-length-3
     returns)

@@ -14,91 +14,69 @@ use Rattle.laws.proofs.front.Reads as front-reads
 use Rattle.laws.proofs.past.Reads as past-reads
 use Rattle.loading.proofs.read_diagram.Reads as read-diagram-reads
 
--- src/main.rt:161:31
 past-requires : tie.Need-past-requires
 past-requires c κs = search needs
 
--- src/main.rt:161:20
 past-requires-2 : tie.Need-past-requires-2
 past-requires-2 c κs = search needs
 
--- src/main.rt:161:9
 decode-requires : tie.Need-decode-requires
 decode-requires c κs = search needs
 
--- src/main.rt:162:35
 slice-reshare-prefix-read-diagram : tie.Need-slice-reshare-prefix-read-diagram
 slice-reshare-prefix-read-diagram c = search needs
 
--- src/main.rt:162:35
 slice-aggregate-read-diagram : tie.Need-slice-aggregate-read-diagram
 slice-aggregate-read-diagram c = sym (length-take-le _ _ (c .before .before .before .decode .ensures))
 
--- src/main.rt:162:9
 read-diagram-requires : tie.Need-read-diagram-requires
 read-diagram-requires c κs = search needs
 
--- src/main.rt:165:13
 compile-requires : tie.Need-compile-requires
 compile-requires c κs = c .before .before .before .read-diagram .ensures .held (c .before .if1 .taken)
 
--- src/main.rt:166:38
 slice-aggregate-write-all : tie.Need-slice-aggregate-write-all
 slice-aggregate-write-all c = search needs
 
--- src/main.rt:166:9
 write-all-requires : tie.Need-write-all-requires
 write-all-requires c κs = search needs
 
--- src/main.rt:167:49
 front-requires : tie.Need-front-requires
 front-requires c κs = search needs
 
--- src/main.rt:167:38
 past-requires-3 : tie.Need-past-requires-3
 past-requires-3 c κs = search needs
 
--- src/main.rt:167:9
 write-all-requires-2 : tie.Need-write-all-requires-2
 write-all-requires-2 c κs = search needs
 
--- src/main.rt:168:38
 slice-aggregate-write-all-2 : tie.Need-slice-aggregate-write-all-2
 slice-aggregate-write-all-2 c = search needs
 
--- src/main.rt:168:9
 write-all-requires-3 : tie.Need-write-all-requires-3
 write-all-requires-3 c κs = search needs
 
--- src/main.rt:169:9
 print-decimal-requires : tie.Need-print-decimal-requires
 print-decimal-requires c κs = search needs
 
--- src/main.rt:171:9
 print-entries-requires : tie.Need-print-entries-requires
 print-entries-requires c κs = search needs
 
--- src/main.rt:172:38
 slice-aggregate-write-all-3 : tie.Need-slice-aggregate-write-all-3
 slice-aggregate-write-all-3 c = search needs
 
--- src/main.rt:172:9
 write-all-requires-4 : tie.Need-write-all-requires-4
 write-all-requires-4 c κs = search needs
 
--- src/main.rt:160:1
 same-length : tie.Need-same-length
 same-length c = search needs
 
--- src/main.rt:160:1
 returns : tie.Need-returns
 returns c = search needs
 
--- src/main.rt:160:1
 same-length-2 : tie.Need-same-length-2
 same-length-2 c = search needs
 
--- src/main.rt:160:1
 returns-2 : tie.Need-returns-2
 returns-2 c = search needs
 

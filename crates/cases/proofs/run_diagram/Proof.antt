@@ -10,43 +10,33 @@ use Rattle.cases.proofs.say.Reads as say-reads
 use Rattle.laws.proofs.past.Reads as past-reads
 use Rattle.loading.proofs.read_diagram.Reads as read-diagram-reads
 
--- src/main.rt:91:31
 past-requires : tie.Need-past-requires
 past-requires c κs = search needs
 
--- src/main.rt:91:20
 past-requires-2 : tie.Need-past-requires-2
 past-requires-2 c κs = search needs
 
--- src/main.rt:91:9
 decode-requires : tie.Need-decode-requires
 decode-requires c κs = search needs
 
--- src/main.rt:92:9
 slice-aggregate-say : tie.Need-slice-aggregate-say
 slice-aggregate-say c = search needs
 
--- src/main.rt:92:55
 slice-reshare-prefix-read-diagram : tie.Need-slice-reshare-prefix-read-diagram
 slice-reshare-prefix-read-diagram c = search needs
 
--- src/main.rt:92:55
 slice-aggregate-read-diagram : tie.Need-slice-aggregate-read-diagram
 slice-aggregate-read-diagram c = sym (length-take-le _ _ (c .before .before .before .before .decode .ensures))
 
--- src/main.rt:92:33
 read-diagram-requires : tie.Need-read-diagram-requires
 read-diagram-requires c κs = search needs
 
--- src/main.rt:92:5
 say-requires : tie.Need-say-requires
 say-requires c κs = search needs
 
--- src/main.rt:90:1
 same-length : tie.Need-same-length
 same-length c = search needs
 
--- src/main.rt:90:1
 returns : tie.Need-returns
 returns c = search needs
 

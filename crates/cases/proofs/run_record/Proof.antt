@@ -10,43 +10,33 @@ use Rattle.cases.proofs.say.Reads as say-reads
 use Rattle.checking.proofs.check_record.Reads as check-record-reads
 use Rattle.laws.proofs.past.Reads as past-reads
 
--- src/main.rt:97:31
 past-requires : tie.Need-past-requires
 past-requires c κs = search needs
 
--- src/main.rt:97:20
 past-requires-2 : tie.Need-past-requires-2
 past-requires-2 c κs = search needs
 
--- src/main.rt:97:9
 decode-requires : tie.Need-decode-requires
 decode-requires c κs = search needs
 
--- src/main.rt:98:9
 slice-aggregate-say : tie.Need-slice-aggregate-say
 slice-aggregate-say c = search needs
 
--- src/main.rt:98:55
 slice-reshare-prefix-check-record : tie.Need-slice-reshare-prefix-check-record
 slice-reshare-prefix-check-record c = search needs
 
--- src/main.rt:98:55
 slice-aggregate-check-record : tie.Need-slice-aggregate-check-record
 slice-aggregate-check-record c = sym (length-take-le _ _ (c .before .before .before .before .decode .ensures))
 
--- src/main.rt:98:32
 check-record-requires : tie.Need-check-record-requires
 check-record-requires c κs = search needs
 
--- src/main.rt:98:5
 say-requires : tie.Need-say-requires
 say-requires c κs = search needs
 
--- src/main.rt:96:1
 same-length : tie.Need-same-length
 same-length c = search needs
 
--- src/main.rt:96:1
 returns : tie.Need-returns
 returns c = search needs
 

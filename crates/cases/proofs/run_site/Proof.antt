@@ -12,83 +12,63 @@ use Rattle.laws.proofs.front.Reads as front-reads
 use Rattle.laws.proofs.past.Reads as past-reads
 use Rattle.loading.proofs.read_diagram.Reads as read-diagram-reads
 
--- src/main.rt:117:9
 before-requires : tie.Need-before-requires
 before-requires c κs = search needs
 
--- src/main.rt:118:42
 front-requires : tie.Need-front-requires
 front-requires c κs = search needs
 
--- src/main.rt:118:31
 past-requires : tie.Need-past-requires
 past-requires c κs = search needs
 
--- src/main.rt:118:20
 past-requires-2 : tie.Need-past-requires-2
 past-requires-2 c κs = search needs
 
--- src/main.rt:118:9
 decode-requires : tie.Need-decode-requires
 decode-requires c κs = search needs
 
--- src/main.rt:119:31
 past-requires-3 : tie.Need-past-requires-3
 past-requires-3 c κs = search needs
 
--- src/main.rt:119:20
 past-requires-4 : tie.Need-past-requires-4
 past-requires-4 c κs = search needs
 
--- src/main.rt:119:9
 decode-requires-2 : tie.Need-decode-requires-2
 decode-requires-2 c κs = search needs
 
--- src/main.rt:120:35
 slice-reshare-prefix-read-diagram : tie.Need-slice-reshare-prefix-read-diagram
 slice-reshare-prefix-read-diagram c = search needs
 
--- src/main.rt:120:35
 slice-aggregate-read-diagram : tie.Need-slice-aggregate-read-diagram
 slice-aggregate-read-diagram c = sym (length-take-le _ _ (c .before .before .before .before .before .before .before .before .before .decode .ensures))
 
--- src/main.rt:120:9
 read-diagram-requires : tie.Need-read-diagram-requires
 read-diagram-requires c κs = search needs
 
--- src/main.rt:123:28
 slice-reshare-prefix-reply : tie.Need-slice-reshare-prefix-reply
 slice-reshare-prefix-reply c = search needs
 
--- src/main.rt:123:28
 slice-aggregate-reply : tie.Need-slice-aggregate-reply
 slice-aggregate-reply c = sym (length-take-le _ _ (c .before .before .before .before .before .before .before .before .decode2 .ensures))
 
--- src/main.rt:123:9
 reply-requires : tie.Need-reply-requires
 reply-requires c κs = c .before .before .before .before .read-diagram .ensures .held (c .before .before .if1 .taken)
 
--- src/main.rt:116:1
 same-length : tie.Need-same-length
 same-length c = search needs
 
--- src/main.rt:116:1
 same-length-2 : tie.Need-same-length-2
 same-length-2 c = search needs
 
--- src/main.rt:116:1
 returns : tie.Need-returns
 returns c = search needs
 
--- src/main.rt:116:1
 same-length-3 : tie.Need-same-length-3
 same-length-3 c = search needs
 
--- src/main.rt:116:1
 same-length-4 : tie.Need-same-length-4
 same-length-4 c = search needs
 
--- src/main.rt:116:1
 returns-2 : tie.Need-returns-2
 returns-2 c = search needs
 

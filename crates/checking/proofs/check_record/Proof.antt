@@ -20,75 +20,57 @@ Inv-loop file s₀ value₀ link₀ rest₀ s value link rest = Reading file s v
 abbrev μ-loop : tie.MeasureT-loop
 μ-loop file s₀ value₀ link₀ rest₀ s value link rest = length rest
 
--- src/lib.rt:192:9
 front-requires : tie.Need-front-requires Inv-loop μ-loop
 front-requires c κs = search needs
 
--- src/lib.rt:193:9
 front-requires-2 : tie.Need-front-requires-2 Inv-loop μ-loop
 front-requires-2 c κs = search needs
 
--- src/lib.rt:195:5
 loop-holds : tie.Need-loop-holds Inv-loop μ-loop
 loop-holds c = search reading
 
--- src/lib.rt:196:15
 read-head-requires : tie.Need-read-head-requires Inv-loop μ-loop
 read-head-requires c κs = search needs
 
--- src/lib.rt:198:17
 enum-told : tie.Need-enum-told Inv-loop μ-loop
 enum-told c = search needs
 
--- src/lib.rt:198:17
 returns : tie.Need-returns Inv-loop μ-loop
 returns c = search reading depth 8 fits 20000
 
--- src/lib.rt:200:35
 enum-known-tag : tie.Need-enum-known-tag Inv-loop μ-loop
 enum-known-tag c = search needs
 
--- src/lib.rt:201:21
 content-requires : tie.Need-content-requires Inv-loop μ-loop
 content-requires c κs = search needs
 
--- src/lib.rt:202:21
 field-no-requires : tie.Need-field-no-requires Inv-loop μ-loop
 field-no-requires c κs = search needs
 
--- src/lib.rt:204:21
 returns-2 : tie.Need-returns-2 Inv-loop μ-loop
 returns-2 c = search reading depth 8 fits 20000
 
--- src/lib.rt:206:21
 count-field-requires : tie.Need-count-field-requires Inv-loop μ-loop
 count-field-requires c κs = search needs
 
--- src/lib.rt:207:21
 choose-requires : tie.Need-choose-requires Inv-loop μ-loop
 choose-requires c κs = search needs
 
--- src/lib.rt:208:21
 choose-requires-2 : tie.Need-choose-requires-2 Inv-loop μ-loop
 choose-requires-2 c κs = search needs
 
--- src/lib.rt:209:21
 after-requires : tie.Need-after-requires Inv-loop μ-loop
 after-requires c κs = search needs
 
--- src/lib.rt:195:5
 loop-less : tie.Need-loop-less Inv-loop μ-loop
 loop-less c = search reading
 
--- src/lib.rt:195:5
 loop-again : tie.Need-loop-again Inv-loop μ-loop
 loop-again c = search reading depth 8 fits 20000
 
--- src/lib.rt:217:5
 end-no-requires : tie.Need-end-no-requires Inv-loop μ-loop
 end-no-requires c κs = search needs
 
--- src/lib.rt:188:1
 returns-3 : tie.Need-returns-3 Inv-loop μ-loop
 returns-3 c = search reading depth 8 fits 20000
 

@@ -6,15 +6,12 @@ use Rattle.checking.proofs.count_after.Reads as reads
 use Rattle.checking.proofs.count_after.Lts as lts
 use Rattle.laws.proofs.byte.Reads as byte-reads
 
--- src/lib.rt:163:22
 byte-requires : tie.Need-byte-requires
 byte-requires c κs = search needs
 
--- src/lib.rt:160:1
 returns : tie.Need-returns
 returns c = search choice depth 8 fits 20000
 
--- src/lib.rt:160:1
 returns-2 : tie.Need-returns-2
 returns-2 c = search choice depth 8 fits 20000
 

@@ -8,43 +8,33 @@ use Rattle.checking.proofs.count_after.Reads as count-after-reads
 use Rattle.checking.proofs.one.Reads as one-reads
 use Rattle.laws.proofs.wide.Reads as wide-reads
 
--- src/lib.rt:173:16
 count-after-requires : tie.Need-count-after-requires
 count-after-requires c κs = search needs
 
--- src/lib.rt:174:30
 one-requires : tie.Need-one-requires
 one-requires c κs = search needs
 
--- src/lib.rt:174:18
 add-t7 : tie.Need-add-t7
 add-t7 c = search needs
 
--- src/lib.rt:175:39
 one-requires-2 : tie.Need-one-requires-2
 one-requires-2 c κs = search needs
 
--- src/lib.rt:175:28
 wide-requires : tie.Need-wide-requires
 wide-requires c κs = search needs
 
--- src/lib.rt:175:17
 add-t11 : tie.Need-add-t11
 add-t11 c = search needs
 
--- src/lib.rt:176:37
 one-requires-3 : tie.Need-one-requires-3
 one-requires-3 c κs = search needs
 
--- src/lib.rt:176:26
 wide-requires-2 : tie.Need-wide-requires-2
 wide-requires-2 c κs = search needs
 
--- src/lib.rt:176:16
 add-t15 : tie.Need-add-t15
 add-t15 c = search needs
 
--- src/lib.rt:167:1
 returns : tie.Need-returns
 unfolding counted
 returns c = cc

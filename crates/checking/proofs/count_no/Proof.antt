@@ -7,15 +7,12 @@ use Rattle.checking.proofs.count_no.Lts as lts
 use Rattle.checking.proofs.refuse_if.Reads as refuse-if-reads
 use Rattle.layouts.proofs.count_laid.Reads as count-laid-reads
 
--- src/lib.rt:96:16
 count-laid-requires : tie.Need-count-laid-requires
 count-laid-requires c κs = search needs
 
--- src/lib.rt:96:5
 refuse-if-requires : tie.Need-refuse-if-requires
 refuse-if-requires c κs = search needs
 
--- src/lib.rt:93:1
 returns : tie.Need-returns
 unfolding countRefusal
 returns c = cc

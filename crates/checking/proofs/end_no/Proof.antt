@@ -6,15 +6,12 @@ use Rattle.checking.proofs.end_no.Reads as reads
 use Rattle.checking.proofs.end_no.Lts as lts
 use Rattle.checking.proofs.refuse_if.Reads as refuse-if-reads
 
--- src/lib.rt:177:31
 refuse-if-requires : tie.Need-refuse-if-requires
 refuse-if-requires c κs = search needs
 
--- src/lib.rt:177:5
 refuse-if-requires-2 : tie.Need-refuse-if-requires-2
 refuse-if-requires-2 c κs = search needs
 
--- src/lib.rt:173:1
 returns : tie.Need-returns
 unfolding endNo
 returns c = cc

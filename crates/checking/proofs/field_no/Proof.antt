@@ -11,47 +11,37 @@ use Rattle.checking.proofs.misplaced.Reads as misplaced-reads
 use Rattle.checking.proofs.object_no.Reads as object-no-reads
 use Rattle.checking.proofs.value_no.Reads as value-no-reads
 
--- src/lib.rt:142:8
 misplaced-requires : tie.Need-misplaced-requires
 misplaced-requires c κs = search needs
 
--- src/lib.rt:143:9
 returns : tie.Need-returns
 unfolding fieldNo
 returns c = search choice depth 8 fits 20000
 
--- src/lib.rt:146:9
 count-no-requires : tie.Need-count-no-requires
 count-no-requires c κs = search needs
 
--- src/lib.rt:146:9
 returns-2 : tie.Need-returns-2
 unfolding fieldNo
 returns-2 c = search choice depth 8 fits 20000
 
--- src/lib.rt:149:9
 object-no-requires : tie.Need-object-no-requires
 object-no-requires c κs = search needs
 
--- src/lib.rt:149:9
 returns-3 : tie.Need-returns-3
 unfolding fieldNo
 returns-3 c = search choice depth 8 fits 20000
 
--- src/lib.rt:152:9
 value-no-requires : tie.Need-value-no-requires
 value-no-requires c κs = search needs
 
--- src/lib.rt:152:9
 returns-4 : tie.Need-returns-4
 unfolding fieldNo
 returns-4 c = search choice depth 8 fits 20000
 
--- src/lib.rt:154:5
 link-no-requires : tie.Need-link-no-requires
 link-no-requires c κs = search needs
 
--- src/lib.rt:139:1
 returns-5 : tie.Need-returns-5
 unfolding fieldNo
 returns-5 c = search choice depth 8 fits 20000

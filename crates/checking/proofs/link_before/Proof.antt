@@ -13,55 +13,42 @@ use Rattle.fields.proofs.same_name.Reads as same-name-reads
 use Rattle.laws.proofs.byte.Reads as byte-reads
 use Rattle.laws.proofs.past.Reads as past-reads
 
--- src/lib.rt:70:9
 past-requires : tie.Need-past-requires
 past-requires c κs = search needs
 
--- src/lib.rt:71:9
 past-requires-2 : tie.Need-past-requires-2
 past-requires-2 c κs = search needs
 
--- src/lib.rt:72:9
 byte-requires : tie.Need-byte-requires
 byte-requires c κs = search needs
 
--- src/lib.rt:73:9
 byte-requires-2 : tie.Need-byte-requires-2
 byte-requires-2 c κs = search needs
 
--- src/lib.rt:74:9
 name-in-requires : tie.Need-name-in-requires
 name-in-requires c κs = search needs
 
--- src/lib.rt:75:9
 name-in-requires-2 : tie.Need-name-in-requires-2
 name-in-requires-2 c κs = search needs
 
--- src/lib.rt:76:24
 past-name-requires : tie.Need-past-name-requires
 past-name-requires c κs = search needs
 
--- src/lib.rt:76:9
 byte-requires-3 : tie.Need-byte-requires-3
 byte-requires-3 c κs = search needs
 
--- src/lib.rt:77:24
 past-name-requires-2 : tie.Need-past-name-requires-2
 past-name-requires-2 c κs = search needs
 
--- src/lib.rt:77:9
 byte-requires-4 : tie.Need-byte-requires-4
 byte-requires-4 c κs = search needs
 
--- src/lib.rt:78:28
 name-before-requires : tie.Need-name-before-requires
 name-before-requires c κs = search needs
 
--- src/lib.rt:78:57
 same-name-requires : tie.Need-same-name-requires
 same-name-requires c κs = search needs
 
--- src/lib.rt:67:1
 returns : tie.Need-returns
 unfolding linkBefore linkOf both either
 returns c = cc

@@ -14,51 +14,39 @@ use Rattle.laws.proofs.byte.Reads as byte-reads
 use Rattle.laws.proofs.past.Reads as past-reads
 use Rattle.layouts.proofs.link_laid.Reads as link-laid-reads
 
--- src/lib.rt:121:9
 byte-requires : tie.Need-byte-requires
 byte-requires c κs = search needs
 
--- src/lib.rt:122:43
 past-requires : tie.Need-past-requires
 past-requires c κs = search needs
 
--- src/lib.rt:122:25
 past-name-requires : tie.Need-past-name-requires
 past-name-requires c κs = search needs
 
--- src/lib.rt:122:9
 byte-requires-2 : tie.Need-byte-requires-2
 byte-requires-2 c κs = search needs
 
--- src/lib.rt:123:9
 link-laid-requires : tie.Need-link-laid-requires
 link-laid-requires c κs = search needs
 
--- src/lib.rt:124:36
 link-before-requires : tie.Need-link-before-requires
 link-before-requires c κs = search needs
 
--- src/lib.rt:124:9
 implies-requires : tie.Need-implies-requires
 implies-requires c κs = search needs
 
--- src/lib.rt:126:40
 refuse-if-requires : tie.Need-refuse-if-requires
 refuse-if-requires c κs = search needs
 
--- src/lib.rt:126:9
 refuse-if-requires-2 : tie.Need-refuse-if-requires-2
 refuse-if-requires-2 c κs = search needs
 
--- src/lib.rt:127:33
 refuse-if-requires-3 : tie.Need-refuse-if-requires-3
 refuse-if-requires-3 c κs = search needs
 
--- src/lib.rt:127:5
 refuse-if-requires-4 : tie.Need-refuse-if-requires-4
 refuse-if-requires-4 c κs = search needs
 
--- src/lib.rt:118:1
 returns : tie.Need-returns
 unfolding linkNo linkOf both
 returns c = cc

@@ -7,7 +7,6 @@ use Rattle.checking.proofs.misplaced.Tie as tie
 use Rattle.checking.proofs.misplaced.Reads as reads
 use Rattle.checking.proofs.misplaced.Lts as lts
 
--- src/lib.rt:84:1
 returns : tie.Need-returns
 unfolding misplaced both either any
 returns c = cc

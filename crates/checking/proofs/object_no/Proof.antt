@@ -7,19 +7,15 @@ use Rattle.checking.proofs.object_no.Lts as lts
 use Rattle.checking.proofs.refuse_if.Reads as refuse-if-reads
 use Rattle.layouts.proofs.object_laid.Reads as object-laid-reads
 
--- src/lib.rt:102:9
 object-laid-requires : tie.Need-object-laid-requires
 object-laid-requires c κs = search needs
 
--- src/lib.rt:103:36
 refuse-if-requires : tie.Need-refuse-if-requires
 refuse-if-requires c κs = search needs
 
--- src/lib.rt:103:5
 refuse-if-requires-2 : tie.Need-refuse-if-requires-2
 refuse-if-requires-2 c κs = search needs
 
--- src/lib.rt:99:1
 returns : tie.Need-returns
 unfolding objectNo
 returns c = cc

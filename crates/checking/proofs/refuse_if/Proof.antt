@@ -5,11 +5,9 @@ use Rattle.checking.proofs.refuse_if.Tie as tie
 use Rattle.checking.proofs.refuse_if.Reads as reads
 use Rattle.checking.proofs.refuse_if.Lts as lts
 
--- src/lib.rt:26:1
 returns : tie.Need-returns
 returns c = search tests depth 8 fits 20000
 
--- src/lib.rt:26:1
 returns-2 : tie.Need-returns-2
 returns-2 c = search tests depth 8 fits 20000
 

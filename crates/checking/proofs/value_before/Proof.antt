@@ -11,35 +11,27 @@ use Rattle.fields.proofs.name_in.Reads as name-in-reads
 use Rattle.laws.proofs.byte.Reads as byte-reads
 use Rattle.laws.proofs.past.Reads as past-reads
 
--- src/lib.rt:59:9
 byte-requires : tie.Need-byte-requires
 byte-requires c κs = search needs
 
--- src/lib.rt:60:9
 byte-requires-2 : tie.Need-byte-requires-2
 byte-requires-2 c κs = search needs
 
--- src/lib.rt:61:29
 past-requires : tie.Need-past-requires
 past-requires c κs = search needs
 
--- src/lib.rt:61:9
 name-in-requires : tie.Need-name-in-requires
 name-in-requires c κs = search needs
 
--- src/lib.rt:62:29
 past-requires-2 : tie.Need-past-requires-2
 past-requires-2 c κs = search needs
 
--- src/lib.rt:62:9
 name-in-requires-2 : tie.Need-name-in-requires-2
 name-in-requires-2 c κs = search needs
 
--- src/lib.rt:63:27
 name-before-requires : tie.Need-name-before-requires
 name-before-requires c κs = search needs
 
--- src/lib.rt:56:1
 returns : tie.Need-returns
 unfolding valueBefore valueOf both either
 returns c = cc

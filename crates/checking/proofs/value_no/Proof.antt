@@ -10,39 +10,30 @@ use Rattle.checking.proofs.value_before.Reads as value-before-reads
 use Rattle.laws.proofs.byte.Reads as byte-reads
 use Rattle.layouts.proofs.value_laid.Reads as value-laid-reads
 
--- src/lib.rt:110:9
 value-laid-requires : tie.Need-value-laid-requires
 value-laid-requires c κs = search needs
 
--- src/lib.rt:111:37
 value-before-requires : tie.Need-value-before-requires
 value-before-requires c κs = search needs
 
--- src/lib.rt:111:9
 implies-requires : tie.Need-implies-requires
 implies-requires c κs = search needs
 
--- src/lib.rt:112:17
 byte-requires : tie.Need-byte-requires
 byte-requires c κs = search needs
 
--- src/lib.rt:113:40
 refuse-if-requires : tie.Need-refuse-if-requires
 refuse-if-requires c κs = search needs
 
--- src/lib.rt:113:9
 refuse-if-requires-2 : tie.Need-refuse-if-requires-2
 refuse-if-requires-2 c κs = search needs
 
--- src/lib.rt:114:33
 refuse-if-requires-3 : tie.Need-refuse-if-requires-3
 refuse-if-requires-3 c κs = search needs
 
--- src/lib.rt:114:5
 refuse-if-requires-4 : tie.Need-refuse-if-requires-4
 refuse-if-requires-4 c κs = search needs
 
--- src/lib.rt:107:1
 returns : tie.Need-returns
 unfolding valueNo
 returns c = cc

@@ -10,15 +10,12 @@ use Rattle.compiling.proofs.compile.Lts as lts
 use Rattle.compiling.proofs.compile_entries.Reads as compile-entries-reads
 use Rattle.compiling.proofs.list_bytes.Reads as list-bytes-reads
 
--- src/lib.rt:170:9
 compile-entries-requires : tie.Need-compile-entries-requires
 compile-entries-requires c κs = search needs
 
--- src/lib.rt:171:9
 list-bytes-requires : tie.Need-list-bytes-requires
 list-bytes-requires c κs = let b = c .before in compiled-small (b .args .d) (c .compile-entries .result) (b .pre) (c .compile-entries .ensures)
 
--- src/lib.rt:166:1
 returns : tie.Need-returns
 returns c = let b = c .before in
     let d = b .before .args .d in

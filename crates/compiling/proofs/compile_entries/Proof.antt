@@ -17,16 +17,13 @@ Inv-loop a count r₀ i₀ r i = (i ≤ count) × Gathered a i r
 abbrev μ-loop : tie.MeasureT-loop
 μ-loop a count r₀ i₀ r i = count - i
 
--- src/lib.rt:130:9
 no-entries-requires : tie.Need-no-entries-requires Inv-loop μ-loop
 no-entries-requires c κs = search needs
 
--- src/lib.rt:132:5
 loop-holds : tie.Need-loop-holds Inv-loop μ-loop
 loop-holds c = let a = c .before .before .args .d .associations in
     (omega arith, subst (Gathered a 0) (sym (c .no-entries .ensures)) (gathered-none a))
 
--- src/lib.rt:133:9
 push-association-requires : tie.Need-push-association-requires Inv-loop μ-loop
 push-association-requires c κs = let b = c .before .before .before .before in
     let l = c .before .loop in (
@@ -34,21 +31,17 @@ push-association-requires c κs = let b = c .before .before .before .before in
       (omega (arith, b .pre .counts .associations), arrow-known (b .args .d) (b .pre) (l .i) (omega arith)),
     )
 
--- src/lib.rt:134:9
 add-i : tie.Need-add-i Inv-loop μ-loop
 add-i c = search needs
 
--- src/lib.rt:132:5
 loop-less : tie.Need-loop-less Inv-loop μ-loop
 loop-less c = search needs
 
--- src/lib.rt:132:5
 loop-again : tie.Need-loop-again Inv-loop μ-loop
 loop-again c = let l = c .before .before in
     let a = l .before .before .before .args .d .associations in
     (omega arith, gathered-more a (l .loop .inv .1) (c .push-association .ensures .0) (c .push-association .ensures .1))
 
--- src/lib.rt:124:1
 returns : tie.Need-returns Inv-loop μ-loop
 returns c = let l = c .before .loop in
     let b = c .before .before .before .before in

@@ -16,27 +16,21 @@ Inv-loop e list₀ i₀ list i = (i ≤ 64) × (list ≡ written e i)
 abbrev μ-loop : tie.MeasureT-loop
 μ-loop e list₀ i₀ list i = 64 - i
 
--- src/lib.rt:161:5
 loop-holds : tie.Need-loop-holds Inv-loop μ-loop
 loop-holds c = (omega arith, bytes-begin (c .args .e))
 
--- src/lib.rt:162:9
 put-entry-requires : tie.Need-put-entry-requires Inv-loop μ-loop
 put-entry-requires c κs = search needs
 
--- src/lib.rt:163:9
 add-i : tie.Need-add-i Inv-loop μ-loop
 add-i c = search needs
 
--- src/lib.rt:161:5
 loop-less : tie.Need-loop-less Inv-loop μ-loop
 loop-less c = search needs
 
--- src/lib.rt:161:5
 loop-again : tie.Need-loop-again Inv-loop μ-loop
 loop-again c = (omega arith, c .put-entry .ensures)
 
--- src/lib.rt:155:1
 returns : tie.Need-returns Inv-loop μ-loop
 returns c = let l = c .before in
     let n : l .loop .i ≡ 64 = omega arith in

@@ -5,7 +5,6 @@ use Rattle.compiling.proofs.no_entries.Tie as tie
 use Rattle.compiling.proofs.no_entries.Reads as reads
 use Rattle.compiling.proofs.no_entries.Lts as lts
 
--- src/lib.rt:111:1
 returns : tie.Need-returns
 unfolding noEntries
 returns c = refl

@@ -6,39 +6,30 @@ use Rattle.compiling.proofs.push.Tie as tie
 use Rattle.compiling.proofs.push.Reads as reads
 use Rattle.compiling.proofs.push.Lts as lts
 
--- src/lib.rt:43:5
 element-write-r : tie.Need-element-write-r
 element-write-r c = search needs
 
--- src/lib.rt:44:5
 element-write-r-2 : tie.Need-element-write-r-2
 element-write-r-2 c = search needs
 
--- src/lib.rt:45:5
 element-write-r-3 : tie.Need-element-write-r-3
 element-write-r-3 c = search needs
 
--- src/lib.rt:46:5
 mul-r : tie.Need-mul-r
 mul-r c = search needs
 
--- src/lib.rt:46:5
 element-write-r-4 : tie.Need-element-write-r-4
 element-write-r-4 c = search needs
 
--- src/lib.rt:47:5
 mul-r-2 : tie.Need-mul-r-2
 mul-r-2 c = search needs
 
--- src/lib.rt:47:5
 element-write-r-5 : tie.Need-element-write-r-5
 element-write-r-5 c = search needs
 
--- src/lib.rt:48:16
 add-r : tie.Need-add-r
 add-r c = search needs
 
--- src/lib.rt:37:1
 returns : tie.Need-returns
 returns c = let a = c .args in
     (pushed (a .e) (a .kind) (a .association) (a .side) (a .low) (a .up) (search needs) (search needs) (search needs) (search needs) (search needs), refl)

@@ -10,106 +10,81 @@ use Rattle.compiling.proofs.push.Reads as push-reads
 use Rattle.compiling.proofs.push_limited.Reads as push-limited-reads
 use Rattle.laws.proofs.wide.Reads as wide-reads
 
--- src/lib.rt:68:9
 returns : tie.Need-returns
 returns c = let b = c .before in
     let a = b .args in
     (appends-as (appends-none (a .e)) (none-asked (a .t2) (a .i) (a .kind) (a .side) (c .if1 .taken)), omega arith)
 
--- src/lib.rt:71:27
 cast-push : tie.Need-cast-push
 cast-push c = search needs
 
--- src/lib.rt:71:9
 push-requires : tie.Need-push-requires
 push-requires c κs = search needs
 
--- src/lib.rt:71:9
 returns-2 : tie.Need-returns-2
 returns-2 c = let a = c .before .before .before .args in
     (appends-as (c .push .ensures .0) (five-asked (a .t2) (a .i) (a .kind) (a .side) (c .before .if2 .taken)), omega arith)
 
--- src/lib.rt:73:16
 mul-from : tie.Need-mul-from
 mul-from c = search needs
 
--- src/lib.rt:73:24
 wide-requires : tie.Need-wide-requires
 wide-requires c κs = search needs
 
--- src/lib.rt:73:16
 add-from : tie.Need-add-from
 add-from c = search needs
 
--- src/lib.rt:74:14
 mul-to : tie.Need-mul-to
 mul-to c = search needs
 
--- src/lib.rt:74:14
 add-to : tie.Need-add-to
 add-to c = search needs
 
--- src/lib.rt:74:26
 wide-requires-2 : tie.Need-wide-requires-2
 wide-requires-2 c κs = search needs
 
--- src/lib.rt:74:14
 sub-to : tie.Need-sub-to
 sub-to c = search needs
 
--- src/lib.rt:76:35
 cast-push-limited : tie.Need-cast-push-limited
 cast-push-limited c = search needs
 
--- src/lib.rt:76:50
 mul-push-limited : tie.Need-mul-push-limited
 mul-push-limited c = search needs
 
--- src/lib.rt:76:50
 element-copy-out-push-limited : tie.Need-element-copy-out-push-limited
 element-copy-out-push-limited c = search needs
 
--- src/lib.rt:76:62
 mul-push-limited-2 : tie.Need-mul-push-limited-2
 mul-push-limited-2 c = search needs
 
--- src/lib.rt:76:62
 element-copy-out-push-limited-2 : tie.Need-element-copy-out-push-limited-2
 element-copy-out-push-limited-2 c = search needs
 
--- src/lib.rt:76:9
 push-limited-requires : tie.Need-push-limited-requires
 push-limited-requires c κs = search needs
 
--- src/lib.rt:76:9
 returns-3 : tie.Need-returns-3
 returns-3 c = (search (appends-as, six-asked) depth 6 fits 20000, omega arith)
 
--- src/lib.rt:78:24
 cast-push-limited-2 : tie.Need-cast-push-limited-2
 cast-push-limited-2 c = search needs
 
--- src/lib.rt:78:39
 mul-push-limited-3 : tie.Need-mul-push-limited-3
 mul-push-limited-3 c = search needs
 
--- src/lib.rt:78:39
 element-copy-out-push-limited-3 : tie.Need-element-copy-out-push-limited-3
 element-copy-out-push-limited-3 c = search needs
 
--- src/lib.rt:78:53
 mul-push-limited-4 : tie.Need-mul-push-limited-4
 mul-push-limited-4 c = search needs
 
--- src/lib.rt:78:53
 element-copy-out-push-limited-4 : tie.Need-element-copy-out-push-limited-4
 element-copy-out-push-limited-4 c = search needs
 
--- src/lib.rt:78:5
 push-limited-requires-2 : tie.Need-push-limited-requires-2
 push-limited-requires-2 c κs = search needs
 
--- src/lib.rt:63:1
 returns-4 : tie.Need-returns-4
 returns-4 c = (search (appends-as, seven-asked) depth 6 fits 20000, omega arith)
 

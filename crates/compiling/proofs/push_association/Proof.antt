@@ -8,15 +8,12 @@ use Rattle.compiling.proofs.push_association.Lts as lts
 use Rattle.compiling.proofs.push_row.Reads as push-row-reads
 use Rattle.compiling.proofs.push_whole.Reads as push-whole-reads
 
--- src/lib.rt:112:9
 push-row-requires : tie.Need-push-row-requires
 push-row-requires c κs = search needs
 
--- src/lib.rt:113:5
 push-whole-requires : tie.Need-push-whole-requires
 push-whole-requires c κs = search needs
 
--- src/lib.rt:108:1
 returns : tie.Need-returns
 returns c = (search appends-both, omega arith)
 

@@ -7,25 +7,20 @@ use Rattle.compiling.proofs.push_limited.Reads as reads
 use Rattle.compiling.proofs.push_limited.Lts as lts
 use Rattle.compiling.proofs.push.Reads as push-reads
 
--- src/lib.rt:58:24
 add-push : tie.Need-add-push
 add-push c = search needs
 
--- src/lib.rt:58:9
 push-requires : tie.Need-push-requires
 push-requires c κs = search needs
 
--- src/lib.rt:58:9
 returns : tie.Need-returns
 returns c = let b = c .before .before in
     let a = b .args in
     (appends-as (c .push .ensures .0) (limited-none (a .kind) (a .association) (a .side) (a .low) (a .up) (b .pre .1 .1) (c .before .if1 .taken)), c .push .ensures .1)
 
--- src/lib.rt:60:5
 push-requires-2 : tie.Need-push-requires-2
 push-requires-2 c κs = search needs
 
--- src/lib.rt:53:1
 returns-2 : tie.Need-returns-2
 returns-2 c = let b = c .before .before in
     let a = b .args in

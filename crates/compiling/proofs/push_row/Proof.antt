@@ -20,60 +20,47 @@ Inv-loop i a arrow r₀ s₀ r s = (s ≤ 3) × ((r .number ≤ r₀ .number + s
 abbrev μ-loop : tie.MeasureT-loop
 μ-loop i a arrow r₀ s₀ r s = 3 - s
 
--- src/lib.rt:89:28
 element-copy-out-wide : tie.Need-element-copy-out-wide Inv-loop μ-loop
 element-copy-out-wide c = search needs
 
--- src/lib.rt:89:9
 wide-requires : tie.Need-wide-requires Inv-loop μ-loop
 wide-requires c κs = search needs
 
--- src/lib.rt:92:5
 loop-holds : tie.Need-loop-holds Inv-loop μ-loop
 loop-holds c = let b = c .before .before .args in
     (omega arith, (omega arith, appends-as (appends-none (b .e)) (sym (asked-begin (b .i) (associationIn (b .t2) (b .i)) (c .wide .result)))))
 
--- src/lib.rt:93:33
 mul-push-asked : tie.Need-mul-push-asked Inv-loop μ-loop
 mul-push-asked c = search needs
 
--- src/lib.rt:93:33
 index-1-push-asked : tie.Need-index-1-push-asked Inv-loop μ-loop
 unfolding associationIn
 index-1-push-asked c = omega arith
 
--- src/lib.rt:93:33
 index-2-push-asked : tie.Need-index-2-push-asked Inv-loop μ-loop
 index-2-push-asked c = search needs
 
--- src/lib.rt:93:50
 mul-push-asked-2 : tie.Need-mul-push-asked-2 Inv-loop μ-loop
 mul-push-asked-2 c = search needs
 
--- src/lib.rt:93:50
 index-1-push-asked-2 : tie.Need-index-1-push-asked-2 Inv-loop μ-loop
 unfolding associationIn
 index-1-push-asked-2 c = omega arith
 
--- src/lib.rt:93:50
 index-2-push-asked-2 : tie.Need-index-2-push-asked-2 Inv-loop μ-loop
 index-2-push-asked-2 c = search needs
 
--- src/lib.rt:93:9
 push-asked-requires : tie.Need-push-asked-requires Inv-loop μ-loop
 unfolding associationIn
 push-asked-requires c κs = let l = c .before .before .before in
     (omega arith, (omega arith, sides-known (l .before .wide .result) (l .loop .s) (omega arith) (omega arith)))
 
--- src/lib.rt:94:9
 add-s : tie.Need-add-s Inv-loop μ-loop
 add-s c = search needs
 
--- src/lib.rt:92:5
 loop-less : tie.Need-loop-less Inv-loop μ-loop
 loop-less c = search needs
 
--- src/lib.rt:92:5
 loop-again : tie.Need-loop-again Inv-loop μ-loop
 loop-again c = let l = c .before .before .before .before in
     let b = l .before .before .before .args in (
@@ -81,7 +68,6 @@ loop-again c = let l = c .before .before .before .before in
       (omega arith, appends-as (appends-then (l .loop .inv .1 .1) (c .push-asked .ensures .0)) (sym (asked-more (b .i) (associationIn (b .t2) (b .i)) (l .before .wide .result) (l .loop .s)))),
     )
 
--- src/lib.rt:85:1
 returns : tie.Need-returns Inv-loop μ-loop
 unfolding associationIn
 returns c = let l = c .before in

@@ -9,25 +9,20 @@ use Rattle.compiling.proofs.push_whole.Reads as reads
 use Rattle.compiling.proofs.push_whole.Lts as lts
 use Rattle.compiling.proofs.push.Reads as push-reads
 
--- src/lib.rt:101:8
 element-copy-out-if1 : tie.Need-element-copy-out-if1
 element-copy-out-if1 c = search needs
 
--- src/lib.rt:102:27
 cast-push : tie.Need-cast-push
 cast-push c = search needs
 
--- src/lib.rt:102:9
 push-requires : tie.Need-push-requires
 push-requires c κs = search needs
 
--- src/lib.rt:102:9
 returns : tie.Need-returns
 unfolding associationIn
 returns c = let a = c .before .before .before .args in
     (appends-as (c .push .ensures .0) (whole-yes (a .i) (associationIn (a .t2) (a .i)) (c .before .if1 .taken)), omega arith)
 
--- src/lib.rt:97:1
 returns-2 : tie.Need-returns-2
 unfolding associationIn
 returns-2 c = let a = c .before .before .args in

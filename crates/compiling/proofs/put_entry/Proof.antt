@@ -7,85 +7,65 @@ use Rattle.compiling.proofs.put_entry.Tie as tie
 use Rattle.compiling.proofs.put_entry.Reads as reads
 use Rattle.compiling.proofs.put_entry.Lts as lts
 
--- src/lib.rt:146:14
 mul-at : tie.Need-mul-at
 mul-at c = search needs
 
--- src/lib.rt:147:16
 element-copy-out-list : tie.Need-element-copy-out-list
 element-copy-out-list c = search needs
 
--- src/lib.rt:147:5
 element-write-list : tie.Need-element-write-list
 element-write-list c = search needs
 
--- src/lib.rt:148:20
 element-copy-out-list-2 : tie.Need-element-copy-out-list-2
 element-copy-out-list-2 c = search needs
 
--- src/lib.rt:148:10
 add-list : tie.Need-add-list
 add-list c = search needs
 
--- src/lib.rt:148:5
 element-write-list-2 : tie.Need-element-write-list-2
 element-write-list-2 c = search needs
 
--- src/lib.rt:149:20
 element-copy-out-list-3 : tie.Need-element-copy-out-list-3
 element-copy-out-list-3 c = search needs
 
--- src/lib.rt:149:10
 add-list-2 : tie.Need-add-list-2
 add-list-2 c = search needs
 
--- src/lib.rt:149:5
 element-write-list-3 : tie.Need-element-write-list-3
 element-write-list-3 c = search needs
 
--- src/lib.rt:150:20
 mul-list : tie.Need-mul-list
 mul-list c = search needs
 
--- src/lib.rt:150:20
 element-copy-out-list-4 : tie.Need-element-copy-out-list-4
 element-copy-out-list-4 c = search needs
 
--- src/lib.rt:150:20
 cast-list : tie.Need-cast-list
 cast-list c = let b = c .before .before .before .before in
     omega (arith, b .pre .1 .1 .low (b .args .i))
 
--- src/lib.rt:150:10
 add-list-3 : tie.Need-add-list-3
 add-list-3 c = search needs
 
--- src/lib.rt:150:5
 element-write-list-4 : tie.Need-element-write-list-4
 element-write-list-4 c = search needs
 
--- src/lib.rt:151:20
 mul-list-2 : tie.Need-mul-list-2
 mul-list-2 c = search needs
 
--- src/lib.rt:151:20
 element-copy-out-list-5 : tie.Need-element-copy-out-list-5
 element-copy-out-list-5 c = search needs
 
--- src/lib.rt:151:20
 cast-list-2 : tie.Need-cast-list-2
 cast-list-2 c = let b = c .before .before .before .before .before in
     omega (arith, b .pre .1 .1 .up (b .args .i))
 
--- src/lib.rt:151:10
 add-list-4 : tie.Need-add-list-4
 add-list-4 c = search needs
 
--- src/lib.rt:151:5
 element-write-list-5 : tie.Need-element-write-list-5
 element-write-list-5 c = search needs
 
--- src/lib.rt:142:1
 returns : tie.Need-returns
 unfolding entryIn
 returns c = let b = c .before .before .before .before .before in

@@ -5,7 +5,6 @@ use Rattle.diagrams.proofs.empty_diagram.Tie as tie
 use Rattle.diagrams.proofs.empty_diagram.Reads as reads
 use Rattle.diagrams.proofs.empty_diagram.Lts as lts
 
--- src/lib.rt:50:1
 returns : tie.Need-returns
 unfolding emptyDiagram
 returns c = search needs

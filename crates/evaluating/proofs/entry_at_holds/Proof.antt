@@ -6,41 +6,32 @@ use Rattle.evaluating.proofs.entry_at_holds.Reads as reads
 use Rattle.evaluating.proofs.entry_at_holds.Lts as lts
 use Rattle.evaluating.proofs.entry_holds.Reads as entry-holds-reads
 
--- src/lib.rt:109:37
 element-copy-out-entry-holds : tie.Need-element-copy-out-entry-holds
 element-copy-out-entry-holds c = search needs
 
--- src/lib.rt:109:49
 element-copy-out-entry-holds-2 : tie.Need-element-copy-out-entry-holds-2
 element-copy-out-entry-holds-2 c = search needs
 
--- src/lib.rt:109:68
 element-copy-out-entry-holds-3 : tie.Need-element-copy-out-entry-holds-3
 element-copy-out-entry-holds-3 c = search needs
 
--- src/lib.rt:109:80
 mul-entry-holds : tie.Need-mul-entry-holds
 mul-entry-holds c = search needs
 
--- src/lib.rt:109:80
 element-copy-out-entry-holds-4 : tie.Need-element-copy-out-entry-holds-4
 element-copy-out-entry-holds-4 c = search needs
 
--- src/lib.rt:109:91
 mul-entry-holds-2 : tie.Need-mul-entry-holds-2
 mul-entry-holds-2 c = search needs
 
--- src/lib.rt:109:91
 element-copy-out-entry-holds-5 : tie.Need-element-copy-out-entry-holds-5
 element-copy-out-entry-holds-5 c = search needs
 
--- src/lib.rt:109:5
 entry-holds-requires : tie.Need-entry-holds-requires
 entry-holds-requires c κs =
     let s = c .before .before .before .before .before in
     (s .pre .0, entry-known (s .args .d) (s .args .t5) (s .pre .0 .held) (s .pre .1 .0) (s .args .k) (s .pre .1 .1))
 
--- src/lib.rt:105:1
 returns : tie.Need-returns
 returns c =
     let s = c .before .before .before .before .before .before in

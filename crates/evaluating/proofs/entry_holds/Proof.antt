@@ -9,51 +9,39 @@ use Rattle.evaluating.proofs.one_whole.Reads as one-whole-reads
 use Rattle.evaluating.proofs.sources_hold.Reads as sources-hold-reads
 use Rattle.evaluating.proofs.targets_hold.Reads as targets-hold-reads
 
--- src/lib.rt:84:9
 targets-hold-requires : tie.Need-targets-hold-requires
 targets-hold-requires c κs = search needs
 
--- src/lib.rt:84:9
 returns : tie.Need-returns
 returns c = search (kinds, needs) depth 8 fits 20000
 
--- src/lib.rt:87:9
 targets-hold-requires-2 : tie.Need-targets-hold-requires-2
 targets-hold-requires-2 c κs = search needs
 
--- src/lib.rt:87:9
 returns-2 : tie.Need-returns-2
 returns-2 c = search (kinds, needs) depth 8 fits 20000
 
--- src/lib.rt:90:9
 sources-hold-requires : tie.Need-sources-hold-requires
 sources-hold-requires c κs = search needs
 
--- src/lib.rt:90:9
 returns-3 : tie.Need-returns-3
 returns-3 c = search (kinds, needs) depth 8 fits 20000
 
--- src/lib.rt:93:9
 sources-hold-requires-2 : tie.Need-sources-hold-requires-2
 sources-hold-requires-2 c κs = search needs
 
--- src/lib.rt:93:9
 returns-4 : tie.Need-returns-4
 returns-4 c = search (kinds, needs) depth 8 fits 20000
 
--- src/lib.rt:96:9
 mirror-holds-requires : tie.Need-mirror-holds-requires
 mirror-holds-requires c κs = search needs
 
--- src/lib.rt:96:9
 returns-5 : tie.Need-returns-5
 returns-5 c = search (kinds, needs) depth 8 fits 20000
 
--- src/lib.rt:98:5
 one-whole-requires : tie.Need-one-whole-requires
 one-whole-requires c κs = search needs
 
--- src/lib.rt:69:1
 returns-6 : tie.Need-returns-6
 returns-6 c = search (kinds, needs) depth 8 fits 20000
 

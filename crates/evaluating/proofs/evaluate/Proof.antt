@@ -9,23 +9,18 @@ use Rattle.checking.proofs.check_record.Reads as check-record-reads
 use Rattle.evaluating.proofs.first_false.Reads as first-false-reads
 use Rattle.resolving.proofs.resolve.Reads as resolve-reads
 
--- src/lib.rt:152:9
 check-record-requires : tie.Need-check-record-requires
 check-record-requires c κs = search needs
 
--- src/lib.rt:154:9
 returns : tie.Need-returns
 returns c = file-refused _ _ (c .before .check-record .ensures) (c .if1 .taken)
 
--- src/lib.rt:156:9
 resolve-requires : tie.Need-resolve-requires
 resolve-requires c κs = search needs
 
--- src/lib.rt:159:16
 first-false-requires : tie.Need-first-false-requires
 first-false-requires c κs = (c .before .before .before .before .pre, file-coded (c .before .before .before .before .pre) (c .resolve .ensures) (c .before .before .check-record .ensures) (c .before .if1 .left))
 
--- src/lib.rt:148:1
 returns-2 : tie.Need-returns-2
 returns-2 c = file-evaluated (c .before .before .before .before .before .pre) (c .before .resolve .ensures) (c .before .before .before .check-record .ensures) (c .before .before .if1 .left) (c .first-false .ensures)
 

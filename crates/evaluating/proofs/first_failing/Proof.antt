@@ -20,31 +20,24 @@ Inv-loop d m masks roles e n k₀ k = (k ≤ n) × (all (λ k. holds (diagramOf 
 abbrev μ-loop : tie.MeasureT-loop
 μ-loop d m masks roles e n k₀ k = n - k
 
--- src/lib.rt:119:5
 loop-holds : tie.Need-loop-holds Inv-loop μ-loop
 loop-holds c = search each
 
--- src/lib.rt:120:13
 entry-at-holds-requires : tie.Need-entry-at-holds-requires Inv-loop μ-loop
 entry-at-holds-requires c κs = search needs
 
--- src/lib.rt:121:13
 returns : tie.Need-returns Inv-loop μ-loop
 returns c = search each
 
--- src/lib.rt:123:9
 add-k : tie.Need-add-k Inv-loop μ-loop
 add-k c = search needs
 
--- src/lib.rt:119:5
 loop-less : tie.Need-loop-less Inv-loop μ-loop
 loop-less c = search needs
 
--- src/lib.rt:119:5
 loop-again : tie.Need-loop-again Inv-loop μ-loop
 loop-again c = search each
 
--- src/lib.rt:113:1
 returns-2 : tie.Need-returns-2 Inv-loop μ-loop
 returns-2 c = search each
 

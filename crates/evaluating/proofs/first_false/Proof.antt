@@ -9,23 +9,18 @@ use Rattle.evaluating.proofs.first_failing.Reads as first-failing-reads
 use Rattle.tables.proofs.instance_masks.Reads as instance-masks-reads
 use Rattle.tables.proofs.role_slots.Reads as role-slots-reads
 
--- src/lib.rt:132:17
 instance-masks-requires : tie.Need-instance-masks-requires
 instance-masks-requires c κs = search needs
 
--- src/lib.rt:133:17
 role-slots-requires : tie.Need-role-slots-requires
 role-slots-requires c κs = search needs
 
--- src/lib.rt:134:9
 compile-entries-requires : tie.Need-compile-entries-requires
 compile-entries-requires c κs = search needs
 
--- src/lib.rt:135:5
 first-failing-requires : tie.Need-first-failing-requires
 first-failing-requires c κs = search needs
 
--- src/lib.rt:128:1
 returns : tie.Need-returns
 returns c = failing-is _ _ _ (c .before .before .before .compile-entries .ensures) (c .first-failing .ensures)
 

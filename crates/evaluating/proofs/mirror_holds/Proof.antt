@@ -10,22 +10,18 @@ use Rattle.evaluating.proofs.mirror_holds.Lts as lts
 use Rattle.laws.proofs.wide.Reads as wide-reads
 use Rattle.link_rules.proofs.mirror_holds.Reads as mirror-holds-reads
 
--- src/lib.rt:55:55
 cast-mirror-holds : tie.Need-cast-mirror-holds
 cast-mirror-holds c = search needs
 
--- src/lib.rt:55:70
 wide-requires : tie.Need-wide-requires
 wide-requires c κs = search needs
 
--- src/lib.rt:55:5
 mirror-holds-requires : tie.Need-mirror-holds-requires
 mirror-holds-requires c κs =
     let s = c .before .before .before .before .before in
     let w = c .wide .ensures .0 in
     (judged-fits (tabled-judged (s .pre .0)), omega (arith, s .pre .1))
 
--- src/lib.rt:49:1
 returns : tie.Need-returns
 returns c =
     let s = c .before .before .before .before .before .before in

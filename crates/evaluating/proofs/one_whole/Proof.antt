@@ -10,22 +10,18 @@ use Rattle.evaluating.proofs.one_whole.Lts as lts
 use Rattle.laws.proofs.wide.Reads as wide-reads
 use Rattle.link_rules.proofs.one_whole.Reads as one-whole-reads
 
--- src/lib.rt:64:52
 cast-one-whole : tie.Need-cast-one-whole
 cast-one-whole c = search needs
 
--- src/lib.rt:64:67
 wide-requires : tie.Need-wide-requires
 wide-requires c κs = search needs
 
--- src/lib.rt:64:5
 one-whole-requires : tie.Need-one-whole-requires
 one-whole-requires c κs =
     let s = c .before .before .before .before .before in
     let w = c .wide .ensures .0 in
     (judged-fits (tabled-judged (s .pre .0)), omega (arith, s .pre .1))
 
--- src/lib.rt:58:1
 returns : tie.Need-returns
 returns c =
     let s = c .before .before .before .before .before .before in

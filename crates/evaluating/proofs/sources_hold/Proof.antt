@@ -11,48 +11,39 @@ use Rattle.evaluating.proofs.sources_hold.Lts as lts
 use Rattle.laws.proofs.wide.Reads as wide-reads
 use Rattle.link_rules.proofs.sources_hold.Reads as sources-hold-reads
 
--- src/lib.rt:41:13
 cast-n : tie.Need-cast-n
 cast-n c = search needs
 
--- src/lib.rt:42:16
 wide-requires : tie.Need-wide-requires
 wide-requires c κs = search needs
 
--- src/lib.rt:42:16
 mul-left : tie.Need-mul-left
 mul-left c = search needs
 
--- src/lib.rt:44:75
 add-sources-hold : tie.Need-add-sources-hold
 add-sources-hold c = search needs
 
--- src/lib.rt:44:9
 sources-hold-requires : tie.Need-sources-hold-requires
 sources-hold-requires c κs =
     let s = c .before .before .before .before .before .before in
     let w = c .before .before .wide .ensures .0 in
     (judged-fits (tabled-judged (s .pre .0)), (omega (arith, s .pre .1), omega (arith, s .pre .1)))
 
--- src/lib.rt:44:9
 returns : tie.Need-returns
 returns c =
     let s = c .before .before .before .before .before .before .before in
     sources-0 (tabled-judged (s .pre .0)) (s .args .i) (s .pre .1) (s .args .side) (limitsOf (s .args .low) (s .args .up)) _ (c .before .before .before .wide .ensures .0)
     (c .before .before .if1 .taken) (c .sources-hold .ensures)
 
--- src/lib.rt:46:58
 add-sources-hold-2 : tie.Need-add-sources-hold-2
 add-sources-hold-2 c = search needs
 
--- src/lib.rt:46:5
 sources-hold-requires-2 : tie.Need-sources-hold-requires-2
 sources-hold-requires-2 c κs =
     let s = c .before .before .before .before .before .before in
     let w = c .before .before .wide .ensures .0 in
     (judged-fits (tabled-judged (s .pre .0)), (omega (arith, s .pre .1), omega (arith, s .pre .1)))
 
--- src/lib.rt:35:1
 returns-2 : tie.Need-returns-2
 returns-2 c =
     let s = c .before .before .before .before .before .before .before in

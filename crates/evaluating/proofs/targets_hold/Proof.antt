@@ -11,48 +11,39 @@ use Rattle.evaluating.proofs.targets_hold.Lts as lts
 use Rattle.laws.proofs.wide.Reads as wide-reads
 use Rattle.link_rules.proofs.targets_hold.Reads as targets-hold-reads
 
--- src/lib.rt:27:13
 cast-n : tie.Need-cast-n
 cast-n c = search needs
 
--- src/lib.rt:28:16
 wide-requires : tie.Need-wide-requires
 wide-requires c κs = search needs
 
--- src/lib.rt:28:16
 mul-left : tie.Need-mul-left
 mul-left c = search needs
 
--- src/lib.rt:30:75
 add-targets-hold : tie.Need-add-targets-hold
 add-targets-hold c = search needs
 
--- src/lib.rt:30:9
 targets-hold-requires : tie.Need-targets-hold-requires
 targets-hold-requires c κs =
     let s = c .before .before .before .before .before .before in
     let w = c .before .before .wide .ensures .0 in
     (judged-fits (tabled-judged (s .pre .0)), (omega (arith, s .pre .1), omega (arith, s .pre .1)))
 
--- src/lib.rt:30:9
 returns : tie.Need-returns
 returns c =
     let s = c .before .before .before .before .before .before .before in
     targets-0 (tabled-judged (s .pre .0)) (s .args .i) (s .pre .1) (s .args .side) (limitsOf (s .args .low) (s .args .up)) _ (c .before .before .before .wide .ensures .0)
     (c .before .before .if1 .taken) (c .targets-hold .ensures)
 
--- src/lib.rt:32:58
 add-targets-hold-2 : tie.Need-add-targets-hold-2
 add-targets-hold-2 c = search needs
 
--- src/lib.rt:32:5
 targets-hold-requires-2 : tie.Need-targets-hold-requires-2
 targets-hold-requires-2 c κs =
     let s = c .before .before .before .before .before .before in
     let w = c .before .before .wide .ensures .0 in
     (judged-fits (tabled-judged (s .pre .0)), (omega (arith, s .pre .1), omega (arith, s .pre .1)))
 
--- src/lib.rt:21:1
 returns-2 : tie.Need-returns-2
 returns-2 c =
     let s = c .before .before .before .before .before .before .before in

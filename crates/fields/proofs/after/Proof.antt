@@ -5,15 +5,12 @@ use Rattle.fields.proofs.after.Reads as reads
 use Rattle.fields.proofs.after.Lts as lts
 use Rattle.laws.proofs.past.Reads as past-reads
 
--- src/lib.rt:54:16
 past-requires : tie.Need-past-requires
 past-requires c κs = search needs
 
--- src/lib.rt:54:5
 past-requires-2 : tie.Need-past-requires-2
 past-requires-2 c κs = search needs
 
--- src/lib.rt:51:1
 returns : tie.Need-returns
 returns c = cc
 

@@ -6,15 +6,12 @@ use Rattle.fields.proofs.content.Lts as lts
 use Rattle.laws.proofs.front.Reads as front-reads
 use Rattle.laws.proofs.past.Reads as past-reads
 
--- src/lib.rt:47:17
 past-requires : tie.Need-past-requires
 past-requires c κs = search needs
 
--- src/lib.rt:47:5
 front-requires : tie.Need-front-requires
 front-requires c κs = search needs
 
--- src/lib.rt:44:1
 returns : tie.Need-returns
 returns c = cc
 

@@ -7,15 +7,12 @@ use Rattle.fields.proofs.name_before.Lts as lts
 use Rattle.laws.proofs.compare.Reads as compare-reads
 use Rattle.laws.proofs.is_less.Reads as is-less-reads
 
--- src/lib.rt:95:19
 compare-requires : tie.Need-compare-requires
 compare-requires c κs = search needs
 
--- src/lib.rt:95:5
 is-less-requires : tie.Need-is-less-requires
 is-less-requires c κs = search needs
 
--- src/lib.rt:92:1
 returns : tie.Need-returns
 unfolding before
 returns c = cc

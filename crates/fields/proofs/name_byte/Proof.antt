@@ -6,7 +6,6 @@ use Rattle.fields.proofs.name_byte.Tie as tie
 use Rattle.fields.proofs.name_byte.Reads as reads
 use Rattle.fields.proofs.name_byte.Lts as lts
 
--- src/lib.rt:60:1
 returns : tie.Need-returns
 unfolding nameByte both either
 returns c = cc

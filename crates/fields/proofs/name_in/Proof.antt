@@ -9,23 +9,18 @@ use Rattle.laws.proofs.front.Reads as front-reads
 use Rattle.laws.proofs.past.Reads as past-reads
 use Rattle.laws.proofs.wide.Reads as wide-reads
 
--- src/lib.rt:104:17
 past-requires : tie.Need-past-requires
 past-requires c κs = search needs
 
--- src/lib.rt:104:46
 byte-requires : tie.Need-byte-requires
 byte-requires c κs = search needs
 
--- src/lib.rt:104:35
 wide-requires : tie.Need-wide-requires
 wide-requires c κs = search needs
 
--- src/lib.rt:104:5
 front-requires : tie.Need-front-requires
 front-requires c κs = search needs
 
--- src/lib.rt:101:1
 returns : tie.Need-returns
 unfolding nameIn
 returns c = cc

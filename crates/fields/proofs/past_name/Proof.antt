@@ -8,23 +8,18 @@ use Rattle.laws.proofs.byte.Reads as byte-reads
 use Rattle.laws.proofs.past.Reads as past-reads
 use Rattle.laws.proofs.wide.Reads as wide-reads
 
--- src/lib.rt:111:34
 byte-requires : tie.Need-byte-requires
 byte-requires c κs = search needs
 
--- src/lib.rt:111:23
 wide-requires : tie.Need-wide-requires
 wide-requires c κs = search needs
 
--- src/lib.rt:111:19
 add-past : tie.Need-add-past
 add-past c = search needs
 
--- src/lib.rt:111:5
 past-requires : tie.Need-past-requires
 past-requires c κs = search needs
 
--- src/lib.rt:108:1
 returns : tie.Need-returns
 unfolding pastName
 returns c = cc

@@ -17,51 +17,39 @@ use Rattle.bytes.proofs.copy.Reads as copy-reads
 use Rattle.fields.proofs.high.Reads as high-reads
 use Rattle.fields.proofs.low.Reads as low-reads
 
--- src/lib.rt:165:5
 slice-write-out : tie.Need-slice-write-out
 slice-write-out c = search needs
 
--- src/lib.rt:166:14
 high-requires : tie.Need-high-requires
 high-requires c κs = search needs
 
--- src/lib.rt:166:5
 slice-write-out-2 : tie.Need-slice-write-out-2
 slice-write-out-2 c = simp length-set (omega arith)
 
--- src/lib.rt:167:14
 low-requires : tie.Need-low-requires
 low-requires c κs = search needs
 
--- src/lib.rt:167:5
 slice-write-out-3 : tie.Need-slice-write-out-3
 slice-write-out-3 c = simp length-set (omega arith)
 
--- src/lib.rt:168:28
 sub-copy : tie.Need-sub-copy
 sub-copy c = simp length-set (omega arith)
 
--- src/lib.rt:168:28
 part-copy-start : tie.Need-part-copy-start
 part-copy-start c = simp length-set (omega arith)
 
--- src/lib.rt:168:28
 part-copy-end : tie.Need-part-copy-end
 part-copy-end c = search needs
 
--- src/lib.rt:168:9
 copy-requires : tie.Need-copy-requires
 copy-requires c κs = simp (length-set, length-take, length-drop) (omega arith)
 
--- src/lib.rt:169:5
 add-result : tie.Need-add-result
 add-result c = search needs
 
--- src/lib.rt:160:1
 same-length : tie.Need-same-length
 same-length c = c .before .out .given .1 ∙ simp length-set
 
--- src/lib.rt:160:1
 returns : tie.Need-returns
 unfolding field over
 returns c =

@@ -8,37 +8,29 @@ use Rattle.fields.proofs.read_head.Reads as reads
 use Rattle.fields.proofs.read_head.Lts as lts
 use Rattle.fields.proofs.number.Reads as number-reads
 
--- src/lib.rt:33:9
 returns : tie.Need-returns
 returns c = sym (head-short _ (c .if1 .taken))
 
--- src/lib.rt:35:22
 shared-slice-read-number : tie.Need-shared-slice-read-number
 shared-slice-read-number c = search needs
 
--- src/lib.rt:35:28
 shared-slice-read-number-2 : tie.Need-shared-slice-read-number-2
 shared-slice-read-number-2 c = search needs
 
--- src/lib.rt:35:9
 number-requires : tie.Need-number-requires
 number-requires c κs = search needs
 
--- src/lib.rt:36:15
 sub-if2 : tie.Need-sub-if2
 sub-if2 c = search needs
 
--- src/lib.rt:37:28
 shared-slice-read-t12 : tie.Need-shared-slice-read-t12
 shared-slice-read-t12 c = search needs
 
--- src/lib.rt:29:1
 returns-2 : tie.Need-returns-2
 returns-2 c =
     let a = c .before .before .before .before .before .before .before in
     sym (head-whole (a .args .s .now) _ (omega arith) (c .before .before .number .ensures .0) (omega arith))
 
--- src/lib.rt:29:1
 returns-3 : tie.Need-returns-3
 returns-3 c =
     let a = c .before .before .before .before .before .before in

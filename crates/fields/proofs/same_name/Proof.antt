@@ -7,15 +7,12 @@ use Rattle.fields.proofs.same_name.Lts as lts
 use Rattle.laws.proofs.compare.Reads as compare-reads
 use Rattle.laws.proofs.is_equal.Reads as is-equal-reads
 
--- src/lib.rt:89:20
 compare-requires : tie.Need-compare-requires
 compare-requires c κs = search needs
 
--- src/lib.rt:89:5
 is-equal-requires : tie.Need-is-equal-requires
 is-equal-requires c κs = search needs
 
--- src/lib.rt:86:1
 returns : tie.Need-returns
 unfolding sameName
 returns c = cc

@@ -10,35 +10,27 @@ use Rattle.laws.proofs.front.Reads as front-reads
 use Rattle.laws.proofs.past.Reads as past-reads
 use Rattle.laws.proofs.wide.Reads as wide-reads
 
--- src/lib.rt:140:14
 wide-requires : tie.Need-wide-requires
 wide-requires c κs = search needs
 
--- src/lib.rt:140:14
 mul-at : tie.Need-mul-at
 mul-at c = search needs
 
--- src/lib.rt:141:35
 add-past : tie.Need-add-past
 add-past c = search needs
 
--- src/lib.rt:141:17
 past-requires : tie.Need-past-requires
 past-requires c κs = search needs
 
--- src/lib.rt:141:55
 byte-requires : tie.Need-byte-requires
 byte-requires c κs = search needs
 
--- src/lib.rt:141:44
 at-most-16-requires : tie.Need-at-most-16-requires
 at-most-16-requires c κs = search needs
 
--- src/lib.rt:141:5
 front-requires : tie.Need-front-requires
 front-requires c κs = search needs
 
--- src/lib.rt:137:1
 returns : tie.Need-returns
 unfolding slotName
 returns c = cc

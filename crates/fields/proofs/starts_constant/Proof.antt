@@ -8,15 +8,12 @@ use Rattle.fields.proofs.starts_constant.Lts as lts
 use Rattle.fields.proofs.starts_name.Reads as starts-name-reads
 use Rattle.laws.proofs.byte.Reads as byte-reads
 
--- src/lib.rt:125:5
 starts-name-requires : tie.Need-starts-name-requires
 starts-name-requires c κs = search needs
 
--- src/lib.rt:125:41
 byte-requires : tie.Need-byte-requires
 byte-requires c κs = search needs
 
--- src/lib.rt:122:1
 returns : tie.Need-returns
 unfolding startsConstant both either
 returns c = cc

@@ -19,43 +19,33 @@ Inv-loop w i₀ i = (i ≤ length w) × (all (λ j. nameByte (getD w j 0)) i ≡
 abbrev μ-loop : tie.MeasureT-loop
 μ-loop w i₀ i = length w - i
 
--- src/lib.rt:71:9
 returns : tie.Need-returns Inv-loop μ-loop
 returns c = search (name-empty)
 
--- src/lib.rt:74:9
 returns-2 : tie.Need-returns-2 Inv-loop μ-loop
 returns-2 c = search (name-long)
 
--- src/lib.rt:77:5
 loop-holds : tie.Need-loop-holds Inv-loop μ-loop
 loop-holds c = search each
 
--- src/lib.rt:78:23
 shared-slice-read-name-byte : tie.Need-shared-slice-read-name-byte Inv-loop μ-loop
 shared-slice-read-name-byte c = search needs
 
--- src/lib.rt:78:13
 name-byte-requires : tie.Need-name-byte-requires Inv-loop μ-loop
 name-byte-requires c κs = search needs
 
--- src/lib.rt:79:13
 returns-3 : tie.Need-returns-3 Inv-loop μ-loop
 returns-3 c = search (each, name-by-bytes)
 
--- src/lib.rt:81:9
 add-i : tie.Need-add-i Inv-loop μ-loop
 add-i c = search needs
 
--- src/lib.rt:77:5
 loop-less : tie.Need-loop-less Inv-loop μ-loop
 loop-less c = search needs
 
--- src/lib.rt:77:5
 loop-again : tie.Need-loop-again Inv-loop μ-loop
 loop-again c = search each
 
--- src/lib.rt:67:1
 returns-4 : tie.Need-returns-4 Inv-loop μ-loop
 returns-4 c = search (each, name-by-bytes)
 

@@ -15,68 +15,53 @@ use Rattle.tables.proofs.attribute_slots.Reads as attribute-slots-reads
 use Rattle.tables.proofs.instance_masks.Reads as instance-masks-reads
 use Rattle.tables.proofs.role_slots.Reads as role-slots-reads
 
--- src/lib.rt:82:9
 types-concrete-requires : tie.Need-types-concrete-requires
 types-concrete-requires c κs = search needs
 
--- src/lib.rt:83:9
 returns : tie.Need-returns
 unfolding lowestIn
 returns c = search chain depth 14 fits 20000
 
--- src/lib.rt:85:9
 singletons-single-requires : tie.Need-singletons-single-requires
 singletons-single-requires c κs = search needs
 
--- src/lib.rt:86:9
 returns-2 : tie.Need-returns-2
 unfolding lowestIn
 returns-2 c = search chain depth 14 fits 20000
 
--- src/lib.rt:88:17
 instance-masks-requires : tie.Need-instance-masks-requires
 instance-masks-requires c κs = search needs
 
--- src/lib.rt:89:22
 attribute-slots-requires : tie.Need-attribute-slots-requires
 attribute-slots-requires c κs = search needs
 
--- src/lib.rt:90:9
 values-declared-requires : tie.Need-values-declared-requires
 values-declared-requires c κs = search needs
 
--- src/lib.rt:91:9
 returns-3 : tie.Need-returns-3
 unfolding lowestIn
 returns-3 c = search chain depth 14 fits 20000
 
--- src/lib.rt:93:9
 values-belong-requires : tie.Need-values-belong-requires
 values-belong-requires c κs = search needs
 
--- src/lib.rt:94:9
 returns-4 : tie.Need-returns-4
 unfolding lowestIn
 returns-4 c = search chain depth 14 fits 20000
 
--- src/lib.rt:96:17
 role-slots-requires : tie.Need-role-slots-requires
 role-slots-requires c κs = search needs
 
--- src/lib.rt:97:9
 links-permitted-requires : tie.Need-links-permitted-requires
 links-permitted-requires c κs = search needs
 
--- src/lib.rt:98:9
 returns-5 : tie.Need-returns-5
 unfolding lowestIn
 returns-5 c = search chain depth 14 fits 20000
 
--- src/lib.rt:100:5
 lowest-of-links-requires : tie.Need-lowest-of-links-requires
 lowest-of-links-requires c κs = search needs
 
--- src/lib.rt:78:1
 returns-6 : tie.Need-returns-6
 unfolding lowestIn
 returns-6 c = search chain depth 14 fits 20000

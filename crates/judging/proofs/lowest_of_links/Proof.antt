@@ -9,39 +9,30 @@ use Rattle.judging.proofs.sources_fit.Reads as sources-fit-reads
 use Rattle.judging.proofs.targets_fit.Reads as targets-fit-reads
 use Rattle.judging.proofs.wholes_fit.Reads as wholes-fit-reads
 
--- src/lib.rt:61:9
 targets-fit-requires : tie.Need-targets-fit-requires
 targets-fit-requires c κs = search needs
 
--- src/lib.rt:62:9
 returns : tie.Need-returns
 returns c = search chain depth 14 fits 20000
 
--- src/lib.rt:64:9
 sources-fit-requires : tie.Need-sources-fit-requires
 sources-fit-requires c κs = search needs
 
--- src/lib.rt:65:9
 returns-2 : tie.Need-returns-2
 returns-2 c = search chain depth 14 fits 20000
 
--- src/lib.rt:67:9
 mirrors-fit-requires : tie.Need-mirrors-fit-requires
 mirrors-fit-requires c κs = search needs
 
--- src/lib.rt:68:9
 returns-3 : tie.Need-returns-3
 returns-3 c = search chain depth 14 fits 20000
 
--- src/lib.rt:70:9
 wholes-fit-requires : tie.Need-wholes-fit-requires
 wholes-fit-requires c κs = search needs
 
--- src/lib.rt:71:9
 returns-4 : tie.Need-returns-4
 returns-4 c = search chain depth 14 fits 20000
 
--- src/lib.rt:54:1
 returns-5 : tie.Need-returns-5
 returns-5 c = search chain depth 14 fits 20000
 

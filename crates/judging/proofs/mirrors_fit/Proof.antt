@@ -7,15 +7,12 @@ use Rattle.judging.proofs.mirrors_fit.Reads as reads
 use Rattle.judging.proofs.mirrors_fit.Lts as lts
 use Rattle.link_rules.proofs.rule8.Reads as rule8-reads
 
--- src/lib.rt:41:48
 cast-rule8 : tie.Need-cast-rule8
 cast-rule8 c = search needs
 
--- src/lib.rt:41:5
 rule8-requires : tie.Need-rule8-requires
 rule8-requires c κs = judged-fits (tabled-judged (c .before .before .before .before .pre))
 
--- src/lib.rt:35:1
 returns : tie.Need-returns
 returns c = c .rule8 .ensures .1 _ _ (tabled-judged (c .before .before .before .before .before .pre))
 

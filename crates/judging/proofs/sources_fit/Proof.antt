@@ -7,15 +7,12 @@ use Rattle.judging.proofs.sources_fit.Reads as reads
 use Rattle.judging.proofs.sources_fit.Lts as lts
 use Rattle.link_rules.proofs.rule7.Reads as rule7-reads
 
--- src/lib.rt:32:48
 cast-rule7 : tie.Need-cast-rule7
 cast-rule7 c = search needs
 
--- src/lib.rt:32:5
 rule7-requires : tie.Need-rule7-requires
 rule7-requires c κs = judged-fits (tabled-judged (c .before .before .before .before .pre))
 
--- src/lib.rt:26:1
 returns : tie.Need-returns
 returns c = c .rule7 .ensures .1 _ _ (tabled-judged (c .before .before .before .before .before .pre))
 

@@ -7,15 +7,12 @@ use Rattle.judging.proofs.targets_fit.Reads as reads
 use Rattle.judging.proofs.targets_fit.Lts as lts
 use Rattle.link_rules.proofs.rule6.Reads as rule6-reads
 
--- src/lib.rt:23:48
 cast-rule6 : tie.Need-cast-rule6
 cast-rule6 c = search needs
 
--- src/lib.rt:23:5
 rule6-requires : tie.Need-rule6-requires
 rule6-requires c κs = judged-fits (tabled-judged (c .before .before .before .before .pre))
 
--- src/lib.rt:17:1
 returns : tie.Need-returns
 returns c = c .rule6 .ensures .1 _ _ (tabled-judged (c .before .before .before .before .before .pre))
 

@@ -7,15 +7,12 @@ use Rattle.judging.proofs.wholes_fit.Reads as reads
 use Rattle.judging.proofs.wholes_fit.Lts as lts
 use Rattle.link_rules.proofs.rule9.Reads as rule9-reads
 
--- src/lib.rt:50:48
 cast-rule9 : tie.Need-cast-rule9
 cast-rule9 c = search needs
 
--- src/lib.rt:50:5
 rule9-requires : tie.Need-rule9-requires
 rule9-requires c κs = judged-fits (tabled-judged (c .before .before .before .before .pre))
 
--- src/lib.rt:44:1
 returns : tie.Need-returns
 returns c = c .rule9 .ensures .1 _ _ (tabled-judged (c .before .before .before .before .before .pre))
 

@@ -17,31 +17,24 @@ Inv-loop c n i₀ i = (i ≤ n) × (all (λ k. not (again c k)) i ≡ true)
 abbrev μ-loop : tie.MeasureT-loop
 μ-loop c n i₀ i = n - i
 
--- src/lib.rt:80:5
 loop-holds : tie.Need-loop-holds Inv-loop μ-loop
 loop-holds c = search each
 
--- src/lib.rt:81:13
 is-new-requires : tie.Need-is-new-requires Inv-loop μ-loop
 is-new-requires c κs = search needs
 
--- src/lib.rt:82:13
 returns : tie.Need-returns Inv-loop μ-loop
 returns c = search each
 
--- src/lib.rt:84:9
 add-i : tie.Need-add-i Inv-loop μ-loop
 add-i c = search needs
 
--- src/lib.rt:80:5
 loop-less : tie.Need-loop-less Inv-loop μ-loop
 loop-less c = search needs
 
--- src/lib.rt:80:5
 loop-again : tie.Need-loop-again Inv-loop μ-loop
 loop-again c = search each
 
--- src/lib.rt:76:1
 returns-2 : tie.Need-returns-2 Inv-loop μ-loop
 returns-2 c = search each
 

@@ -8,11 +8,9 @@ use Rattle.layouts.proofs.count_laid.Reads as reads
 use Rattle.layouts.proofs.count_laid.Lts as lts
 use Rattle.laws.proofs.byte.Reads as byte-reads
 
--- src/lib.rt:147:23
 byte-requires : tie.Need-byte-requires
 byte-requires c κs = search needs
 
--- src/lib.rt:144:1
 returns : tie.Need-returns
 unfolding countLaid both either atEnd
 returns c = cc

@@ -11,27 +11,21 @@ use Rattle.laws.proofs.byte.Reads as byte-reads
 use Rattle.laws.proofs.past.Reads as past-reads
 use Rattle.layouts.proofs.limits_laid.Reads as limits-laid-reads
 
--- src/lib.rt:120:17
 byte-requires : tie.Need-byte-requires
 byte-requires c κs = search needs
 
--- src/lib.rt:120:35
 byte-requires-2 : tie.Need-byte-requires-2
 byte-requires-2 c κs = search needs
 
--- src/lib.rt:120:5
 limits-laid-requires : tie.Need-limits-laid-requires
 limits-laid-requires c κs = search needs
 
--- src/lib.rt:120:75
 past-requires : tie.Need-past-requires
 past-requires c κs = search needs
 
--- src/lib.rt:120:55
 starts-name-requires : tie.Need-starts-name-requires
 starts-name-requires c κs = search needs
 
--- src/lib.rt:117:1
 returns : tie.Need-returns
 unfolding endLaid both either atEnd
 returns c = cc

@@ -5,11 +5,9 @@ use Rattle.layouts.proofs.is_new.Reads as reads
 use Rattle.layouts.proofs.is_new.Lts as lts
 use Rattle.layouts.proofs.repeats.Reads as repeats-reads
 
--- src/lib.rt:72:6
 repeats-requires : tie.Need-repeats-requires
 repeats-requires c κs = search needs
 
--- src/lib.rt:69:1
 returns : tie.Need-returns
 returns c = cc
 

@@ -7,7 +7,6 @@ use Rattle.layouts.proofs.limits_laid.Tie as tie
 use Rattle.layouts.proofs.limits_laid.Reads as reads
 use Rattle.layouts.proofs.limits_laid.Lts as lts
 
--- src/lib.rt:110:1
 returns : tie.Need-returns
 unfolding limitsLaid both either atEnd
 returns c = cc

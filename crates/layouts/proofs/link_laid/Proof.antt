@@ -10,23 +10,18 @@ use Rattle.fields.proofs.past_name.Reads as past-name-reads
 use Rattle.fields.proofs.starts_name.Reads as starts-name-reads
 use Rattle.laws.proofs.past.Reads as past-reads
 
--- src/lib.rt:173:25
 past-requires : tie.Need-past-requires
 past-requires c κs = search needs
 
--- src/lib.rt:173:5
 starts-name-requires : tie.Need-starts-name-requires
 starts-name-requires c κs = search needs
 
--- src/lib.rt:173:64
 past-requires-2 : tie.Need-past-requires-2
 past-requires-2 c κs = search needs
 
--- src/lib.rt:173:46
 past-name-requires : tie.Need-past-name-requires
 past-name-requires c κs = search needs
 
--- src/lib.rt:170:1
 returns : tie.Need-returns
 unfolding linkLaid both either atEnd
 returns c = cc

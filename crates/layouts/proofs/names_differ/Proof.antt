@@ -7,11 +7,9 @@ use Rattle.layouts.proofs.names_differ.Reads as reads
 use Rattle.layouts.proofs.names_differ.Lts as lts
 use Rattle.layouts.proofs.all_new.Reads as all-new-reads
 
--- src/lib.rt:93:5
 all-new-requires : tie.Need-all-new-requires
 all-new-requires c κs = search needs
 
--- src/lib.rt:90:1
 returns : tie.Need-returns
 returns c = c .all-new .ensures ∙ sym (differ-names (c .before .before .args .c .now) (c .before .before .args .n))
 

@@ -19,35 +19,27 @@ Inv-loop c n rest₀ i₀ rest i = (i ≤ n) × ((rest ≡ pastNames i c) × (al
 abbrev μ-loop : tie.MeasureT-loop
 μ-loop c n rest₀ i₀ rest i = n - i
 
--- src/lib.rt:35:5
 loop-holds : tie.Need-loop-holds Inv-loop μ-loop
 loop-holds c = search (each, past-begin)
 
--- src/lib.rt:36:13
 starts-name-requires : tie.Need-starts-name-requires Inv-loop μ-loop
 starts-name-requires c κs = search needs
 
--- src/lib.rt:37:13
 returns : tie.Need-returns Inv-loop μ-loop
 returns c = search (each, starts-at, laid-not)
 
--- src/lib.rt:39:13
 past-name-requires : tie.Need-past-name-requires Inv-loop μ-loop
 past-name-requires c κs = search needs
 
--- src/lib.rt:41:9
 add-i : tie.Need-add-i Inv-loop μ-loop
 add-i c = search needs
 
--- src/lib.rt:35:5
 loop-less : tie.Need-loop-less Inv-loop μ-loop
 loop-less c = search needs
 
--- src/lib.rt:35:5
 loop-again : tie.Need-loop-again Inv-loop μ-loop
 loop-again c = search (each, past-next, starts-at)
 
--- src/lib.rt:30:1
 returns-2 : tie.Need-returns-2 Inv-loop μ-loop
 returns-2 c = search (each, laid-end)
 

@@ -9,15 +9,12 @@ use Rattle.layouts.proofs.object_laid.Lts as lts
 use Rattle.fields.proofs.past_name.Reads as past-name-reads
 use Rattle.fields.proofs.starts_name.Reads as starts-name-reads
 
--- src/lib.rt:154:5
 starts-name-requires : tie.Need-starts-name-requires
 starts-name-requires c κs = search needs
 
--- src/lib.rt:154:31
 past-name-requires : tie.Need-past-name-requires
 past-name-requires c κs = search needs
 
--- src/lib.rt:151:1
 returns : tie.Need-returns
 unfolding objectLaid both either atEnd
 returns c = cc

@@ -7,15 +7,12 @@ use Rattle.layouts.proofs.past_end.Lts as lts
 use Rattle.fields.proofs.past_name.Reads as past-name-reads
 use Rattle.laws.proofs.past.Reads as past-reads
 
--- src/lib.rt:127:23
 past-requires : tie.Need-past-requires
 past-requires c κs = search needs
 
--- src/lib.rt:127:5
 past-name-requires : tie.Need-past-name-requires
 past-name-requires c κs = search needs
 
--- src/lib.rt:124:1
 returns : tie.Need-returns
 unfolding pastEnd
 returns c = cc

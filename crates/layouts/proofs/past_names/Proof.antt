@@ -15,27 +15,21 @@ Inv-loop c n rest₀ i₀ rest i = (i ≤ n) × (rest ≡ pastNames i c)
 abbrev μ-loop : tie.MeasureT-loop
 μ-loop c n rest₀ i₀ rest i = n - i
 
--- src/lib.rt:21:5
 loop-holds : tie.Need-loop-holds Inv-loop μ-loop
 loop-holds c = search (needs, past-begin)
 
--- src/lib.rt:22:13
 past-name-requires : tie.Need-past-name-requires Inv-loop μ-loop
 past-name-requires c κs = search needs
 
--- src/lib.rt:24:9
 add-i : tie.Need-add-i Inv-loop μ-loop
 add-i c = search needs
 
--- src/lib.rt:21:5
 loop-less : tie.Need-loop-less Inv-loop μ-loop
 loop-less c = search needs
 
--- src/lib.rt:21:5
 loop-again : tie.Need-loop-again Inv-loop μ-loop
 loop-again c = search (needs, past-next)
 
--- src/lib.rt:16:1
 returns : tie.Need-returns Inv-loop μ-loop
 returns c = search (needs, past-done)
 

@@ -18,31 +18,24 @@ Inv-loop c i j₀ j = (j ≤ i) × (any (λ k. sameName (nameAt c k) (nameAt c i
 abbrev μ-loop : tie.MeasureT-loop
 μ-loop c i j₀ j = i - j
 
--- src/lib.rt:58:5
 loop-holds : tie.Need-loop-holds Inv-loop μ-loop
 loop-holds c = search each
 
--- src/lib.rt:59:12
 same-names-requires : tie.Need-same-names-requires Inv-loop μ-loop
 same-names-requires c κs = search needs
 
--- src/lib.rt:60:13
 returns : tie.Need-returns Inv-loop μ-loop
 returns c = search each
 
--- src/lib.rt:62:9
 add-j : tie.Need-add-j Inv-loop μ-loop
 add-j c = search needs
 
--- src/lib.rt:58:5
 loop-less : tie.Need-loop-less Inv-loop μ-loop
 loop-less c = search needs
 
--- src/lib.rt:58:5
 loop-again : tie.Need-loop-again Inv-loop μ-loop
 loop-again c = search each
 
--- src/lib.rt:54:1
 returns-2 : tie.Need-returns-2 Inv-loop μ-loop
 returns-2 c = search each
 

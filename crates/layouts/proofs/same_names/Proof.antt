@@ -7,27 +7,21 @@ use Rattle.fields.proofs.name_in.Reads as name-in-reads
 use Rattle.fields.proofs.same_name.Reads as same-name-reads
 use Rattle.layouts.proofs.past_names.Reads as past-names-reads
 
--- src/lib.rt:50:39
 past-names-requires : tie.Need-past-names-requires
 past-names-requires c κs = search needs
 
--- src/lib.rt:50:23
 name-in-requires : tie.Need-name-in-requires
 name-in-requires c κs = search needs
 
--- src/lib.rt:50:74
 past-names-requires-2 : tie.Need-past-names-requires-2
 past-names-requires-2 c κs = search needs
 
--- src/lib.rt:50:58
 name-in-requires-2 : tie.Need-name-in-requires-2
 name-in-requires-2 c κs = search needs
 
--- src/lib.rt:50:5
 same-name-requires : tie.Need-same-name-requires
 same-name-requires c κs = search needs
 
--- src/lib.rt:47:1
 returns : tie.Need-returns
 returns c = cc
 

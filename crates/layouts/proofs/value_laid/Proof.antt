@@ -11,35 +11,27 @@ use Rattle.fields.proofs.starts_constant.Reads as starts-constant-reads
 use Rattle.fields.proofs.starts_name.Reads as starts-name-reads
 use Rattle.laws.proofs.past.Reads as past-reads
 
--- src/lib.rt:161:9
 past-requires : tie.Need-past-requires
 past-requires c κs = search needs
 
--- src/lib.rt:162:9
 past-name-requires : tie.Need-past-name-requires
 past-name-requires c κs = search needs
 
--- src/lib.rt:163:9
 past-name-requires-2 : tie.Need-past-name-requires-2
 past-name-requires-2 c κs = search needs
 
--- src/lib.rt:164:5
 starts-name-requires : tie.Need-starts-name-requires
 starts-name-requires c κs = search needs
 
--- src/lib.rt:165:12
 starts-name-requires-2 : tie.Need-starts-name-requires-2
 starts-name-requires-2 c κs = search needs
 
--- src/lib.rt:166:16
 starts-constant-requires : tie.Need-starts-constant-requires
 starts-constant-requires c κs = search needs
 
--- src/lib.rt:166:53
 past-name-requires-3 : tie.Need-past-name-requires-3
 past-name-requires-3 c κs = search needs
 
--- src/lib.rt:158:1
 returns : tie.Need-returns
 unfolding valueLaid both either atEnd
 returns c = cc

@@ -11,27 +11,21 @@ use Rattle.laws.proofs.byte.Reads as byte-reads
 use Rattle.laws.proofs.past.Reads as past-reads
 use Rattle.layouts.proofs.names_laid.Reads as names-laid-reads
 
--- src/lib.rt:109:9
 past-name-requires : tie.Need-past-name-requires
 past-name-requires c κs = search needs
 
--- src/lib.rt:110:9
 byte-requires : tie.Need-byte-requires
 byte-requires c κs = search needs
 
--- src/lib.rt:111:5
 starts-name-requires : tie.Need-starts-name-requires
 starts-name-requires c κs = search needs
 
--- src/lib.rt:111:75
 past-requires : tie.Need-past-requires
 past-requires c κs = search needs
 
--- src/lib.rt:111:64
 names-laid-requires : tie.Need-names-laid-requires
 names-laid-requires c κs = search needs
 
--- src/lib.rt:106:1
 returns : tie.Need-returns
 unfolding both
 returns c = cc (value-type-laid-is (c .before .before .before .before .before .before .args .c .now))

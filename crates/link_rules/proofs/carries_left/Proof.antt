@@ -6,7 +6,6 @@ use Rattle.link_rules.proofs.carries_left.Tie as tie
 use Rattle.link_rules.proofs.carries_left.Reads as reads
 use Rattle.link_rules.proofs.carries_left.Lts as lts
 
--- src/lib.rt:27:1
 returns : tie.Need-returns
 unfolding carriesLeft either
 returns c = cc

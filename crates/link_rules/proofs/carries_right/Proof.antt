@@ -6,7 +6,6 @@ use Rattle.link_rules.proofs.carries_right.Tie as tie
 use Rattle.link_rules.proofs.carries_right.Reads as reads
 use Rattle.link_rules.proofs.carries_right.Lts as lts
 
--- src/lib.rt:20:1
 returns : tie.Need-returns
 unfolding carriesRight either
 returns c = cc

@@ -5,7 +5,6 @@ use Rattle.link_rules.proofs.counted_left.Tie as tie
 use Rattle.link_rules.proofs.counted_left.Reads as reads
 use Rattle.link_rules.proofs.counted_left.Lts as lts
 
--- src/lib.rt:41:1
 returns : tie.Need-returns
 unfolding countedLeft
 returns c = cc

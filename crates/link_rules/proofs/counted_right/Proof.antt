@@ -5,7 +5,6 @@ use Rattle.link_rules.proofs.counted_right.Tie as tie
 use Rattle.link_rules.proofs.counted_right.Reads as reads
 use Rattle.link_rules.proofs.counted_right.Lts as lts
 
--- src/lib.rt:34:1
 returns : tie.Need-returns
 unfolding countedRight
 returns c = cc

@@ -6,19 +6,15 @@ use Rattle.link_rules.proofs.instances.Lts as lts
 use Rattle.laws.proofs.byte.Reads as byte-reads
 use Rattle.laws.proofs.wide.Reads as wide-reads
 
--- src/lib.rt:61:34
 element-copy-out-wide : tie.Need-element-copy-out-wide
 element-copy-out-wide c = search needs
 
--- src/lib.rt:61:23
 wide-requires : tie.Need-wide-requires
 wide-requires c κs = search needs
 
--- src/lib.rt:61:5
 byte-requires : tie.Need-byte-requires
 byte-requires c κs = search needs
 
--- src/lib.rt:57:1
 returns : tie.Need-returns
 returns c = cc
 

@@ -5,7 +5,6 @@ use Rattle.link_rules.proofs.is_mirrored.Tie as tie
 use Rattle.link_rules.proofs.is_mirrored.Reads as reads
 use Rattle.link_rules.proofs.is_mirrored.Lts as lts
 
--- src/lib.rt:48:1
 returns : tie.Need-returns
 unfolding mirrors
 returns c = cc

@@ -17,32 +17,25 @@ Inv-loop a links masks slots n i p₀ p = (p ≤ n) × (all (oneWholeAtIn a link
 abbrev μ-loop : tie.MeasureT-loop
 μ-loop a links masks slots n i p₀ p = n - p
 
--- src/lib.rt:466:5
 loop-holds : tie.Need-loop-holds Inv-loop μ-loop
 loop-holds c = search each
 
--- src/lib.rt:467:13
 one-whole-at-requires : tie.Need-one-whole-at-requires Inv-loop μ-loop
 one-whole-at-requires c κs = search needs
 
--- src/lib.rt:468:13
 returns : tie.Need-returns Inv-loop μ-loop
 unfolding oneWholeIn
 returns c = search each
 
--- src/lib.rt:470:9
 add-p : tie.Need-add-p Inv-loop μ-loop
 add-p c = search needs
 
--- src/lib.rt:466:5
 loop-less : tie.Need-loop-less Inv-loop μ-loop
 loop-less c = search needs
 
--- src/lib.rt:466:5
 loop-again : tie.Need-loop-again Inv-loop μ-loop
 loop-again c = search each
 
--- src/lib.rt:454:1
 returns-2 : tie.Need-returns-2 Inv-loop μ-loop
 unfolding oneWholeIn
 returns-2 c = search each

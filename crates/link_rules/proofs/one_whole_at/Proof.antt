@@ -11,32 +11,25 @@ use Rattle.laws.proofs.has8.Reads as has8-reads
 use Rattle.link_rules.proofs.instances.Reads as instances-reads
 use Rattle.link_rules.proofs.rule9_at.Reads as rule9-at-reads
 
--- src/lib.rt:447:40
 mul-instances : tie.Need-mul-instances
 mul-instances c = search needs
 
--- src/lib.rt:447:40
 add-instances : tie.Need-add-instances
 add-instances c = search needs
 
--- src/lib.rt:447:20
 instances-requires : tie.Need-instances-requires
 instances-requires c κs = search needs
 
--- src/lib.rt:447:9
 has8-requires : tie.Need-has8-requires
 has8-requires c κs = search needs
 
--- src/lib.rt:448:9
 returns : tie.Need-returns
 unfolding oneWholeAtIn
 returns c = imp-no _ (sym (ap (bit _) (c .before .before .instances .ensures)) ∙ by-no (c .before .has8 .ensures) (c .if1 .taken))
 
--- src/lib.rt:450:5
 rule9-at-requires : tie.Need-rule9-at-requires
 rule9-at-requires c κs = search needs
 
--- src/lib.rt:435:1
 returns-2 : tie.Need-returns-2
 unfolding oneWholeAtIn
 returns-2 c = imp-yes (sym (ap (bit _) (c .before .before .before .instances .ensures)) ∙ by-yes (c .before .before .has8 .ensures) (c .before .if1 .left)) (c .rule9-at .ensures)

@@ -8,20 +8,16 @@ use Rattle.link_rules.proofs.rule6_at.Lts as lts
 use Rattle.link_rules.proofs.rule6_left.Reads as rule6-left-reads
 use Rattle.link_rules.proofs.rule6_right.Reads as rule6-right-reads
 
--- src/lib.rt:150:9
 rule6-right-requires : tie.Need-rule6-right-requires
 rule6-right-requires c κs = search needs
 
--- src/lib.rt:151:9
 returns : tie.Need-returns
 unfolding rule6AtIn
 returns c = search tests depth 8 fits 20000
 
--- src/lib.rt:153:5
 rule6-left-requires : tie.Need-rule6-left-requires
 rule6-left-requires c κs = search needs
 
--- src/lib.rt:139:1
 returns-2 : tie.Need-returns-2
 unfolding rule6AtIn
 returns-2 c = search tests depth 8 fits 20000

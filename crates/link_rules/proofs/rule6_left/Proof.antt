@@ -8,52 +8,40 @@ use Rattle.link_rules.proofs.rule6_left.Lts as lts
 use Rattle.link_rules.proofs.carries_left.Reads as carries-left-reads
 use Rattle.link_rules.proofs.targets_hold.Reads as targets-hold-reads
 
--- src/lib.rt:127:22
 element-copy-out-carries-left : tie.Need-element-copy-out-carries-left
 element-copy-out-carries-left c = search needs
 
--- src/lib.rt:127:9
 carries-left-requires : tie.Need-carries-left-requires
 carries-left-requires c κs = search needs
 
--- src/lib.rt:128:9
 returns : tie.Need-returns
 unfolding rule6LeftIn
 returns c = search tests depth 8 fits 20000
 
--- src/lib.rt:130:16
 mul-left : tie.Need-mul-left
 mul-left c = search needs
 
--- src/lib.rt:131:17
 mul-right : tie.Need-mul-right
 mul-right c = search needs
 
--- src/lib.rt:131:17
 add-right : tie.Need-add-right
 add-right c = search needs
 
--- src/lib.rt:132:15
 mul-low : tie.Need-mul-low
 mul-low c = search needs
 
--- src/lib.rt:132:15
 element-copy-out-low : tie.Need-element-copy-out-low
 element-copy-out-low c = search needs
 
--- src/lib.rt:133:14
 mul-up : tie.Need-mul-up
 mul-up c = search needs
 
--- src/lib.rt:133:14
 element-copy-out-up : tie.Need-element-copy-out-up
 element-copy-out-up c = search needs
 
--- src/lib.rt:134:5
 targets-hold-requires : tie.Need-targets-hold-requires
 targets-hold-requires c κs = search needs
 
--- src/lib.rt:116:1
 returns-2 : tie.Need-returns-2
 unfolding rule6LeftIn
 returns-2 c = search tests depth 8 fits 20000

@@ -8,52 +8,40 @@ use Rattle.link_rules.proofs.rule6_right.Lts as lts
 use Rattle.link_rules.proofs.carries_right.Reads as carries-right-reads
 use Rattle.link_rules.proofs.targets_hold.Reads as targets-hold-reads
 
--- src/lib.rt:105:23
 element-copy-out-carries-right : tie.Need-element-copy-out-carries-right
 element-copy-out-carries-right c = search needs
 
--- src/lib.rt:105:9
 carries-right-requires : tie.Need-carries-right-requires
 carries-right-requires c κs = search needs
 
--- src/lib.rt:106:9
 returns : tie.Need-returns
 unfolding rule6RightIn
 returns c = search tests depth 8 fits 20000
 
--- src/lib.rt:108:16
 mul-left : tie.Need-mul-left
 mul-left c = search needs
 
--- src/lib.rt:109:17
 mul-right : tie.Need-mul-right
 mul-right c = search needs
 
--- src/lib.rt:109:17
 add-right : tie.Need-add-right
 add-right c = search needs
 
--- src/lib.rt:110:15
 mul-low : tie.Need-mul-low
 mul-low c = search needs
 
--- src/lib.rt:110:15
 element-copy-out-low : tie.Need-element-copy-out-low
 element-copy-out-low c = search needs
 
--- src/lib.rt:111:14
 mul-up : tie.Need-mul-up
 mul-up c = search needs
 
--- src/lib.rt:111:14
 element-copy-out-up : tie.Need-element-copy-out-up
 element-copy-out-up c = search needs
 
--- src/lib.rt:112:5
 targets-hold-requires : tie.Need-targets-hold-requires
 targets-hold-requires c κs = search needs
 
--- src/lib.rt:94:1
 returns-2 : tie.Need-returns-2
 unfolding rule6RightIn
 returns-2 c = search tests depth 8 fits 20000

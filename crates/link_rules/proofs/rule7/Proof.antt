@@ -18,32 +18,25 @@ Inv-loop a links masks slots n i₀ i = (i ≤ a .count) × (all (rule7AtIn a li
 abbrev μ-loop : tie.MeasureT-loop
 μ-loop a links masks slots n i₀ i = a .count - i
 
--- src/lib.rt:273:5
 loop-holds : tie.Need-loop-holds Inv-loop μ-loop
 loop-holds c = search each
 
--- src/lib.rt:274:13
 rule7-at-requires : tie.Need-rule7-at-requires Inv-loop μ-loop
 rule7-at-requires c κs = search needs
 
--- src/lib.rt:275:13
 returns : tie.Need-returns Inv-loop μ-loop
 unfolding rule7In
 returns c = says7 _ _ _ _ _ (search each)
 
--- src/lib.rt:277:9
 add-i : tie.Need-add-i Inv-loop μ-loop
 add-i c = search needs
 
--- src/lib.rt:273:5
 loop-less : tie.Need-loop-less Inv-loop μ-loop
 loop-less c = search needs
 
--- src/lib.rt:273:5
 loop-again : tie.Need-loop-again Inv-loop μ-loop
 loop-again c = search each
 
--- src/lib.rt:262:1
 returns-2 : tie.Need-returns-2 Inv-loop μ-loop
 unfolding rule7In
 returns-2 c = says7 _ _ _ _ _ (search each)

@@ -8,20 +8,16 @@ use Rattle.link_rules.proofs.rule7_at.Lts as lts
 use Rattle.link_rules.proofs.rule7_left.Reads as rule7-left-reads
 use Rattle.link_rules.proofs.rule7_right.Reads as rule7-right-reads
 
--- src/lib.rt:255:9
 rule7-right-requires : tie.Need-rule7-right-requires
 rule7-right-requires c κs = search needs
 
--- src/lib.rt:256:9
 returns : tie.Need-returns
 unfolding rule7AtIn
 returns c = search tests depth 8 fits 20000
 
--- src/lib.rt:258:5
 rule7-left-requires : tie.Need-rule7-left-requires
 rule7-left-requires c κs = search needs
 
--- src/lib.rt:244:1
 returns-2 : tie.Need-returns-2
 unfolding rule7AtIn
 returns-2 c = search tests depth 8 fits 20000

@@ -8,52 +8,40 @@ use Rattle.link_rules.proofs.rule7_left.Lts as lts
 use Rattle.link_rules.proofs.counted_left.Reads as counted-left-reads
 use Rattle.link_rules.proofs.sources_hold.Reads as sources-hold-reads
 
--- src/lib.rt:232:22
 element-copy-out-counted-left : tie.Need-element-copy-out-counted-left
 element-copy-out-counted-left c = search needs
 
--- src/lib.rt:232:9
 counted-left-requires : tie.Need-counted-left-requires
 counted-left-requires c κs = search needs
 
--- src/lib.rt:233:9
 returns : tie.Need-returns
 unfolding rule7LeftIn
 returns c = search tests depth 8 fits 20000
 
--- src/lib.rt:235:16
 mul-left : tie.Need-mul-left
 mul-left c = search needs
 
--- src/lib.rt:236:17
 mul-right : tie.Need-mul-right
 mul-right c = search needs
 
--- src/lib.rt:236:17
 add-right : tie.Need-add-right
 add-right c = search needs
 
--- src/lib.rt:237:17
 mul-least : tie.Need-mul-least
 mul-least c = search needs
 
--- src/lib.rt:237:17
 element-copy-out-least : tie.Need-element-copy-out-least
 element-copy-out-least c = search needs
 
--- src/lib.rt:238:16
 mul-most : tie.Need-mul-most
 mul-most c = search needs
 
--- src/lib.rt:238:16
 element-copy-out-most : tie.Need-element-copy-out-most
 element-copy-out-most c = search needs
 
--- src/lib.rt:239:5
 sources-hold-requires : tie.Need-sources-hold-requires
 sources-hold-requires c κs = search needs
 
--- src/lib.rt:221:1
 returns-2 : tie.Need-returns-2
 unfolding rule7LeftIn
 returns-2 c = search tests depth 8 fits 20000

@@ -8,52 +8,40 @@ use Rattle.link_rules.proofs.rule7_right.Lts as lts
 use Rattle.link_rules.proofs.counted_right.Reads as counted-right-reads
 use Rattle.link_rules.proofs.sources_hold.Reads as sources-hold-reads
 
--- src/lib.rt:210:23
 element-copy-out-counted-right : tie.Need-element-copy-out-counted-right
 element-copy-out-counted-right c = search needs
 
--- src/lib.rt:210:9
 counted-right-requires : tie.Need-counted-right-requires
 counted-right-requires c κs = search needs
 
--- src/lib.rt:211:9
 returns : tie.Need-returns
 unfolding rule7RightIn
 returns c = search tests depth 8 fits 20000
 
--- src/lib.rt:213:16
 mul-left : tie.Need-mul-left
 mul-left c = search needs
 
--- src/lib.rt:214:17
 mul-right : tie.Need-mul-right
 mul-right c = search needs
 
--- src/lib.rt:214:17
 add-right : tie.Need-add-right
 add-right c = search needs
 
--- src/lib.rt:215:17
 mul-least : tie.Need-mul-least
 mul-least c = search needs
 
--- src/lib.rt:215:17
 element-copy-out-least : tie.Need-element-copy-out-least
 element-copy-out-least c = search needs
 
--- src/lib.rt:216:16
 mul-most : tie.Need-mul-most
 mul-most c = search needs
 
--- src/lib.rt:216:16
 element-copy-out-most : tie.Need-element-copy-out-most
 element-copy-out-most c = search needs
 
--- src/lib.rt:217:5
 sources-hold-requires : tie.Need-sources-hold-requires
 sources-hold-requires c κs = search needs
 
--- src/lib.rt:199:1
 returns-2 : tie.Need-returns-2
 unfolding rule7RightIn
 returns-2 c = search tests depth 8 fits 20000

@@ -18,32 +18,25 @@ Inv-loop a links masks slots n i₀ i = (i ≤ a .count) × (all (rule8AtIn a li
 abbrev μ-loop : tie.MeasureT-loop
 μ-loop a links masks slots n i₀ i = a .count - i
 
--- src/lib.rt:338:5
 loop-holds : tie.Need-loop-holds Inv-loop μ-loop
 loop-holds c = search each
 
--- src/lib.rt:339:13
 rule8-at-requires : tie.Need-rule8-at-requires Inv-loop μ-loop
 rule8-at-requires c κs = search needs
 
--- src/lib.rt:340:13
 returns : tie.Need-returns Inv-loop μ-loop
 unfolding rule8In
 returns c = says8 _ _ _ _ _ (search each)
 
--- src/lib.rt:342:9
 add-i : tie.Need-add-i Inv-loop μ-loop
 add-i c = search needs
 
--- src/lib.rt:338:5
 loop-less : tie.Need-loop-less Inv-loop μ-loop
 loop-less c = search needs
 
--- src/lib.rt:338:5
 loop-again : tie.Need-loop-again Inv-loop μ-loop
 loop-again c = search each
 
--- src/lib.rt:327:1
 returns-2 : tie.Need-returns-2 Inv-loop μ-loop
 unfolding rule8In
 returns-2 c = says8 _ _ _ _ _ (search each)

@@ -8,24 +8,19 @@ use Rattle.link_rules.proofs.rule8_at.Lts as lts
 use Rattle.link_rules.proofs.is_mirrored.Reads as is-mirrored-reads
 use Rattle.link_rules.proofs.mirror_holds.Reads as mirror-holds-reads
 
--- src/lib.rt:320:21
 element-copy-out-is-mirrored : tie.Need-element-copy-out-is-mirrored
 element-copy-out-is-mirrored c = search needs
 
--- src/lib.rt:320:9
 is-mirrored-requires : tie.Need-is-mirrored-requires
 is-mirrored-requires c κs = search needs
 
--- src/lib.rt:321:9
 returns : tie.Need-returns
 unfolding rule8AtIn
 returns c = search tests depth 8 fits 20000
 
--- src/lib.rt:323:5
 mirror-holds-requires : tie.Need-mirror-holds-requires
 mirror-holds-requires c κs = search needs
 
--- src/lib.rt:309:1
 returns-2 : tie.Need-returns-2
 unfolding rule8AtIn
 returns-2 c = search tests depth 8 fits 20000

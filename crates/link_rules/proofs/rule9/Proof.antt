@@ -18,32 +18,25 @@ Inv-loop a links masks slots n p₀ p = (p ≤ n) × (all (rule9AtIn a links mas
 abbrev μ-loop : tie.MeasureT-loop
 μ-loop a links masks slots n p₀ p = n - p
 
--- src/lib.rt:425:5
 loop-holds : tie.Need-loop-holds Inv-loop μ-loop
 loop-holds c = search each
 
--- src/lib.rt:426:13
 rule9-at-requires : tie.Need-rule9-at-requires Inv-loop μ-loop
 rule9-at-requires c κs = search needs
 
--- src/lib.rt:427:13
 returns : tie.Need-returns Inv-loop μ-loop
 unfolding rule9In
 returns c = says9 _ _ _ _ _ (search each)
 
--- src/lib.rt:429:9
 add-p : tie.Need-add-p Inv-loop μ-loop
 add-p c = search needs
 
--- src/lib.rt:425:5
 loop-less : tie.Need-loop-less Inv-loop μ-loop
 loop-less c = search needs
 
--- src/lib.rt:425:5
 loop-again : tie.Need-loop-again Inv-loop μ-loop
 loop-again c = search each
 
--- src/lib.rt:414:1
 returns-2 : tie.Need-returns-2 Inv-loop μ-loop
 unfolding rule9In
 returns-2 c = says9 _ _ _ _ _ (search each)

@@ -7,15 +7,12 @@ use Rattle.link_rules.proofs.rule9_at.Lts as lts
 use Rattle.laws.proofs.count8.Reads as count8-reads
 use Rattle.link_rules.proofs.whole_mask.Reads as whole-mask-reads
 
--- src/lib.rt:410:18
 whole-mask-requires : tie.Need-whole-mask-requires
 whole-mask-requires c κs = search needs
 
--- src/lib.rt:410:5
 count8-requires : tie.Need-count8-requires
 count8-requires c κs = search needs
 
--- src/lib.rt:399:1
 returns : tie.Need-returns
 returns c = wholes-counted _ _ _ _ _ _ _ (search needs) (c .before .whole-mask .ensures) (c .count8 .ensures .0)
 

@@ -6,11 +6,9 @@ use Rattle.link_rules.proofs.slot.Tie as tie
 use Rattle.link_rules.proofs.slot.Reads as reads
 use Rattle.link_rules.proofs.slot.Lts as lts
 
--- src/lib.rt:69:5
 element-copy-out-result : tie.Need-element-copy-out-result
 element-copy-out-result c = search needs
 
--- src/lib.rt:65:1
 returns : tie.Need-returns
 returns c = (refl, c .before .pre .0 .known (c .before .args .e) (c .before .pre .1))
 

@@ -8,23 +8,18 @@ use Rattle.link_rules.proofs.instances.Reads as instances-reads
 use Rattle.link_rules.proofs.slot.Reads as slot-reads
 use Rattle.masks.proofs.columns_fit.Reads as columns-fit-reads
 
--- src/lib.rt:209:9
 instances-requires : tie.Need-instances-requires
 instances-requires c κs = search needs
 
--- src/lib.rt:210:9
 instances-requires-2 : tie.Need-instances-requires-2
 instances-requires-2 c κs = search needs
 
--- src/lib.rt:211:31
 slot-requires : tie.Need-slot-requires
 slot-requires c κs = search needs
 
--- src/lib.rt:211:5
 columns-fit-requires : tie.Need-columns-fit-requires
 columns-fit-requires c κs = search needs
 
--- src/lib.rt:195:1
 returns : tie.Need-returns
 unfolding sourcesIn
 returns c = cc

@@ -8,23 +8,18 @@ use Rattle.link_rules.proofs.instances.Reads as instances-reads
 use Rattle.link_rules.proofs.slot.Reads as slot-reads
 use Rattle.masks.proofs.rows_fit.Reads as rows-fit-reads
 
--- src/lib.rt:88:9
 instances-requires : tie.Need-instances-requires
 instances-requires c κs = search needs
 
--- src/lib.rt:89:9
 instances-requires-2 : tie.Need-instances-requires-2
 instances-requires-2 c κs = search needs
 
--- src/lib.rt:90:28
 slot-requires : tie.Need-slot-requires
 slot-requires c κs = search needs
 
--- src/lib.rt:90:5
 rows-fit-requires : tie.Need-rows-fit-requires
 rows-fit-requires c κs = search needs
 
--- src/lib.rt:74:1
 returns : tie.Need-returns
 unfolding targetsIn
 returns c = cc

@@ -16,27 +16,21 @@ Inv-loop a links masks slots n p wholes₀ i₀ wholes i = (i ≤ a .count) × M
 abbrev μ-loop : tie.MeasureT-loop
 μ-loop a links masks slots n p wholes₀ i₀ wholes i = a .count - i
 
--- src/lib.rt:391:5
 loop-holds : tie.Need-loop-holds Inv-loop μ-loop
 loop-holds c = (search needs, wholes-begin _ _ _ _ _ _)
 
--- src/lib.rt:392:27
 wholes-at-requires : tie.Need-wholes-at-requires Inv-loop μ-loop
 wholes-at-requires c κs = search needs
 
--- src/lib.rt:393:9
 add-i : tie.Need-add-i Inv-loop μ-loop
 add-i c = search needs
 
--- src/lib.rt:391:5
 loop-less : tie.Need-loop-less Inv-loop μ-loop
 loop-less c = search needs
 
--- src/lib.rt:391:5
 loop-again : tie.Need-loop-again Inv-loop μ-loop
 loop-again c = (omega arith, wholes-next _ _ _ _ _ _ _ _ _ (c .before .before .before .loop .inv .1) (c .wholes-at .ensures))
 
--- src/lib.rt:378:1
 returns : tie.Need-returns Inv-loop μ-loop
 returns c = wholes-done _ _ _ _ _ _ _ _ (c .before .before .loop .inv .0) (search needs) (c .before .before .loop .inv .1)
 

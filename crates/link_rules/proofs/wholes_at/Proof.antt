@@ -9,43 +9,33 @@ use Rattle.link_rules.proofs.instances.Reads as instances-reads
 use Rattle.link_rules.proofs.slot.Reads as slot-reads
 use Rattle.masks.proofs.wholes_by.Reads as wholes-by-reads
 
--- src/lib.rt:393:8
 element-copy-out-if1 : tie.Need-element-copy-out-if1
 element-copy-out-if1 c = search needs
 
--- src/lib.rt:394:9
 returns : tie.Need-returns
 returns c = whole-none _ _ _ _ _ _ _ (search ne-eqb)
 
--- src/lib.rt:396:16
 mul-left : tie.Need-mul-left
 mul-left c = search needs
 
--- src/lib.rt:397:17
 mul-right : tie.Need-mul-right
 mul-right c = search needs
 
--- src/lib.rt:397:17
 add-right : tie.Need-add-right
 add-right c = search needs
 
--- src/lib.rt:398:9
 slot-requires : tie.Need-slot-requires
 slot-requires c κs = search needs
 
--- src/lib.rt:402:9
 instances-requires : tie.Need-instances-requires
 instances-requires c κs = search needs
 
--- src/lib.rt:403:9
 instances-requires-2 : tie.Need-instances-requires-2
 instances-requires-2 c κs = search needs
 
--- src/lib.rt:399:5
 wholes-by-requires : tie.Need-wholes-by-requires
 wholes-by-requires c κs = search needs
 
--- src/lib.rt:381:1
 returns-2 : tie.Need-returns-2
 returns-2 c = whole-some _ _ _ _ _ _ _ _ (search eq-eqb) (c .before .before .before .slot .ensures .0) (c .before .before .instances .ensures) (c .before .instances2 .ensures) (c .wholes-by .ensures)
 

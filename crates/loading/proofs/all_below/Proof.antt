@@ -19,32 +19,25 @@ Inv-loop ns n i₀ i = (i ≤ length ns) × (all (λ s. ltb (getD ns s 0) n) i �
 abbrev μ-loop : tie.MeasureT-loop
 μ-loop ns n i₀ i = length ns - i
 
--- src/lib.rt:134:5
 loop-holds : tie.Need-loop-holds Inv-loop μ-loop
 loop-holds c = search each
 
--- src/lib.rt:135:13
 is-below-requires : tie.Need-is-below-requires Inv-loop μ-loop
 is-below-requires c κs = search needs
 
--- src/lib.rt:136:13
 returns : tie.Need-returns Inv-loop μ-loop
 unfolding below
 returns c = search each
 
--- src/lib.rt:138:9
 add-i : tie.Need-add-i Inv-loop μ-loop
 add-i c = search needs
 
--- src/lib.rt:134:5
 loop-less : tie.Need-loop-less Inv-loop μ-loop
 loop-less c = search needs
 
--- src/lib.rt:134:5
 loop-again : tie.Need-loop-again Inv-loop μ-loop
 loop-again c = search each
 
--- src/lib.rt:130:1
 returns-2 : tie.Need-returns-2 Inv-loop μ-loop
 unfolding below
 returns-2 c = search each

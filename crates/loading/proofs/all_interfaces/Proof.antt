@@ -19,32 +19,25 @@ Inv-loop kinds n ns i₀ i = (i ≤ length ns) × (all (λ s. ltb (getD ns s 0) 
 abbrev μ-loop : tie.MeasureT-loop
 μ-loop kinds n ns i₀ i = length ns - i
 
--- src/lib.rt:154:5
 loop-holds : tie.Need-loop-holds Inv-loop μ-loop
 loop-holds c = search each
 
--- src/lib.rt:155:13
 is-interface-requires : tie.Need-is-interface-requires Inv-loop μ-loop
 is-interface-requires c κs = search needs
 
--- src/lib.rt:156:13
 returns : tie.Need-returns Inv-loop μ-loop
 unfolding interfaces
 returns c = search each
 
--- src/lib.rt:158:9
 add-i : tie.Need-add-i Inv-loop μ-loop
 add-i c = search needs
 
--- src/lib.rt:154:5
 loop-less : tie.Need-loop-less Inv-loop μ-loop
 loop-less c = search needs
 
--- src/lib.rt:154:5
 loop-again : tie.Need-loop-again Inv-loop μ-loop
 loop-again c = search each
 
--- src/lib.rt:150:1
 returns-2 : tie.Need-returns-2 Inv-loop μ-loop
 unfolding interfaces
 returns-2 c = search each

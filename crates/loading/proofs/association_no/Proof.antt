@@ -9,39 +9,31 @@ use Rattle.layouts.proofs.association_laid.Reads as association-laid-reads
 use Rattle.loading.proofs.ends_known.Reads as ends-known-reads
 use Rattle.loading.proofs.whole_right.Reads as whole-right-reads
 
--- src/lib.rt:237:9
 returns : tie.Need-returns
 unfolding associationNo
 returns c = search numbers depth 14 fits 20000
 
--- src/lib.rt:239:9
 association-laid-requires : tie.Need-association-laid-requires
 association-laid-requires c κs = search needs
 
--- src/lib.rt:240:9
 returns-2 : tie.Need-returns-2
 unfolding associationNo
 returns-2 c = search numbers depth 14 fits 20000
 
--- src/lib.rt:242:9
 ends-known-requires : tie.Need-ends-known-requires
 ends-known-requires c κs = search needs
 
--- src/lib.rt:243:9
 returns-3 : tie.Need-returns-3
 unfolding associationNo
 returns-3 c = search numbers depth 14 fits 20000
 
--- src/lib.rt:245:8
 whole-right-requires : tie.Need-whole-right-requires
 whole-right-requires c κs = search needs
 
--- src/lib.rt:246:9
 returns-4 : tie.Need-returns-4
 unfolding associationNo
 returns-4 c = search numbers depth 14 fits 20000
 
--- src/lib.rt:233:1
 returns-5 : tie.Need-returns-5
 unfolding associationNo
 returns-5 c = search numbers depth 14 fits 20000

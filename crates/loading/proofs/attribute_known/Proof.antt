@@ -11,31 +11,24 @@ use Rattle.laws.proofs.byte.Reads as byte-reads
 use Rattle.laws.proofs.past.Reads as past-reads
 use Rattle.laws.proofs.wide.Reads as wide-reads
 
--- src/lib.rt:199:17
 byte-requires : tie.Need-byte-requires
 byte-requires c κs = search needs
 
--- src/lib.rt:199:6
 wide-requires : tie.Need-wide-requires
 wide-requires c κs = search needs
 
--- src/lib.rt:200:52
 past-requires : tie.Need-past-requires
 past-requires c κs = search needs
 
--- src/lib.rt:200:34
 past-name-requires : tie.Need-past-name-requires
 past-name-requires c κs = search needs
 
--- src/lib.rt:200:23
 byte-requires-2 : tie.Need-byte-requires-2
 byte-requires-2 c κs = search needs
 
--- src/lib.rt:200:12
 wide-requires-2 : tie.Need-wide-requires-2
 wide-requires-2 c κs = search needs
 
--- src/lib.rt:196:1
 returns : tie.Need-returns
 unfolding attributeKnown attributeOf both
 returns c = cc

@@ -8,30 +8,24 @@ use Rattle.loading.proofs.attribute_no.Lts as lts
 use Rattle.layouts.proofs.attribute_laid.Reads as attribute-laid-reads
 use Rattle.loading.proofs.attribute_known.Reads as attribute-known-reads
 
--- src/lib.rt:207:9
 returns : tie.Need-returns
 unfolding attributeNo
 returns c = search numbers depth 14 fits 20000
 
--- src/lib.rt:209:9
 attribute-laid-requires : tie.Need-attribute-laid-requires
 attribute-laid-requires c κs = search needs
 
--- src/lib.rt:210:9
 returns-2 : tie.Need-returns-2
 unfolding attributeNo
 returns-2 c = search numbers depth 14 fits 20000
 
--- src/lib.rt:212:9
 attribute-known-requires : tie.Need-attribute-known-requires
 attribute-known-requires c κs = search needs
 
--- src/lib.rt:213:9
 returns-3 : tie.Need-returns-3
 unfolding attributeNo
 returns-3 c = search numbers depth 14 fits 20000
 
--- src/lib.rt:203:1
 returns-4 : tie.Need-returns-4
 unfolding attributeNo
 returns-4 c = search numbers depth 14 fits 20000

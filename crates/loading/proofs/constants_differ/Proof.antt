@@ -9,23 +9,18 @@ use Rattle.laws.proofs.byte.Reads as byte-reads
 use Rattle.laws.proofs.past.Reads as past-reads
 use Rattle.layouts.proofs.names_differ.Reads as names-differ-reads
 
--- src/lib.rt:63:9
 past-name-requires : tie.Need-past-name-requires
 past-name-requires c κs = search needs
 
--- src/lib.rt:64:27
 past-requires : tie.Need-past-requires
 past-requires c κs = search needs
 
--- src/lib.rt:64:48
 byte-requires : tie.Need-byte-requires
 byte-requires c κs = search needs
 
--- src/lib.rt:64:5
 names-differ-requires : tie.Need-names-differ-requires
 names-differ-requires c κs = search needs
 
--- src/lib.rt:60:1
 returns : tie.Need-returns
 returns c = search constants-by
 

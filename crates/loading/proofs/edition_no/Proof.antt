@@ -7,16 +7,13 @@ use Rattle.loading.proofs.edition_no.Reads as reads
 use Rattle.loading.proofs.edition_no.Lts as lts
 use Rattle.layouts.proofs.edition_laid.Reads as edition-laid-reads
 
--- src/lib.rt:53:9
 edition-laid-requires : tie.Need-edition-laid-requires
 edition-laid-requires c κs = search needs
 
--- src/lib.rt:54:9
 returns : tie.Need-returns
 unfolding editionRefusal
 returns c = search numbers depth 14 fits 20000
 
--- src/lib.rt:50:1
 returns-2 : tie.Need-returns-2
 unfolding editionRefusal
 returns-2 c = search numbers depth 14 fits 20000

@@ -11,31 +11,24 @@ use Rattle.laws.proofs.past.Reads as past-reads
 use Rattle.laws.proofs.wide.Reads as wide-reads
 use Rattle.layouts.proofs.past_end.Reads as past-end-reads
 
--- src/lib.rt:221:9
 past-requires : tie.Need-past-requires
 past-requires c κs = search needs
 
--- src/lib.rt:222:17
 byte-requires : tie.Need-byte-requires
 byte-requires c κs = search needs
 
--- src/lib.rt:222:6
 wide-requires : tie.Need-wide-requires
 wide-requires c κs = search needs
 
--- src/lib.rt:223:34
 past-end-requires : tie.Need-past-end-requires
 past-end-requires c κs = search needs
 
--- src/lib.rt:223:23
 byte-requires-2 : tie.Need-byte-requires-2
 byte-requires-2 c κs = search needs
 
--- src/lib.rt:223:12
 wide-requires-2 : tie.Need-wide-requires-2
 wide-requires-2 c κs = search needs
 
--- src/lib.rt:218:1
 returns : tie.Need-returns
 unfolding endsKnown associationOf endOf both
 returns c = cc

@@ -11,51 +11,39 @@ use Rattle.loading.proofs.is_misplaced.Reads as is-misplaced-reads
 use Rattle.loading.proofs.type_no.Reads as type-no-reads
 use Rattle.loading.proofs.value_type_no.Reads as value-type-no-reads
 
--- src/lib.rt:266:8
 is-misplaced-requires : tie.Need-is-misplaced-requires
 is-misplaced-requires c κs = search needs
 
--- src/lib.rt:267:9
 returns : tie.Need-returns
 returns c = search field-misplaced
 
--- src/lib.rt:270:9
 edition-no-requires : tie.Need-edition-no-requires
 edition-no-requires c κs = search needs
 
--- src/lib.rt:270:9
 returns-2 : tie.Need-returns-2
 returns-2 c = search field-edition
 
--- src/lib.rt:274:9
 value-type-no-requires : tie.Need-value-type-no-requires
 value-type-no-requires c κs = search needs
 
--- src/lib.rt:274:9
 returns-3 : tie.Need-returns-3
 returns-3 c = search field-value-type
 
--- src/lib.rt:278:9
 type-no-requires : tie.Need-type-no-requires
 type-no-requires c κs = search needs
 
--- src/lib.rt:278:9
 returns-4 : tie.Need-returns-4
 returns-4 c = search field-type
 
--- src/lib.rt:281:9
 attribute-no-requires : tie.Need-attribute-no-requires
 attribute-no-requires c κs = search needs
 
--- src/lib.rt:281:9
 returns-5 : tie.Need-returns-5
 returns-5 c = search field-attribute
 
--- src/lib.rt:283:5
 association-no-requires : tie.Need-association-no-requires
 association-no-requires c κs = search needs
 
--- src/lib.rt:262:1
 returns-6 : tie.Need-returns-6
 returns-6 c = search field-association
 

@@ -6,15 +6,12 @@ use Rattle.loading.proofs.is_below.Lts as lts
 use Rattle.laws.proofs.byte.Reads as byte-reads
 use Rattle.laws.proofs.wide.Reads as wide-reads
 
--- src/lib.rt:126:16
 byte-requires : tie.Need-byte-requires
 byte-requires c κs = search needs
 
--- src/lib.rt:126:5
 wide-requires : tie.Need-wide-requires
 wide-requires c κs = search needs
 
--- src/lib.rt:123:1
 returns : tie.Need-returns
 returns c = cc
 

@@ -7,7 +7,6 @@ use Rattle.loading.proofs.is_misplaced.Tie as tie
 use Rattle.loading.proofs.is_misplaced.Reads as reads
 use Rattle.loading.proofs.is_misplaced.Lts as lts
 
--- src/lib.rt:254:1
 returns : tie.Need-returns
 unfolding misplaced both either any
 returns c = cc

@@ -18,35 +18,27 @@ Inv-loop names n w i₀ i = (i ≤ n) × (any (λ k. sameName (slotName names k)
 abbrev μ-loop : tie.MeasureT-loop
 μ-loop names n w i₀ i = n - i
 
--- src/lib.rt:39:5
 loop-holds : tie.Need-loop-holds Inv-loop μ-loop
 loop-holds c = search each
 
--- src/lib.rt:40:27
 cast-slot-is : tie.Need-cast-slot-is Inv-loop μ-loop
 cast-slot-is c = search needs
 
--- src/lib.rt:40:12
 slot-is-requires : tie.Need-slot-is-requires Inv-loop μ-loop
 slot-is-requires c κs = search needs
 
--- src/lib.rt:41:13
 returns : tie.Need-returns Inv-loop μ-loop
 returns c = search each
 
--- src/lib.rt:43:9
 add-i : tie.Need-add-i Inv-loop μ-loop
 add-i c = search needs
 
--- src/lib.rt:39:5
 loop-less : tie.Need-loop-less Inv-loop μ-loop
 loop-less c = search needs
 
--- src/lib.rt:39:5
 loop-again : tie.Need-loop-again Inv-loop μ-loop
 loop-again c = search each
 
--- src/lib.rt:34:1
 returns-2 : tie.Need-returns-2 Inv-loop μ-loop
 returns-2 c = search each
 

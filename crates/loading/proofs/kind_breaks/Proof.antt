@@ -7,19 +7,15 @@ use Rattle.loading.proofs.kind_breaks.Lts as lts
 use Rattle.laws.proofs.byte.Reads as byte-reads
 use Rattle.loading.proofs.parents_interfaces.Reads as parents-interfaces-reads
 
--- src/lib.rt:200:6
 byte-requires : tie.Need-byte-requires
 byte-requires c κs = search needs
 
--- src/lib.rt:200:51
 slice-aggregate-parents-interfaces : tie.Need-slice-aggregate-parents-interfaces
 slice-aggregate-parents-interfaces c = search needs
 
--- src/lib.rt:200:32
 parents-interfaces-requires : tie.Need-parents-interfaces-requires
 parents-interfaces-requires c κs = search needs
 
--- src/lib.rt:196:1
 returns : tie.Need-returns
 returns c = search kind-by
 

@@ -6,15 +6,12 @@ use Rattle.loading.proofs.parents_below.Lts as lts
 use Rattle.loading.proofs.all_below.Reads as all-below-reads
 use Rattle.loading.proofs.type_parents.Reads as type-parents-reads
 
--- src/lib.rt:174:15
 type-parents-requires : tie.Need-type-parents-requires
 type-parents-requires c κs = search needs
 
--- src/lib.rt:174:5
 all-below-requires : tie.Need-all-below-requires
 all-below-requires c κs = search needs
 
--- src/lib.rt:171:1
 returns : tie.Need-returns
 returns c = cc
 

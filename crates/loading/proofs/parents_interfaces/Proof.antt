@@ -6,15 +6,12 @@ use Rattle.loading.proofs.parents_interfaces.Lts as lts
 use Rattle.loading.proofs.all_interfaces.Reads as all-interfaces-reads
 use Rattle.loading.proofs.type_parents.Reads as type-parents-reads
 
--- src/lib.rt:192:30
 type-parents-requires : tie.Need-type-parents-requires
 type-parents-requires c κs = search needs
 
--- src/lib.rt:192:5
 all-interfaces-requires : tie.Need-all-interfaces-requires
 all-interfaces-requires c κs = search needs
 
--- src/lib.rt:189:1
 returns : tie.Need-returns
 returns c = cc
 

@@ -6,15 +6,12 @@ use Rattle.loading.proofs.parents_rise.Lts as lts
 use Rattle.loading.proofs.rises.Reads as rises-reads
 use Rattle.loading.proofs.type_parents.Reads as type-parents-reads
 
--- src/lib.rt:168:11
 type-parents-requires : tie.Need-type-parents-requires
 type-parents-requires c κs = search needs
 
--- src/lib.rt:168:5
 rises-requires : tie.Need-rises-requires
 rises-requires c κs = search needs
 
--- src/lib.rt:165:1
 returns : tie.Need-returns
 returns c = cc
 

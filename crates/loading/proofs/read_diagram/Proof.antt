@@ -23,55 +23,42 @@ Inv-loop file d₀ last₀ rest₀ d last rest = Held d × (readDiagram file ≡
 abbrev μ-loop : tie.MeasureT-loop
 μ-loop file d₀ last₀ rest₀ d last rest = length rest
 
--- src/lib.rt:324:9
 empty-diagram-requires : tie.Need-empty-diagram-requires Inv-loop μ-loop
 empty-diagram-requires c κs = search needs
 
--- src/lib.rt:327:5
 loop-holds : tie.Need-loop-holds Inv-loop μ-loop
 loop-holds c = search (start-held, start-says)
 
--- src/lib.rt:328:15
 read-head-requires : tie.Need-read-head-requires Inv-loop μ-loop
 read-head-requires c κs = search needs
 
--- src/lib.rt:330:17
 enum-told : tie.Need-enum-told Inv-loop μ-loop
 enum-told c = search needs
 
--- src/lib.rt:330:17
 returns : tie.Need-returns Inv-loop μ-loop
 returns c = search reply-cut
 
--- src/lib.rt:332:35
 enum-known-tag : tie.Need-enum-known-tag Inv-loop μ-loop
 enum-known-tag c = search needs
 
--- src/lib.rt:333:21
 content-requires : tie.Need-content-requires Inv-loop μ-loop
 content-requires c κs = search needs
 
--- src/lib.rt:334:21
 field-no-requires : tie.Need-field-no-requires Inv-loop μ-loop
 field-no-requires c κs = search needs
 
--- src/lib.rt:336:21
 returns-2 : tie.Need-returns-2 Inv-loop μ-loop
 returns-2 c = search reply-refused
 
--- src/lib.rt:338:21
 with-field-requires : tie.Need-with-field-requires Inv-loop μ-loop
 with-field-requires c κs = record { last = c .before .before .before .before .before .before .before .before .loop .last; passed = sym (c .before .field-no .ensures) ∙ (search needs); held = c .before .before .before .before .before .before .before .before .loop .inv .0 }
 
--- src/lib.rt:341:21
 after-requires : tie.Need-after-requires Inv-loop μ-loop
 after-requires c κs = search needs
 
--- src/lib.rt:327:5
 loop-less : tie.Need-loop-less Inv-loop μ-loop
 loop-less c = search rest-shorter
 
--- src/lib.rt:327:5
 loop-again : tie.Need-loop-again Inv-loop μ-loop
 loop-again c = let l = c .before .before .before .before .before .before .before .before .before .before in
     let none : c .before .before .before .field-no .result ≡ 0 = search needs in (
@@ -80,11 +67,9 @@ loop-again c = let l = c .before .before .before .before .before .before .before
           (c .before .before .before .before .before .before .tag .given .1) (c .before .before .before .before .content .ensures) (c .before .before .before .field-no .ensures) none (c .before .with-field .ensures) (c .after .ensures),
     )
 
--- src/lib.rt:347:9
 returns-3 : tie.Need-returns-3 Inv-loop μ-loop
 returns-3 c = search (needs, reply-empty)
 
--- src/lib.rt:321:1
 returns-4 : tie.Need-returns-4 Inv-loop μ-loop
 returns-4 c = search (needs, reply-accepted)
 

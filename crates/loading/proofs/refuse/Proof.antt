@@ -5,11 +5,9 @@ use Rattle.loading.proofs.refuse.Tie as tie
 use Rattle.loading.proofs.refuse.Reads as reads
 use Rattle.loading.proofs.refuse.Lts as lts
 
--- src/lib.rt:30:1
 returns : tie.Need-returns
 returns c = search (needs, refuse-yes)
 
--- src/lib.rt:30:1
 returns-2 : tie.Need-returns-2
 returns-2 c = search (needs, refuse-no)
 

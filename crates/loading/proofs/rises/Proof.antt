@@ -19,35 +19,27 @@ Inv-loop ns i₀ i = (i ≤ length ns - 1) × (all (λ k. ltb (getD ns k 0) (get
 abbrev μ-loop : tie.MeasureT-loop
 μ-loop ns i₀ i = length ns - i
 
--- src/lib.rt:114:5
 loop-holds : tie.Need-loop-holds Inv-loop μ-loop
 loop-holds c = search each
 
--- src/lib.rt:114:11
 add-loop : tie.Need-add-loop Inv-loop μ-loop
 add-loop c = search needs
 
--- src/lib.rt:115:13
 rises-at-requires : tie.Need-rises-at-requires Inv-loop μ-loop
 rises-at-requires c κs = search needs
 
--- src/lib.rt:116:13
 returns : tie.Need-returns Inv-loop μ-loop
 returns c = search (each, rises-not)
 
--- src/lib.rt:118:9
 add-i : tie.Need-add-i Inv-loop μ-loop
 add-i c = search needs
 
--- src/lib.rt:114:5
 loop-less : tie.Need-loop-less Inv-loop μ-loop
 loop-less c = search needs
 
--- src/lib.rt:114:5
 loop-again : tie.Need-loop-again Inv-loop μ-loop
 loop-again c = search (each, rises-next)
 
--- src/lib.rt:110:1
 returns-2 : tie.Need-returns-2 Inv-loop μ-loop
 returns-2 c = search (each, rises-done)
 

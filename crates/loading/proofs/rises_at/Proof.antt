@@ -6,19 +6,15 @@ use Rattle.loading.proofs.rises_at.Reads as reads
 use Rattle.loading.proofs.rises_at.Lts as lts
 use Rattle.laws.proofs.byte.Reads as byte-reads
 
--- src/lib.rt:106:5
 byte-requires : tie.Need-byte-requires
 byte-requires c κs = search needs
 
--- src/lib.rt:106:40
 add-byte : tie.Need-add-byte
 add-byte c = search needs
 
--- src/lib.rt:106:25
 byte-requires-2 : tie.Need-byte-requires-2
 byte-requires-2 c κs = search needs
 
--- src/lib.rt:102:1
 returns : tie.Need-returns
 returns c = cc (add-one (c .before .before .before .args .i))
 

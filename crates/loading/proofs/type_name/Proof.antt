@@ -7,15 +7,12 @@ use Rattle.loading.proofs.type_name.Lts as lts
 use Rattle.fields.proofs.name_in.Reads as name-in-reads
 use Rattle.laws.proofs.past.Reads as past-reads
 
--- src/lib.rt:92:21
 past-requires : tie.Need-past-requires
 past-requires c κs = search needs
 
--- src/lib.rt:92:5
 name-in-requires : tie.Need-name-in-requires
 name-in-requires c κs = search needs
 
--- src/lib.rt:89:1
 returns : tie.Need-returns
 unfolding typeOf
 returns c = cc

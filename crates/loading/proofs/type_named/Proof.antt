@@ -7,19 +7,15 @@ use Rattle.loading.proofs.type_named.Lts as lts
 use Rattle.loading.proofs.is_named.Reads as is-named-reads
 use Rattle.loading.proofs.type_name.Reads as type-name-reads
 
--- src/lib.rt:197:14
 slice-aggregate-is-named : tie.Need-slice-aggregate-is-named
 slice-aggregate-is-named c = search needs
 
--- src/lib.rt:197:31
 type-name-requires : tie.Need-type-name-requires
 type-name-requires c κs = search needs
 
--- src/lib.rt:197:5
 is-named-requires : tie.Need-is-named-requires
 is-named-requires c κs = search needs
 
--- src/lib.rt:192:1
 returns : tie.Need-returns
 returns c = search type-named
 

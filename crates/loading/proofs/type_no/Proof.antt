@@ -11,47 +11,36 @@ use Rattle.loading.proofs.parents_rise.Reads as parents-rise-reads
 use Rattle.loading.proofs.refuse.Reads as refuse-reads
 use Rattle.loading.proofs.type_named.Reads as type-named-reads
 
--- src/lib.rt:216:23
 kind-breaks-requires : tie.Need-kind-breaks-requires
 kind-breaks-requires c κs = search needs
 
--- src/lib.rt:216:9
 refuse-requires : tie.Need-refuse-requires
 refuse-requires c κs = search needs
 
--- src/lib.rt:217:17
 type-named-requires : tie.Need-type-named-requires
 type-named-requires c κs = search needs
 
--- src/lib.rt:217:37
 parents-rise-requires : tie.Need-parents-rise-requires
 parents-rise-requires c κs = search needs
 
--- src/lib.rt:218:42
 parents-below-requires : tie.Need-parents-below-requires
 parents-below-requires c κs = search needs
 
--- src/lib.rt:218:34
 refuse-requires-2 : tie.Need-refuse-requires-2
 refuse-requires-2 c κs = search needs
 
--- src/lib.rt:218:9
 refuse-requires-3 : tie.Need-refuse-requires-3
 refuse-requires-3 c κs = search needs
 
--- src/lib.rt:219:38
 type-laid-requires : tie.Need-type-laid-requires
 type-laid-requires c κs = search needs
 
--- src/lib.rt:219:30
 refuse-requires-4 : tie.Need-refuse-requires-4
 refuse-requires-4 c κs = search needs
 
--- src/lib.rt:219:5
 refuse-requires-5 : tie.Need-refuse-requires-5
 refuse-requires-5 c κs = search needs
 
--- src/lib.rt:212:1
 returns : tie.Need-returns
 returns c = let s = c .before .before .before .before .before .before .before .before .before .before .before .before in
     cc (type-chain (s .args .t) (s .args .c .now))

@@ -7,19 +7,15 @@ use Rattle.loading.proofs.type_parents.Lts as lts
 use Rattle.fields.proofs.past_name.Reads as past-name-reads
 use Rattle.laws.proofs.past.Reads as past-reads
 
--- src/lib.rt:98:34
 past-requires : tie.Need-past-requires
 past-requires c κs = search needs
 
--- src/lib.rt:98:16
 past-name-requires : tie.Need-past-name-requires
 past-name-requires c κs = search needs
 
--- src/lib.rt:98:5
 past-requires-2 : tie.Need-past-requires-2
 past-requires-2 c κs = search needs
 
--- src/lib.rt:95:1
 returns : tie.Need-returns
 unfolding typeOf
 returns c = cc

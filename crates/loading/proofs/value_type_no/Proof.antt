@@ -10,47 +10,37 @@ use Rattle.layouts.proofs.value_type_laid.Reads as value-type-laid-reads
 use Rattle.loading.proofs.constants_differ.Reads as constants-differ-reads
 use Rattle.loading.proofs.is_named.Reads as is-named-reads
 
--- src/lib.rt:72:9
 returns : tie.Need-returns
 unfolding valueTypeRefusal
 returns c = search (numbers, value-types-full) depth 14 fits 20000
 
--- src/lib.rt:74:9
 value-type-laid-requires : tie.Need-value-type-laid-requires
 value-type-laid-requires c κs = search needs
 
--- src/lib.rt:75:9
 returns-2 : tie.Need-returns-2
 unfolding valueTypeRefusal
 returns-2 c = search (numbers, value-types-room) depth 14 fits 20000
 
--- src/lib.rt:78:17
 slice-aggregate-is-named : tie.Need-slice-aggregate-is-named
 slice-aggregate-is-named c = search needs
 
--- src/lib.rt:78:34
 name-in-requires : tie.Need-name-in-requires
 name-in-requires c κs = search needs
 
--- src/lib.rt:78:8
 is-named-requires : tie.Need-is-named-requires
 is-named-requires c κs = search needs
 
--- src/lib.rt:79:9
 returns-3 : tie.Need-returns-3
 unfolding valueTypeRefusal
 returns-3 c = search (numbers, value-types-room, value-type-named) depth 14 fits 20000
 
--- src/lib.rt:81:9
 constants-differ-requires : tie.Need-constants-differ-requires
 constants-differ-requires c κs = search needs
 
--- src/lib.rt:82:9
 returns-4 : tie.Need-returns-4
 unfolding valueTypeRefusal
 returns-4 c = search (numbers, value-types-room, value-type-named) depth 14 fits 20000
 
--- src/lib.rt:67:1
 returns-5 : tie.Need-returns-5
 unfolding valueTypeRefusal
 returns-5 c = search (numbers, value-types-room, value-type-named) depth 14 fits 20000

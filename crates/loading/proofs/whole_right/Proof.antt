@@ -9,15 +9,12 @@ use Rattle.loading.proofs.whole_right.Reads as reads
 use Rattle.loading.proofs.whole_right.Lts as lts
 use Rattle.laws.proofs.byte.Reads as byte-reads
 
--- src/lib.rt:230:6
 byte-requires : tie.Need-byte-requires
 byte-requires c κs = search needs
 
--- src/lib.rt:230:32
 byte-requires-2 : tie.Need-byte-requires-2
 byte-requires-2 c κs = search needs
 
--- src/lib.rt:227:1
 returns : tie.Need-returns
 unfolding wholeRight associationOf isComposition both
 returns c = cc

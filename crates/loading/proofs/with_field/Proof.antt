@@ -9,39 +9,30 @@ use Rattle.loading.proofs.storing.with_attribute.Reads as with-attribut
 use Rattle.loading.proofs.storing.with_type.Reads as with-type-reads
 use Rattle.loading.proofs.storing.with_value_type.Reads as with-value-type-reads
 
--- src/lib.rt:292:9
 returns : tie.Need-returns
 returns c = search grown-edition
 
--- src/lib.rt:297:13
 with-value-type-requires : tie.Need-with-value-type-requires
 with-value-type-requires c κs = search allowed-value-type
 
--- src/lib.rt:299:9
 returns-2 : tie.Need-returns-2
 returns-2 c = search grown-value-type
 
--- src/lib.rt:303:13
 with-type-requires : tie.Need-with-type-requires
 with-type-requires c κs = search allowed-type
 
--- src/lib.rt:305:9
 returns-3 : tie.Need-returns-3
 returns-3 c = search grown-type
 
--- src/lib.rt:309:13
 with-attribute-requires : tie.Need-with-attribute-requires
 with-attribute-requires c κs = search allowed-attribute
 
--- src/lib.rt:311:9
 returns-4 : tie.Need-returns-4
 returns-4 c = search grown-attribute
 
--- src/lib.rt:314:9
 with-association-requires : tie.Need-with-association-requires
 with-association-requires c κs = search allowed-association
 
--- src/lib.rt:287:1
 returns-5 : tie.Need-returns-5
 returns-5 c = search grown-association
 

@@ -8,15 +8,12 @@ use Rattle.masks.proofs.arrives.Lts as lts
 use Rattle.laws.proofs.has8.Reads as has8-reads
 use Rattle.masks.proofs.is_linked.Reads as is-linked-reads
 
--- src/lib.rt:88:5
 has8-requires : tie.Need-has8-requires
 has8-requires c κs = search needs
 
--- src/lib.rt:88:27
 is-linked-requires : tie.Need-is-linked-requires
 is-linked-requires c κs = search needs
 
--- src/lib.rt:84:1
 returns : tie.Need-returns
 unfolding arrivesFrom both
 returns c = cc

@@ -11,24 +11,19 @@ use Rattle.laws.proofs.has8.Reads as has8-reads
 use Rattle.masks.proofs.count_arriving.Reads as count-arriving-reads
 use Rattle.masks.proofs.is_within.Reads as is-within-reads
 
--- src/lib.rt:112:9
 has8-requires : tie.Need-has8-requires
 has8-requires c κs = search needs
 
--- src/lib.rt:113:9
 returns : tie.Need-returns
 unfolding columnAtFits
 returns c = search tests depth 8 fits 20000
 
--- src/lib.rt:115:24
 count-arriving-requires : tie.Need-count-arriving-requires
 count-arriving-requires c κs = search needs
 
--- src/lib.rt:115:5
 is-within-requires : tie.Need-is-within-requires
 is-within-requires c κs = search needs
 
--- src/lib.rt:108:1
 returns-2 : tie.Need-returns-2
 unfolding columnAtFits
 returns-2 c =

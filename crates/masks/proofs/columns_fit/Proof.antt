@@ -17,32 +17,25 @@ Inv-loop links s from to low up n p₀ p = (p ≤ n) × (all (columnAtFits links
 abbrev μ-loop : tie.MeasureT-loop
 μ-loop links s from to low up n p₀ p = n - p
 
--- src/lib.rt:123:5
 loop-holds : tie.Need-loop-holds Inv-loop μ-loop
 loop-holds c = search each
 
--- src/lib.rt:124:13
 column-at-fits-requires : tie.Need-column-at-fits-requires Inv-loop μ-loop
 column-at-fits-requires c κs = search needs
 
--- src/lib.rt:125:13
 returns : tie.Need-returns Inv-loop μ-loop
 unfolding columnsFit
 returns c = search each
 
--- src/lib.rt:127:9
 add-p : tie.Need-add-p Inv-loop μ-loop
 add-p c = search needs
 
--- src/lib.rt:123:5
 loop-less : tie.Need-loop-less Inv-loop μ-loop
 loop-less c = search needs
 
--- src/lib.rt:123:5
 loop-again : tie.Need-loop-again Inv-loop μ-loop
 loop-again c = search each
 
--- src/lib.rt:118:1
 returns-2 : tie.Need-returns-2 Inv-loop μ-loop
 unfolding columnsFit
 returns-2 c = search each

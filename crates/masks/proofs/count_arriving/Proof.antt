@@ -19,30 +19,24 @@ Inv-loop links s from p n count₀ o₀ count o = (o ≤ n) × (count ≡ tally 
 abbrev μ-loop : tie.MeasureT-loop
 μ-loop links s from p n count₀ o₀ count o = n - o
 
--- src/lib.rt:98:5
 loop-holds : tie.Need-loop-holds Inv-loop μ-loop
 loop-holds c = search each
 
--- src/lib.rt:99:12
 arrives-requires : tie.Need-arrives-requires Inv-loop μ-loop
 arrives-requires c κs = search needs
 
--- src/lib.rt:100:13
 add-count : tie.Need-add-count Inv-loop μ-loop
 add-count c =
     let l = c .before .before .before in
     let a = l .before .args in
     omega (arith, l .loop .inv .1, tally-le (arrivesFrom (a .links .now) (a .s) (a .from) (a .p)) (l .loop .o))
 
--- src/lib.rt:102:9
 add-o : tie.Need-add-o Inv-loop μ-loop
 add-o c = search needs
 
--- src/lib.rt:98:5
 loop-less : tie.Need-loop-less Inv-loop μ-loop
 loop-less c = search needs
 
--- src/lib.rt:98:5
 loop-again : tie.Need-loop-again Inv-loop μ-loop
 loop-again c =
     let l = c .before .before .before in
@@ -53,7 +47,6 @@ loop-again c =
           (λ w. w .1 ∙ tally-miss p (l .loop .o) (l .loop .inv .1) (c .before .arrives .ensures) (w .0 .left)) (c .if1 .came),
     )
 
--- src/lib.rt:92:1
 returns : tie.Need-returns Inv-loop μ-loop
 unfolding arriving
 returns c = search each

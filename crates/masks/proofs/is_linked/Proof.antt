@@ -7,15 +7,12 @@ use Rattle.masks.proofs.is_linked.Lts as lts
 use Rattle.laws.proofs.has8.Reads as has8-reads
 use Rattle.masks.proofs.row.Reads as row-reads
 
--- src/lib.rt:37:16
 row-requires : tie.Need-row-requires
 row-requires c κs = search needs
 
--- src/lib.rt:37:5
 has8-requires : tie.Need-has8-requires
 has8-requires c κs = search needs
 
--- src/lib.rt:33:1
 returns : tie.Need-returns
 returns c = c .has8 .ensures ∙ c .before .row .ensures (c .before .before .args .p)
 

@@ -6,11 +6,9 @@ use Rattle.masks.proofs.is_same.Tie as tie
 use Rattle.masks.proofs.is_same.Reads as reads
 use Rattle.masks.proofs.is_same.Lts as lts
 
--- src/lib.rt:137:1
 returns : tie.Need-returns
 returns c = search (same-yes, same-no)
 
--- src/lib.rt:137:1
 returns-2 : tie.Need-returns-2
 returns-2 c = search (same-yes, same-no)
 

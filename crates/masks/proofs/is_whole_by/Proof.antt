@@ -8,19 +8,15 @@ use Rattle.masks.proofs.is_whole_by.Lts as lts
 use Rattle.laws.proofs.has8.Reads as has8-reads
 use Rattle.masks.proofs.is_linked.Reads as is-linked-reads
 
--- src/lib.rt:189:5
 is-linked-requires : tie.Need-is-linked-requires
 is-linked-requires c κs = search needs
 
--- src/lib.rt:189:34
 has8-requires : tie.Need-has8-requires
 has8-requires c κs = search needs
 
--- src/lib.rt:189:56
 has8-requires-2 : tie.Need-has8-requires-2
 has8-requires-2 c κs = search needs
 
--- src/lib.rt:185:1
 returns : tie.Need-returns
 unfolding wholeIn both
 returns c = cc

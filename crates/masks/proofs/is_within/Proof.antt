@@ -6,7 +6,6 @@ use Rattle.masks.proofs.is_within.Tie as tie
 use Rattle.masks.proofs.is_within.Reads as reads
 use Rattle.masks.proofs.is_within.Lts as lts
 
--- src/lib.rt:43:1
 returns : tie.Need-returns
 unfolding both either
 returns c = within-is (c .args .low) (c .args .up) (c .args .n)

@@ -14,37 +14,29 @@ use Rattle.laws.proofs.has8.Reads as has8-reads
 use Rattle.masks.proofs.is_linked.Reads as is-linked-reads
 use Rattle.masks.proofs.is_same.Reads as is-same-reads
 
--- src/lib.rt:148:9
 has8-requires : tie.Need-has8-requires
 has8-requires c κs = search needs
 
--- src/lib.rt:149:9
 returns : tie.Need-returns
 unfolding mirrorFits
 returns c = search tests depth 8 fits 20000
 
--- src/lib.rt:151:9
 has8-requires-2 : tie.Need-has8-requires-2
 has8-requires-2 c κs = search needs
 
--- src/lib.rt:152:9
 returns-2 : tie.Need-returns-2
 unfolding mirrorFits
 returns-2 c = search tests depth 8 fits 20000
 
--- src/lib.rt:154:13
 is-linked-requires : tie.Need-is-linked-requires
 is-linked-requires c κs = search needs
 
--- src/lib.rt:154:41
 is-linked-requires-2 : tie.Need-is-linked-requires-2
 is-linked-requires-2 c κs = search needs
 
--- src/lib.rt:154:5
 is-same-requires : tie.Need-is-same-requires
 is-same-requires c κs = search needs
 
--- src/lib.rt:144:1
 returns-3 : tie.Need-returns-3
 unfolding mirrorFits
 returns-3 c =

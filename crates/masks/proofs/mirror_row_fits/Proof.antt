@@ -17,32 +17,25 @@ Inv-loop links s2 s1 left right n o p₀ p = (p ≤ n) × (all (mirrorFits links
 abbrev μ-loop : tie.MeasureT-loop
 μ-loop links s2 s1 left right n o p₀ p = n - p
 
--- src/lib.rt:160:5
 loop-holds : tie.Need-loop-holds Inv-loop μ-loop
 loop-holds c = search each
 
--- src/lib.rt:161:13
 mirror-fits-requires : tie.Need-mirror-fits-requires Inv-loop μ-loop
 mirror-fits-requires c κs = search needs
 
--- src/lib.rt:162:13
 returns : tie.Need-returns Inv-loop μ-loop
 unfolding mirrorRowFits
 returns c = search each
 
--- src/lib.rt:164:9
 add-p : tie.Need-add-p Inv-loop μ-loop
 add-p c = search needs
 
--- src/lib.rt:160:5
 loop-less : tie.Need-loop-less Inv-loop μ-loop
 loop-less c = search needs
 
--- src/lib.rt:160:5
 loop-again : tie.Need-loop-again Inv-loop μ-loop
 loop-again c = search each
 
--- src/lib.rt:155:1
 returns-2 : tie.Need-returns-2 Inv-loop μ-loop
 unfolding mirrorRowFits
 returns-2 c = search each

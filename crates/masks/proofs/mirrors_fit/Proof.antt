@@ -17,32 +17,25 @@ Inv-loop links s2 s1 left right n o₀ o = (o ≤ n) × (all (mirrorRowFits link
 abbrev μ-loop : tie.MeasureT-loop
 μ-loop links s2 s1 left right n o₀ o = n - o
 
--- src/lib.rt:174:5
 loop-holds : tie.Need-loop-holds Inv-loop μ-loop
 loop-holds c = search each
 
--- src/lib.rt:175:13
 mirror-row-fits-requires : tie.Need-mirror-row-fits-requires Inv-loop μ-loop
 mirror-row-fits-requires c κs = search needs
 
--- src/lib.rt:176:13
 returns : tie.Need-returns Inv-loop μ-loop
 unfolding mirrorsFit
 returns c = search each
 
--- src/lib.rt:178:9
 add-o : tie.Need-add-o Inv-loop μ-loop
 add-o c = search needs
 
--- src/lib.rt:174:5
 loop-less : tie.Need-loop-less Inv-loop μ-loop
 loop-less c = search needs
 
--- src/lib.rt:174:5
 loop-again : tie.Need-loop-again Inv-loop μ-loop
 loop-again c = search each
 
--- src/lib.rt:169:1
 returns-2 : tie.Need-returns-2 Inv-loop μ-loop
 unfolding mirrorsFit
 returns-2 c = search each

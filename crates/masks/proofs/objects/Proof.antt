@@ -10,15 +10,12 @@ use Rattle.masks.proofs.objects.Reads as reads
 use Rattle.masks.proofs.objects.Lts as lts
 use Rattle.laws.proofs.wide.Reads as wide-reads
 
--- src/lib.rt:21:13
 wide-requires : tie.Need-wide-requires
 wide-requires c κs = search needs
 
--- src/lib.rt:21:5
 array-read-result : tie.Need-array-read-result
 array-read-result c = search needs
 
--- src/lib.rt:17:1
 returns : tie.Need-returns
 returns c = λ p. ap (λ (k : ℕ). bit p (getD objectMasks k 0)) (c .wide .ensures .0) ∙ object-masks (c .before .args .n) (c .before .pre) p
 

@@ -13,28 +13,22 @@ use Rattle.masks.proofs.objects.Reads as objects-reads
 use Rattle.masks.proofs.row.Reads as row-reads
 use Rattle.masks.proofs.row_fits.Reads as row-fits-reads
 
--- src/lib.rt:61:9
 has8-requires : tie.Need-has8-requires
 has8-requires c κs = search needs
 
--- src/lib.rt:62:9
 returns : tie.Need-returns
 unfolding rowAtFits
 returns c = search tests depth 8 fits 20000
 
--- src/lib.rt:64:14
 row-requires : tie.Need-row-requires
 row-requires c κs = search needs
 
--- src/lib.rt:64:33
 objects-requires : tie.Need-objects-requires
 objects-requires c κs = search needs
 
--- src/lib.rt:64:5
 row-fits-requires : tie.Need-row-fits-requires
 row-fits-requires c κs = search needs
 
--- src/lib.rt:57:1
 returns-2 : tie.Need-returns-2
 unfolding rowAtFits
 returns-2 c =

@@ -7,15 +7,12 @@ use Rattle.masks.proofs.row_fits.Lts as lts
 use Rattle.laws.proofs.count8.Reads as count8-reads
 use Rattle.masks.proofs.is_within.Reads as is-within-reads
 
--- src/lib.rt:55:52
 count8-requires : tie.Need-count8-requires
 count8-requires c κs = search needs
 
--- src/lib.rt:55:33
 is-within-requires : tie.Need-is-within-requires
 is-within-requires c κs = search needs
 
--- src/lib.rt:52:1
 returns : tie.Need-returns
 returns c = row-test (c .before .before .args .targets) (c .before .before .args .to) (c .before .before .args .low) (c .before .before .args .up) _ (search needs) (search needs) (c .before .count8 .ensures .0) (c .is-within .ensures)
 

@@ -17,32 +17,25 @@ Inv-loop links s from to low up n o₀ o = (o ≤ n) × (all (rowAtFits links s 
 abbrev μ-loop : tie.MeasureT-loop
 μ-loop links s from to low up n o₀ o = n - o
 
--- src/lib.rt:72:5
 loop-holds : tie.Need-loop-holds Inv-loop μ-loop
 loop-holds c = search each
 
--- src/lib.rt:73:13
 row-at-fits-requires : tie.Need-row-at-fits-requires Inv-loop μ-loop
 row-at-fits-requires c κs = search needs
 
--- src/lib.rt:74:13
 returns : tie.Need-returns Inv-loop μ-loop
 unfolding rowsFit
 returns c = search each
 
--- src/lib.rt:76:9
 add-o : tie.Need-add-o Inv-loop μ-loop
 add-o c = search needs
 
--- src/lib.rt:72:5
 loop-less : tie.Need-loop-less Inv-loop μ-loop
 loop-less c = search needs
 
--- src/lib.rt:72:5
 loop-again : tie.Need-loop-again Inv-loop μ-loop
 loop-again c = search each
 
--- src/lib.rt:67:1
 returns-2 : tie.Need-returns-2 Inv-loop μ-loop
 unfolding rowsFit
 returns-2 c = search each

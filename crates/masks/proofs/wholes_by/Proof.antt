@@ -19,27 +19,21 @@ Inv-loop links s left right p n wholes₀ o₀ wholes o = (o ≤ n) × Marks (wh
 abbrev μ-loop : tie.MeasureT-loop
 μ-loop links s left right p n wholes₀ o₀ wholes o = n - o
 
--- src/lib.rt:200:5
 loop-holds : tie.Need-loop-holds Inv-loop μ-loop
 loop-holds c = (search needs, mask-begin _)
 
--- src/lib.rt:201:12
 is-whole-by-requires : tie.Need-is-whole-by-requires Inv-loop μ-loop
 is-whole-by-requires c κs = search needs
 
--- src/lib.rt:202:13
 with8-requires : tie.Need-with8-requires Inv-loop μ-loop
 with8-requires c κs = search needs
 
--- src/lib.rt:204:9
 add-o : tie.Need-add-o Inv-loop μ-loop
 add-o c = search needs
 
--- src/lib.rt:200:5
 loop-less : tie.Need-loop-less Inv-loop μ-loop
 loop-less c = search needs
 
--- src/lib.rt:200:5
 loop-again : tie.Need-loop-again Inv-loop μ-loop
 loop-again c =
     let l = c .before .before .before in
@@ -51,7 +45,6 @@ loop-again c =
           (λ w j. ap (bit j) (w .1) ∙ mask-miss p (l .loop .o) (l .loop .wholes) (l .loop .inv .1) e (w .0 .left) j) (c .if1 .came),
     )
 
--- src/lib.rt:194:1
 returns : tie.Need-returns Inv-loop μ-loop
 returns c =
     let l = c .before in

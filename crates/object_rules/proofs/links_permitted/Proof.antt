@@ -4,7 +4,7 @@ use Rattle.object_rules.proofs.links_permitted.Statement.{statement}
 use Rattle.object_rules.proofs.links_permitted.Tie as tie
 use Rattle.object_rules.proofs.links_permitted.Reads as reads
 use Rattle.object_rules.proofs.links_permitted.Lts as lts
-use Rattle.object_rules.proofs.links_fit.Reads as links-fit-reads
+use Rattle.object_rules.proofs.rule5.links_fit.Reads as links-fit-reads
 
 returns : tie.Need-returns
 returns c = rule5-stray (c .before .args .d) (c .before .args .m) (c .if1 .taken)

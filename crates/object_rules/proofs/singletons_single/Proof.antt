@@ -4,7 +4,7 @@ use Rattle.object_rules.proofs.singletons_single.Statement.{statement}
 use Rattle.object_rules.proofs.singletons_single.Tie as tie
 use Rattle.object_rules.proofs.singletons_single.Reads as reads
 use Rattle.object_rules.proofs.singletons_single.Lts as lts
-use Rattle.object_rules.proofs.are_single.Reads as are-single-reads
+use Rattle.object_rules.proofs.rule2.are_single.Reads as are-single-reads
 
 cast-n : tie.Need-cast-n
 cast-n c = search needs

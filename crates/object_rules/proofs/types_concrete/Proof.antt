@@ -4,7 +4,7 @@ use Rattle.object_rules.proofs.types_concrete.Statement.{statement}
 use Rattle.object_rules.proofs.types_concrete.Tie as tie
 use Rattle.object_rules.proofs.types_concrete.Reads as reads
 use Rattle.object_rules.proofs.types_concrete.Lts as lts
-use Rattle.object_rules.proofs.are_concrete.Reads as are-concrete-reads
+use Rattle.object_rules.proofs.rule1.are_concrete.Reads as are-concrete-reads
 
 cast-count : tie.Need-cast-count
 cast-count c = search needs

@@ -4,7 +4,7 @@ use Rattle.object_rules.proofs.values_belong.Statement.{statement}
 use Rattle.object_rules.proofs.values_belong.Tie as tie
 use Rattle.object_rules.proofs.values_belong.Reads as reads
 use Rattle.object_rules.proofs.values_belong.Lts as lts
-use Rattle.object_rules.proofs.values_fit.Reads as values-fit-reads
+use Rattle.object_rules.proofs.rule4.values_fit.Reads as values-fit-reads
 
 mul-count : tie.Need-mul-count
 mul-count c = search needs

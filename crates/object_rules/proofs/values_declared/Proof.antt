@@ -4,7 +4,7 @@ use Rattle.object_rules.proofs.values_declared.Statement.{statement}
 use Rattle.object_rules.proofs.values_declared.Tie as tie
 use Rattle.object_rules.proofs.values_declared.Reads as reads
 use Rattle.object_rules.proofs.values_declared.Lts as lts
-use Rattle.object_rules.proofs.all_due.Reads as all-due-reads
+use Rattle.object_rules.proofs.rule3.all_due.Reads as all-due-reads
 
 returns : tie.Need-returns
 returns c = rule3-stray (c .before .args .d) (c .before .args .m) (c .if1 .taken)

@@ -5,7 +5,6 @@ use Rattle.resolving.proofs.empty_memory.Tie as tie
 use Rattle.resolving.proofs.empty_memory.Reads as reads
 use Rattle.resolving.proofs.empty_memory.Lts as lts
 
--- src/lib.rt:73:1
 returns : tie.Need-returns
 unfolding emptyMemory
 returns c = search needs

@@ -10,23 +10,18 @@ use Rattle.laws.proofs.wide.Reads as wide-reads
 use Rattle.resolving.proofs.is_constant.Reads as is-constant-reads
 use Rattle.resolving.proofs.is_named.Reads as is-named-reads
 
--- src/lib.rt:55:12
 is-named-requires : tie.Need-is-named-requires
 is-named-requires c κs = search needs
 
--- src/lib.rt:55:77
 wide-requires : tie.Need-wide-requires
 wide-requires c κs = search needs
 
--- src/lib.rt:55:59
 byte-requires : tie.Need-byte-requires
 byte-requires c κs = search needs
 
--- src/lib.rt:55:36
 is-constant-requires : tie.Need-is-constant-requires
 is-constant-requires c κs = search needs
 
--- src/lib.rt:50:1
 returns : tie.Need-returns
 unfolding isCodeIn both
 returns c = cc

@@ -8,15 +8,12 @@ use Rattle.resolving.proofs.is_constant.Lts as lts
 use Rattle.fields.proofs.same_name.Reads as same-name-reads
 use Rattle.fields.proofs.slot_name.Reads as slot-name-reads
 
--- src/lib.rt:45:41
 slot-name-requires : tie.Need-slot-name-requires
 slot-name-requires c κs = search needs
 
--- src/lib.rt:45:23
 same-name-requires : tie.Need-same-name-requires
 same-name-requires c κs = search needs
 
--- src/lib.rt:42:1
 returns : tie.Need-returns
 unfolding isConstantIn both either
 returns c = cc

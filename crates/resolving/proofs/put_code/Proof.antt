@@ -9,43 +9,33 @@ use Rattle.laws.proofs.wide.Reads as wide-reads
 use Rattle.resolving.proofs.with_stray_value.Reads as with-stray-value-reads
 use Rattle.resolving.proofs.with_value.Reads as with-value-reads
 
--- src/lib.rt:163:9
 with-stray-value-requires : tie.Need-with-stray-value-requires
 with-stray-value-requires c κs = search needs
 
--- src/lib.rt:163:9
 returns : tie.Need-returns
 returns c = λ h. search (needs, value-stray)
 
--- src/lib.rt:166:9
 returns-2 : tie.Need-returns-2
 returns-2 c = λ h. absurd (omega arith)
 
--- src/lib.rt:168:19
 wide-requires : tie.Need-wide-requires
 wide-requires c κs = search needs
 
--- src/lib.rt:168:19
 mul-with-value : tie.Need-mul-with-value
 mul-with-value c = search needs
 
--- src/lib.rt:168:45
 wide-requires-2 : tie.Need-wide-requires-2
 wide-requires-2 c κs = search needs
 
--- src/lib.rt:168:19
 add-with-value : tie.Need-add-with-value
 add-with-value c = search needs
 
--- src/lib.rt:168:60
 add-with-value-2 : tie.Need-add-with-value-2
 add-with-value-2 c = search needs
 
--- src/lib.rt:168:5
 with-value-requires : tie.Need-with-value-requires
 with-value-requires c κs = search needs
 
--- src/lib.rt:158:1
 returns-3 : tie.Need-returns-3
 returns-3 c = λ h. search (needs, value-in)
 

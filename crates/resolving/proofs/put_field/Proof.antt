@@ -12,51 +12,39 @@ use Rattle.resolving.proofs.value_code.Reads as value-code-reads
 sized : (c : lts.Start (put-object-reads.Asked, put-object-reads.Learnt, value-code-reads.Asked, value-code-reads.Learnt, put-value-reads.Asked, put-value-reads.Learnt, put-link-reads.Asked, put-link-reads.Learnt) reads.Pre reads.Post) → Sized (c .args .m)
 sized c = search needs
 
--- src/lib.rt:224:9
 returns : tie.Need-returns
 returns c = search (needs, count-takes)
 
--- src/lib.rt:227:46
 cast-put-object : tie.Need-cast-put-object
 cast-put-object c = search needs
 
--- src/lib.rt:227:9
 put-object-requires : tie.Need-put-object-requires
 put-object-requires c κs = search needs
 
--- src/lib.rt:227:9
 returns-2 : tie.Need-returns-2
 returns-2 c = search (needs, object-takes, sized) depth 8 fits 20000
 
--- src/lib.rt:230:13
 value-code-requires : tie.Need-value-code-requires
 value-code-requires c κs = search needs
 
--- src/lib.rt:231:50
 cast-put-value : tie.Need-cast-put-value
 cast-put-value c = search needs
 
--- src/lib.rt:231:9
 put-value-requires : tie.Need-put-value-requires
 put-value-requires c κs = search needs
 
--- src/lib.rt:231:9
 returns-3 : tie.Need-returns-3
 returns-3 c = search (needs, value-takes, sized) depth 8 fits 20000
 
--- src/lib.rt:233:41
 mul-put-link : tie.Need-mul-put-link
 mul-put-link c = search needs
 
--- src/lib.rt:233:40
 cast-put-link : tie.Need-cast-put-link
 cast-put-link c = search needs
 
--- src/lib.rt:233:5
 put-link-requires : tie.Need-put-link-requires
 put-link-requires c κs = search needs
 
--- src/lib.rt:219:1
 returns-4 : tie.Need-returns-4
 returns-4 c = search (needs, link-takes, sized) depth 8 fits 20000
 

@@ -14,35 +14,27 @@ use Rattle.laws.proofs.past.Reads as past-reads
 use Rattle.resolving.proofs.put_target.Reads as put-target-reads
 use Rattle.resolving.proofs.slot_of.Reads as slot-of-reads
 
--- src/lib.rt:203:9
 past-requires : tie.Need-past-requires
 past-requires c κs = search needs
 
--- src/lib.rt:204:31
 name-in-requires : tie.Need-name-in-requires
 name-in-requires c κs = search needs
 
--- src/lib.rt:204:9
 slot-of-requires : tie.Need-slot-of-requires
 slot-of-requires c κs = search needs
 
--- src/lib.rt:205:25
 byte-requires : tie.Need-byte-requires
 byte-requires c κs = search needs
 
--- src/lib.rt:205:54
 past-name-requires : tie.Need-past-name-requires
 past-name-requires c κs = search needs
 
--- src/lib.rt:205:43
 byte-requires-2 : tie.Need-byte-requires-2
 byte-requires-2 c κs = search needs
 
--- src/lib.rt:205:5
 put-target-requires : tie.Need-put-target-requires
 put-target-requires c κs = search needs
 
--- src/lib.rt:199:1
 returns : tie.Need-returns
 unfolding linkOf
 returns c = λ h l. let e = c .put-target .ensures (omega arith) (subst (λ (x : ℕ). x < 8) (cc) l) in cc

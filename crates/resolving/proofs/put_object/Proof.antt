@@ -8,23 +8,18 @@ use Rattle.fields.proofs.name_in.Reads as name-in-reads
 use Rattle.resolving.proofs.slot_of.Reads as slot-of-reads
 use Rattle.resolving.proofs.with_type.Reads as with-type-reads
 
--- src/lib.rt:152:9
 returns : tie.Need-returns
 returns c = λ h. absurd (omega arith)
 
--- src/lib.rt:154:36
 name-in-requires : tie.Need-name-in-requires
 name-in-requires c κs = search needs
 
--- src/lib.rt:154:18
 slot-of-requires : tie.Need-slot-of-requires
 slot-of-requires c κs = search needs
 
--- src/lib.rt:154:5
 with-type-requires : tie.Need-with-type-requires
 with-type-requires c κs = search needs
 
--- src/lib.rt:148:1
 returns-2 : tie.Need-returns-2
 returns-2 c = λ h. cc
 

@@ -10,51 +10,39 @@ use Rattle.resolving.proofs.with_mask.Reads as with-mask-reads
 use Rattle.resolving.proofs.with_stray_link.Reads as with-stray-link-reads
 use Rattle.resolving.proofs.with_target.Reads as with-target-reads
 
--- src/lib.rt:177:9
 with-stray-link-requires : tie.Need-with-stray-link-requires
 with-stray-link-requires c κs = search needs
 
--- src/lib.rt:177:9
 returns : tie.Need-returns
 returns c = λ h l. search (needs, link-stray)
 
--- src/lib.rt:180:9
 returns-2 : tie.Need-returns-2
 returns-2 c = λ h l. absurd (omega arith)
 
--- src/lib.rt:183:9
 returns-3 : tie.Need-returns-3
 returns-3 c = λ h l. absurd (omega arith)
 
--- src/lib.rt:185:13
 wide-requires : tie.Need-wide-requires
 wide-requires c κs = search needs
 
--- src/lib.rt:185:13
 mul-i : tie.Need-mul-i
 mul-i c = search needs
 
--- src/lib.rt:185:37
 wide-requires-2 : tie.Need-wide-requires-2
 wide-requires-2 c κs = search needs
 
--- src/lib.rt:185:13
 add-i : tie.Need-add-i
 add-i c = search needs
 
--- src/lib.rt:186:33
 element-copy-out-with-target : tie.Need-element-copy-out-with-target
 element-copy-out-with-target c = search needs
 
--- src/lib.rt:186:21
 with-target-requires : tie.Need-with-target-requires
 with-target-requires c κs = search needs
 
--- src/lib.rt:186:5
 with-mask-requires : tie.Need-with-mask-requires
 with-mask-requires c κs = search needs
 
--- src/lib.rt:172:1
 returns-4 : tie.Need-returns-4
 returns-4 c = λ h l. search (needs, link-in)
 

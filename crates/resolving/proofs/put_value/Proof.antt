@@ -11,27 +11,21 @@ use Rattle.laws.proofs.past.Reads as past-reads
 use Rattle.resolving.proofs.put_code.Reads as put-code-reads
 use Rattle.resolving.proofs.slot_of.Reads as slot-of-reads
 
--- src/lib.rt:194:47
 past-requires : tie.Need-past-requires
 past-requires c κs = search needs
 
--- src/lib.rt:194:31
 name-in-requires : tie.Need-name-in-requires
 name-in-requires c κs = search needs
 
--- src/lib.rt:194:9
 slot-of-requires : tie.Need-slot-of-requires
 slot-of-requires c κs = search needs
 
--- src/lib.rt:195:23
 byte-requires : tie.Need-byte-requires
 byte-requires c κs = search needs
 
--- src/lib.rt:195:5
 put-code-requires : tie.Need-put-code-requires
 put-code-requires c κs = search needs
 
--- src/lib.rt:190:1
 returns : tie.Need-returns
 unfolding valueOf
 returns c = λ h. let e = c .put-code .ensures (omega arith) in cc

@@ -18,51 +18,39 @@ Inv-loop d file m₀ s₀ m s = Reads (diagramOf d) file m s
 abbrev μ-loop : tie.MeasureT-loop
 μ-loop d file m₀ s₀ m s = length s
 
--- src/lib.rt:241:9
 empty-memory-requires : tie.Need-empty-memory-requires Inv-loop μ-loop
 empty-memory-requires c κs = search needs
 
--- src/lib.rt:243:5
 loop-holds : tie.Need-loop-holds Inv-loop μ-loop
 loop-holds c = search reading depth 8 fits 20000
 
--- src/lib.rt:244:15
 read-head-requires : tie.Need-read-head-requires Inv-loop μ-loop
 read-head-requires c κs = search needs
 
--- src/lib.rt:246:17
 enum-told : tie.Need-enum-told Inv-loop μ-loop
 enum-told c = search needs
 
--- src/lib.rt:246:17
 returns : tie.Need-returns Inv-loop μ-loop
 returns c = search reading depth 8 fits 20000
 
--- src/lib.rt:248:35
 enum-known-tag : tie.Need-enum-known-tag Inv-loop μ-loop
 enum-known-tag c = search needs
 
--- src/lib.rt:249:42
 content-requires : tie.Need-content-requires Inv-loop μ-loop
 content-requires c κs = search needs
 
--- src/lib.rt:249:17
 put-field-requires : tie.Need-put-field-requires Inv-loop μ-loop
 put-field-requires c κs = search needs
 
--- src/lib.rt:250:21
 after-requires : tie.Need-after-requires Inv-loop μ-loop
 after-requires c κs = search needs
 
--- src/lib.rt:243:5
 loop-less : tie.Need-loop-less Inv-loop μ-loop
 loop-less c = search reading depth 8 fits 20000
 
--- src/lib.rt:243:5
 loop-again : tie.Need-loop-again Inv-loop μ-loop
 loop-again c = search reading depth 8 fits 20000
 
--- src/lib.rt:237:1
 returns-2 : tie.Need-returns-2 Inv-loop μ-loop
 returns-2 c = search reading depth 8 fits 20000
 

@@ -9,35 +9,27 @@ use Rattle.fields.proofs.past_name.Reads as past-name-reads
 use Rattle.laws.proofs.past.Reads as past-reads
 use Rattle.resolving.proofs.code_of.Reads as code-of-reads
 
--- src/lib.rt:213:31
 past-requires : tie.Need-past-requires
 past-requires c κs = search needs
 
--- src/lib.rt:213:9
 past-name-requires : tie.Need-past-name-requires
 past-name-requires c κs = search needs
 
--- src/lib.rt:214:29
 past-name-requires-2 : tie.Need-past-name-requires-2
 past-name-requires-2 c κs = search needs
 
--- src/lib.rt:214:9
 name-in-requires : tie.Need-name-in-requires
 name-in-requires c κs = search needs
 
--- src/lib.rt:215:47
 cast-code-of : tie.Need-cast-code-of
 cast-code-of c = search needs
 
--- src/lib.rt:215:62
 name-in-requires-2 : tie.Need-name-in-requires-2
 name-in-requires-2 c κs = search needs
 
--- src/lib.rt:215:5
 code-of-requires : tie.Need-code-of-requires
 code-of-requires c κs = search needs
 
--- src/lib.rt:209:1
 returns : tie.Need-returns
 unfolding valueOf
 returns c = (cc, search needs)

@@ -6,11 +6,9 @@ use Rattle.resolving.proofs.with_target.Reads as reads
 use Rattle.resolving.proofs.with_target.Lts as lts
 use Rattle.laws.proofs.with8.Reads as with8-reads
 
--- src/lib.rt:140:5
 with8-requires : tie.Need-with8-requires
 with8-requires c κs = search needs
 
--- src/lib.rt:136:1
 returns : tie.Need-returns
 returns c = search (needs, mask-with)
 

@@ -12,7 +12,7 @@ use Rattle.searching.specs.Answer.{Answer}
 use Rattle.searching.specs.Handed.{storedOf}
 use Rattle.searching.specs.declared.Found.{Found}
 use Rattle.searching.proofs.FillLaws.{NoneBelow, answer-hit, answer-leaf, answer-none, none-more, none-unfit}
-use Rattle.searching.proofs.PutLaws.{blank-put}
+use Rattle.searching.proofs.AlikeLaws.{blank-put}
 use Rattle.searching.proofs.ReadyLaws.{limit-small, ready-alike, types-few}
 use Rattle.searching.proofs.SkipLaws.{answer-skip}
 use borrow.Fn.Kinds.{In}
@@ -21,9 +21,9 @@ use Rattle.searching.proofs.fill.Reads as fill
 use Rattle.searching.proofs.fill.Kinds as fill-kinds
 use Rattle.searching.proofs.+fill.Lts-fill as fill-lts
 use Rattle.searching.proofs.is_wanted.Reads as is-wanted-reads
-use Rattle.searching.proofs.put.Reads as put-reads
-use Rattle.searching.proofs.skip.Reads as skip-reads
-use Rattle.searching.proofs.spot_fits.Reads as spot-fits-reads
+use Rattle.spot_tests.proofs.put.Reads as put-reads
+use Rattle.spot_tests.proofs.skip.Reads as skip-reads
+use Rattle.spot_tests.proofs.spot_fits.Reads as spot-fits-reads
 use Rattle.searching.proofs.+fill.{statement}
 use Rattle.searching.proofs.+fill.Tie.{close}
 

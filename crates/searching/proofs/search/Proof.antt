@@ -7,10 +7,10 @@ use Rattle.searching.proofs.search.Statement.{statement}
 use Rattle.searching.proofs.search.Tie as tie
 use Rattle.searching.proofs.search.Reads as reads
 use Rattle.searching.proofs.search.Lts as lts
-use Rattle.searching.proofs.blank_record.Reads as blank-record-reads
+use Rattle.spot_tests.proofs.blank_record.Reads as blank-record-reads
 use Rattle.searching.proofs.fill.Reads as fill-reads
 use Rattle.searching.proofs.handed.bytes_of.Reads as bytes-of-reads
-use Rattle.searching.proofs.limits_of.Reads as limits-of-reads
+use Rattle.spot_tests.proofs.limits_of.Reads as limits-of-reads
 
 limits-of-requires : tie.Need-limits-of-requires
 limits-of-requires c κs = search needs

@@ -9,27 +9,21 @@ use Rattle.bench.proofs.no_witness.Reads as no-witness-reads
 use Rattle.bench.proofs.with_place.Reads as with-place-reads
 use Rattle.bench.proofs.with_witness.Reads as with-witness-reads
 
--- src/lib.rt:160:13
 returns : tie.Need-returns
 returns c = search stores depth 8 fits 20000
 
--- src/lib.rt:165:41
 empty-place-requires : tie.Need-empty-place-requires
 empty-place-requires c κs = search needs
 
--- src/lib.rt:165:13
 with-place-requires : tie.Need-with-place-requires
 with-place-requires c κs = search needs
 
--- src/lib.rt:167:36
 no-witness-requires : tie.Need-no-witness-requires
 no-witness-requires c κs = search needs
 
--- src/lib.rt:167:20
 with-witness-requires : tie.Need-with-witness-requires
 with-witness-requires c κs = search needs
 
--- src/lib.rt:155:5
 returns-2 : tie.Need-returns-2
 returns-2 c = search stores depth 8 fits 20000
 

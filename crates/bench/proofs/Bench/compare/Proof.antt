@@ -1,4 +1,4 @@
-use Rattle.bench.proofs.CompareLaws.{compare-count, compare-held, compare-none, compares}
+use Rattle.bench.proofs.CompareLaws.{compare-count, compares, new-held, old-held}
 use borrow.Author.Needs.{needs}
 use Rattle.bench.proofs.Bench.compare.Statement.{statement}
 use Rattle.bench.proofs.Bench.compare.Tie as tie
@@ -18,10 +18,10 @@ returns-3 : tie.Need-returns-3
 returns-3 c = search (needs, compares)
 
 compare-requires : tie.Need-compare-requires
-compare-requires c κs = compare-held _ (c .before .before .before .before .before .before .before .pre) (c .before .before .if2 .left) (c .if3 .left)
+compare-requires c κs = (search (needs, old-held), search (needs, new-held))
 
 cast-count : tie.Need-cast-count
-cast-count c = record { fits = compare-count (c .before .before .before .compare .ensures) (c .before .before .if4 .taken) }
+cast-count c = record { fits = search (needs, compare-count) }
 
 with-witness-requires : tie.Need-with-witness-requires
 with-witness-requires c κs = search needs
@@ -36,11 +36,7 @@ with-witness-requires-2 : tie.Need-with-witness-requires-2
 with-witness-requires-2 c κs = search needs
 
 returns-5 : tie.Need-returns-5
-returns-5 c =
-    let e = c .before .before in
-    let n = e .before .before in
-    compare-none _ _ (n .before .before .before .before .before .before .before .pre) (e .before .compare .ensures) (search needs) (n .before .before .if2 .left) (n .if3 .left)
-    (e .if4 .left) (c .before .no-witness .ensures) (c .with-witness2 .ensures)
+returns-5 c = search (needs, compares)
 
 pub compare-spec : {M : Type 1} → statement M
 compare-spec =

@@ -10,28 +10,22 @@ use Rattle.bench.proofs.Bench.compile.Lts as lts
 use Rattle.bench.proofs.place_of.Reads as place-of-reads
 use Rattle.compiling.proofs.compile.Reads as compile-reads
 
--- src/lib.rt:209:13
 returns : tie.Need-returns
 returns c = search asks depth 8 fits 20000
 
--- src/lib.rt:215:13
 place-of-requires : tie.Need-place-of-requires
 place-of-requires c κs = search needs
 
--- src/lib.rt:217:13
 returns-2 : tie.Need-returns-2
 returns-2 c = search asks depth 8 fits 20000
 
--- src/lib.rt:223:13
 compile-requires : tie.Need-compile-requires
 compile-requires c κs = search (needs, held-place)
 
--- src/lib.rt:227:35
 cast-t11 : tie.Need-cast-t11
 cast-t11 c =
     let few : c .before .before .compile .result .number ≤ 64 = search (number-few, held-place) depth 8 fits 20000 in record { fits = omega arith }
 
--- src/lib.rt:204:5
 returns-3 : tie.Need-returns-3
 returns-3 c = search asks depth 8 fits 20000
 

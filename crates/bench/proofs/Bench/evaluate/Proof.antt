@@ -10,32 +10,25 @@ use Rattle.bench.proofs.Bench.evaluate.Lts as lts
 use Rattle.bench.proofs.place_of.Reads as place-of-reads
 use Rattle.evaluating.proofs.evaluate.Reads as evaluate-reads
 
--- src/lib.rt:238:13
 returns : tie.Need-returns
 returns c = search asks depth 8 fits 20000
 
--- src/lib.rt:243:13
 place-of-requires : tie.Need-place-of-requires
 place-of-requires c κs = search needs
 
--- src/lib.rt:245:13
 returns-2 : tie.Need-returns-2
 returns-2 c = search asks depth 8 fits 20000
 
--- src/lib.rt:250:13
 evaluate-requires : tie.Need-evaluate-requires
 evaluate-requires c κs = search (needs, held-place)
 
--- src/lib.rt:252:13
 returns-3 : tie.Need-returns-3
 returns-3 c = search asks depth 8 fits 20000
 
--- src/lib.rt:259:38
 cast-t10 : tie.Need-cast-t10
 cast-t10 c =
     let few : c .before .before .before .evaluate .result .first ≤ 64 = search (first-few, held-place) depth 8 fits 20000 in record { fits = omega arith }
 
--- src/lib.rt:233:5
 returns-4 : tie.Need-returns-4
 returns-4 c = search asks depth 8 fits 20000
 

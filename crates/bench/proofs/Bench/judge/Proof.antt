@@ -8,27 +8,21 @@ use Rattle.bench.proofs.Bench.judge.Lts as lts
 use Rattle.bench.proofs.place_of.Reads as place-of-reads
 use Rattle.judging.proofs.judge.Reads as judge-reads
 
--- src/lib.rt:178:13
 returns : tie.Need-returns
 returns c = search asks depth 8 fits 20000
 
--- src/lib.rt:183:13
 place-of-requires : tie.Need-place-of-requires
 place-of-requires c κs = search needs
 
--- src/lib.rt:185:13
 returns-2 : tie.Need-returns-2
 returns-2 c = search asks depth 8 fits 20000
 
--- src/lib.rt:190:13
 judge-requires : tie.Need-judge-requires
 judge-requires c κs = search (needs, held-place)
 
--- src/lib.rt:192:13
 returns-3 : tie.Need-returns-3
 returns-3 c = search asks depth 8 fits 20000
 
--- src/lib.rt:173:5
 returns-4 : tie.Need-returns-4
 returns-4 c = search asks depth 8 fits 20000
 

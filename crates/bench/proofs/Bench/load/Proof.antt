@@ -9,31 +9,24 @@ use Rattle.bench.proofs.with_place.Reads as with-place-reads
 use Rattle.bench.proofs.with_witness.Reads as with-witness-reads
 use Rattle.loading.proofs.read_diagram.Reads as read-diagram-reads
 
--- src/lib.rt:127:13
 returns : tie.Need-returns
 returns c = search stores depth 8 fits 20000
 
--- src/lib.rt:132:13
 read-diagram-requires : tie.Need-read-diagram-requires
 read-diagram-requires c κs = search needs
 
--- src/lib.rt:134:13
 returns-2 : tie.Need-returns-2
 returns-2 c = search stores depth 8 fits 20000
 
--- src/lib.rt:140:13
 with-place-requires : tie.Need-with-place-requires
 with-place-requires c κs = search needs
 
--- src/lib.rt:149:36
 no-witness-requires : tie.Need-no-witness-requires
 no-witness-requires c κs = search needs
 
--- src/lib.rt:149:20
 with-witness-requires : tie.Need-with-witness-requires
 with-witness-requires c κs = search needs
 
--- src/lib.rt:122:5
 returns-3 : tie.Need-returns-3
 returns-3 c = search stores depth 8 fits 20000
 

@@ -8,27 +8,21 @@ use Rattle.cases.proofs.differences.load.Lts as lts
 use Rattle.cases.proofs.decode.Reads as decode-reads
 use Rattle.loading.proofs.read_diagram.Reads as read-diagram-reads
 
--- src/differences.rt:82:9
 decode-requires : tie.Need-decode-requires
 decode-requires c κs = search needs
 
--- src/differences.rt:83:27
 slice-reshare-prefix-read-diagram : tie.Need-slice-reshare-prefix-read-diagram
 slice-reshare-prefix-read-diagram c = search needs
 
--- src/differences.rt:83:27
 slice-aggregate-read-diagram : tie.Need-slice-aggregate-read-diagram
 slice-aggregate-read-diagram c = sym (length-take-le _ _ (c .before .before .before .decode .ensures))
 
--- src/differences.rt:83:5
 read-diagram-requires : tie.Need-read-diagram-requires
 read-diagram-requires c κs = search needs
 
--- src/differences.rt:79:1
 same-length : tie.Need-same-length
 same-length c = search needs
 
--- src/differences.rt:79:1
 returns : tie.Need-returns
 returns c = search needs
 

@@ -8,63 +8,48 @@ use Rattle.cases.proofs.differences.behind.Reads as behind-reads
 use Rattle.cases.proofs.differences.load.Reads as load-reads
 use Rattle.cases.proofs.differences.print_reply.Reads as print-reply-reads
 
--- src/differences.rt:106:9
 behind-requires : tie.Need-behind-requires
 behind-requires c κs = search needs
 
--- src/differences.rt:107:18
 ahead-requires : tie.Need-ahead-requires
 ahead-requires c κs = search needs
 
--- src/differences.rt:107:9
 load-requires : tie.Need-load-requires
 load-requires c κs = search needs
 
--- src/differences.rt:108:18
 behind-requires-2 : tie.Need-behind-requires-2
 behind-requires-2 c κs = search needs
 
--- src/differences.rt:108:9
 load-requires-2 : tie.Need-load-requires-2
 load-requires-2 c κs = search needs
 
--- src/differences.rt:113:13
 print-reply-requires : tie.Need-print-reply-requires
 print-reply-requires c κs = (c .before .before .before .before .before .before .before .before .before .before .before .before .before .before .load .ensures (c .before .before .before .before .before .if1 .taken), c .before .before .before .before .before .before .before .before .before .load2 .ensures (c .before .before .before .if2 .taken))
 
--- src/differences.rt:105:1
 same-length : tie.Need-same-length
 same-length c = search needs
 
--- src/differences.rt:105:1
 same-length-2 : tie.Need-same-length-2
 same-length-2 c = search needs
 
--- src/differences.rt:105:1
 returns : tie.Need-returns
 returns c = search needs
 
--- src/differences.rt:105:1
 same-length-3 : tie.Need-same-length-3
 same-length-3 c = search needs
 
--- src/differences.rt:105:1
 same-length-4 : tie.Need-same-length-4
 same-length-4 c = search needs
 
--- src/differences.rt:105:1
 returns-2 : tie.Need-returns-2
 returns-2 c = search needs
 
--- src/differences.rt:105:1
 same-length-5 : tie.Need-same-length-5
 same-length-5 c = search needs
 
--- src/differences.rt:105:1
 same-length-6 : tie.Need-same-length-6
 same-length-6 c = search needs
 
--- src/differences.rt:105:1
 returns-3 : tie.Need-returns-3
 returns-3 c = search needs
 

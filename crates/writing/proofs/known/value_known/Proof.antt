@@ -9,27 +9,21 @@ use Rattle.writing.proofs.known.value_known.Reads as reads
 use Rattle.writing.proofs.known.value_known.Lts as lts
 use Rattle.laws.proofs.wide.Reads as wide-reads
 
--- src/known.rt:18:9
 returns : tie.Need-returns
 returns c = value-none _ _ (c .if1 .taken)
 
--- src/known.rt:21:13
 sub-k : tie.Need-sub-k
 sub-k c = search needs
 
--- src/known.rt:22:9
 wide-requires : tie.Need-wide-requires
 wide-requires c κs = search needs
 
--- src/known.rt:24:9
 returns-2 : tie.Need-returns-2
 returns-2 c = value-untyped _ _ _ (c .before .before .before .if1 .left) (c .before .wide .ensures .0) (c .if2 .taken)
 
--- src/known.rt:26:13
 element-copy-out-n : tie.Need-element-copy-out-n
 element-copy-out-n c = search needs
 
--- src/known.rt:13:1
 returns-3 : tie.Need-returns-3
 returns-3 c =
     let w = c .before .before .wide in

@@ -1,0 +1,4 @@
+pub mod StepLaws
+pub mod LimitLaws
+pub mod PutLaws
+pub mod SkipLaws

@@ -1,0 +1,2 @@
+pub mod BenchLaws
+pub mod StepLaws

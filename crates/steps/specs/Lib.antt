@@ -1,0 +1,5 @@
+pub mod Bench
+pub mod Step
+pub mod Row
+pub mod HandedOut
+pub mod BenchCases
