@@ -114,6 +114,43 @@ fn refusals_of_record_files() {
 }
 
 #[test]
+fn files_at_the_limits_are_accepted() {
+    let folder = Folder::of("at_the_limits");
+    let many =
+        |count: usize, digits: fn(usize) -> String| (0..count).map(digits).collect::<String>();
+    let value_types = many(12, |i| format!("20 00 03 01 {:02X} 00", 0x41 + i));
+    let types = many(24, |i| format!("30 00 04 00 01 {:02X} 00", 0x41 + i));
+    let attributes = "40 00 04 00 01 61 0B".repeat(32);
+    let associations = "50 00 0C 00 01 17 64 64 01 6C 00 64 FF 01 72".repeat(16);
+    let constants = many(8, |i| format!("01 {:02X}", 0x61 + i));
+    let name_of_16 = "41".repeat(16);
+    let values = "62 00 06 07 01 61 01 56 00";
+    for (digits, words) in [
+        (
+            format!("10 00 01 01 {value_types} {types} {attributes} {associations}"),
+            "12 value types, 24 types, 32 attributes, 16 associations",
+        ),
+        (
+            format!("10 00 01 01 20 00 13 01 56 08 {constants}"),
+            "1 value type, ",
+        ),
+        (
+            format!("10 00 01 01 30 00 13 00 10 {name_of_16} 00"),
+            "1 type, ",
+        ),
+        (
+            format!("60 00 01 08 {} {values}", "61 00 02 01 41".repeat(8)),
+            "8 objects, 1 value, no links",
+        ),
+    ] {
+        folder.put("file", &hex(&digits));
+        let ran = folder.line("check file");
+        assert_eq!((ran.status, ran.err.as_str()), (0, ""), "{digits}");
+        assert!(ran.out.contains(words), "{}", ran.out);
+    }
+}
+
+#[test]
 fn the_right_file_is_named() {
     let folder = Folder::of("refused_which");
     folder.put("good.diagram", &sites::p());
