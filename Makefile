@@ -1,10 +1,34 @@
+# make demo: the comparer on its first example, from nothing.
 # make test: everything that must hold, from nothing. Its last line is 'N passed, M failed'.
 # make check: the proofs and programs again, only where something changed.
+# make library: what the Rust programs link to, target/staticlib/libreplay.a.
+# make soak: the proved library beside the independent comparer on ever more made-up input, for SOAK_MINUTES minutes.
+# make bench: how long both take for the same work, side by side.
 
-.PHONY: test check
+.PHONY: demo test check library soak bench
+
+SOAK_MINUTES ?= 10
+export SOAK_MINUTES
+
+demo:
+	@tools/demo
 
 test:
 	@tools/test
 
 check:
 	@rt check
+
+library:
+	@command -v rt >/dev/null || { echo "The Rattle kit is not installed: its command 'rt' was not found." >&2; exit 1; }
+	@echo "Proving the comparer and writing target/staticlib/libreplay.a (some minutes the first time) ..."
+	@rt staticlib replay
+
+# A disagreement ends it and is shown with its seed; 'make soak SOAK_SEED=seed' starts with that one again.
+soak: library
+	@echo "Comparing both sides on made-up input for $(SOAK_MINUTES) minutes (SOAK_MINUTES=N for another time) ..."
+	@SOAK_SEED=$(SOAK_SEED) cargo test --quiet --release --locked --offline --manifest-path rust/Cargo.toml \
+		--package brute --test soak -- --ignored --nocapture
+
+bench: library
+	@cargo run --quiet --release --locked --offline --manifest-path rust/Cargo.toml --package bench

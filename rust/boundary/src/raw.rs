@@ -1,0 +1,43 @@
+//! The library's one function, made safe. The only place that declares it.
+
+use std::thread;
+
+extern "C" {
+    #[link_name = "replay"]
+    fn proved_replay(calls: *const u8, n: usize, replies: *mut u8, m: usize) -> usize;
+}
+
+/// Four times what the deepest search is known to take.
+const STACK_BYTES: usize = 8 << 20;
+
+/// Runs coded calls from a fresh bench, writes the coded replies to the front of `replies` and
+/// returns their number of bytes; bytes behind them stay as they were.
+///
+/// It stops at the first call that is cut off or unknown, or whose reply does not fit.
+pub fn replay(calls: &[u8], replies: &mut [u8]) -> usize {
+    // A thread of its own, since the stack that a search needs may be more than the caller's.
+    thread::scope(|scope| {
+        let worker = thread::Builder::new()
+            .name("replay".into())
+            .stack_size(STACK_BYTES)
+            .spawn_scoped(scope, || call_library(calls, replies))
+            .expect("a thread can be started");
+        worker.join().expect("the library returns")
+    })
+}
+
+/// The call itself, on the thread that it is made from.
+fn call_library(calls: &[u8], replies: &mut [u8]) -> usize {
+    // SAFETY: both slices are valid for the lengths given, `calls` is only read, `replies` is lent
+    // to nobody else meanwhile, and the library keeps neither.
+    let written = unsafe {
+        proved_replay(
+            calls.as_ptr(),
+            calls.len(),
+            replies.as_mut_ptr(),
+            replies.len(),
+        )
+    };
+    assert!(written <= replies.len(), "replies lie within their room");
+    written
+}

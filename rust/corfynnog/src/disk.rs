@@ -1,0 +1,64 @@
+//! Files on disk.
+
+use std::fs::File;
+use std::io::Read;
+use std::path::{Path, PathBuf};
+
+use crate::trouble::Trouble;
+
+/// Far above any diagram or record file; what is longer is not read to its end.
+const MOST_BYTES: u64 = 64 << 20;
+
+/// A file's bytes and where they came from.
+pub struct Loaded {
+    pub path: PathBuf,
+    pub bytes: Vec<u8>,
+}
+
+impl Loaded {
+    /// The file's name for people.
+    pub fn name(&self) -> String {
+        self.path.display().to_string()
+    }
+
+    /// A word to call a diagram by: the file's stem where that is a word, else the one given.
+    pub fn stem_or(&self, other: &str) -> String {
+        let stem = self.path.file_stem().unwrap_or_default().to_string_lossy();
+        let is_word = |letter: char| letter.is_ascii_alphanumeric() || letter == '_';
+        match !stem.is_empty() && stem.chars().all(is_word) {
+            true => stem.into_owned(),
+            false => other.to_string(),
+        }
+    }
+}
+
+/// The whole file.
+pub fn load(path: &Path) -> Result<Loaded, Trouble> {
+    let trouble = |why: String| Trouble::Unreadable {
+        path: path.to_path_buf(),
+        why,
+    };
+    let mut bytes = Vec::new();
+    File::open(path)
+        .and_then(|file| file.take(MOST_BYTES + 1).read_to_end(&mut bytes))
+        .map_err(|error| trouble(plain_words(&error)))?;
+    if bytes.len() as u64 > MOST_BYTES {
+        let most = MOST_BYTES >> 20;
+        return Err(trouble(format!(
+            "it has more than {most} MiB, and no diagram or record file is longer than 59,300 bytes"
+        )));
+    }
+    Ok(Loaded {
+        path: path.to_path_buf(),
+        bytes,
+    })
+}
+
+/// The system's reason without its number.
+pub fn plain_words(error: &std::io::Error) -> String {
+    let text = error.to_string();
+    match text.split_once(" (os error") {
+        Some((words, _)) => words.to_lowercase(),
+        None => text,
+    }
+}

@@ -1,0 +1,70 @@
+//! The nine rules and the refusals in words.
+
+/// What a rule asks of a record.
+pub fn rule_in_words(rule: u8) -> &'static str {
+    match rule {
+        1 => "The type of every object is a class or a singleton class of the diagram.",
+        2 => "Every singleton class is the type of exactly one object.",
+        3 => "An object has a value for exactly those attributes that its type or an ancestor declares.",
+        4 => "A value belongs to the value type of every declaration of its attribute.",
+        5 => "Every link is carried by an association with that role, in that direction and between such objects.",
+        6 => "An object at the start of an association has only targets of the other end's type, as many as the limits there allow.",
+        7 => "An object at the end of a one-way association is the target of as many objects as the limits at the start allow.",
+        8 => "Links of a two-way association come in pairs, one each way.",
+        9 => "An object is part of at most one whole, over all compositions.",
+        _ => "This program knows no rule of that number.",
+    }
+}
+
+/// What a refusal means, and what to do about it.
+pub struct RefusalWords {
+    pub rule: &'static str,
+    pub to_do: &'static str,
+}
+
+/// The words of a refusal of a file.
+pub fn refusal_in_words(number: u8) -> RefusalWords {
+    let (rule, to_do) = match number {
+        1 => (
+            "every field, with its three leading bytes, ends within the file",
+            "the file was probably cut off: fetch or write it again, or correct the field's length",
+        ),
+        2 => (
+            "a file has only the tags of its kind, the first one once and in front, and tags never fall",
+            "check that this is the right kind of file, then put the fields in order",
+        ),
+        3 => (
+            "a field's content has exactly its layout: no byte missing or left over, names of 1 to 16 letters, digits and underscores, numbers within their range",
+            "correct the content of this field",
+        ),
+        4 => (
+            "a file has at most so many fields of a tag, and exactly as many objects as its object count says",
+            "remove fields, or correct the object count",
+        ),
+        5 => (
+            "type names differ, value type names differ, constants of one value type differ; parents, values and links are strictly rising",
+            "rename one of the two, or sort the entries and drop doubles",
+        ),
+        6 => (
+            "an index names something that the file declares, an object number is below the object count, a parent stands before its child",
+            "correct the index or number, or declare what it should name",
+        ),
+        7 => (
+            "an interface has only interfaces as parents",
+            "make the parent an interface, or the child a class",
+        ),
+        8 => (
+            "the left end of a composition is the whole, so that its arrow is not 2 (<-)",
+            "exchange the two ends and use arrow 1 (->)",
+        ),
+        9 => (
+            "the bound is 0 to 8, since a record has at most 8 objects",
+            "give a bound of at most 8",
+        ),
+        _ => (
+            "this program has no words for a refusal of that number",
+            "please report the file and the number",
+        ),
+    };
+    RefusalWords { rule, to_do }
+}

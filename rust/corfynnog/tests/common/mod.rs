@@ -1,0 +1,76 @@
+//! What the tests share: running the built program, and files to run it on.
+#![allow(dead_code)]
+
+pub mod json;
+pub mod sites;
+
+use std::fs;
+use std::path::{Path, PathBuf};
+use std::process::{Command, Stdio};
+
+/// What a run of the program left.
+pub struct Ran {
+    pub status: i32,
+    pub out: String,
+    pub err: String,
+}
+
+/// A folder of a test's own.
+pub struct Folder {
+    path: PathBuf,
+}
+
+impl Folder {
+    /// Empty, whatever an earlier run left.
+    pub fn of(test: &str) -> Folder {
+        let path = Path::new(env!("CARGO_TARGET_TMPDIR")).join(test);
+        let _ = fs::remove_dir_all(&path);
+        fs::create_dir_all(&path).expect("a folder for the test");
+        Folder { path }
+    }
+
+    /// Puts a file into it.
+    pub fn put(&self, name: &str, bytes: &[u8]) {
+        fs::write(self.path.join(name), bytes).expect("a file for the test");
+    }
+
+    /// A file of it.
+    pub fn get(&self, name: &str) -> Option<Vec<u8>> {
+        fs::read(self.path.join(name)).ok()
+    }
+
+    /// Runs the program there. Neither of its outputs is a terminal.
+    pub fn run(&self, words: &[&str]) -> Ran {
+        let done = Command::new(env!("CARGO_BIN_EXE_corfynnog"))
+            .args(words)
+            .current_dir(&self.path)
+            .stdin(Stdio::null())
+            .output()
+            .expect("the program starts");
+        Ran {
+            status: done.status.code().expect("the program ends by itself"),
+            out: String::from_utf8(done.stdout).expect("text"),
+            err: String::from_utf8(done.stderr).expect("text"),
+        }
+    }
+
+    /// Runs a line of words.
+    pub fn line(&self, line: &str) -> Ran {
+        self.run(&line.split_whitespace().collect::<Vec<_>>())
+    }
+}
+
+/// Bytes from their hexadecimal digits.
+pub fn hex(digits: &str) -> Vec<u8> {
+    let digits: Vec<u8> = digits
+        .bytes()
+        .filter(|b| !b.is_ascii_whitespace())
+        .collect();
+    let pairs = digits.chunks(2);
+    pairs
+        .map(|pair| {
+            let pair = std::str::from_utf8(pair).expect("digits");
+            u8::from_str_radix(pair, 16).expect("hexadecimal digits")
+        })
+        .collect()
+}

@@ -1,0 +1,144 @@
+//! Damaged files: the program always ends with one of its three statuses, finds the place of every
+//! refusal, and finds the place of every broken rule.
+
+mod common;
+
+use common::{hex, sites, Folder};
+
+/// A generator of numbers, the same ones in every run.
+struct Numbers(u64);
+
+impl Numbers {
+    fn next(&mut self) -> u64 {
+        self.0 = self.0.wrapping_add(0x9E37_79B9_7F4A_7C15);
+        let mut z = self.0;
+        z = (z ^ (z >> 30)).wrapping_mul(0xBF58_476D_1CE4_E5B9);
+        z = (z ^ (z >> 27)).wrapping_mul(0x94D0_49BB_1331_11EB);
+        z ^ (z >> 31)
+    }
+
+    fn below(&mut self, limit: usize) -> usize {
+        (self.next() % limit as u64) as usize
+    }
+}
+
+/// A file with a byte a little larger or smaller, which often is still a file.
+fn nudge(file: &[u8], numbers: &mut Numbers) -> Vec<u8> {
+    let mut file = file.to_vec();
+    let at = numbers.below(file.len());
+    file[at] = match numbers.below(2) {
+        0 => file[at].wrapping_add(1),
+        _ => file[at].wrapping_sub(1),
+    };
+    file
+}
+
+/// A file with one or two bytes changed, put in or taken out, or its end cut off.
+fn damage(file: &[u8], numbers: &mut Numbers) -> Vec<u8> {
+    let mut file = file.to_vec();
+    for _ in 0..=numbers.below(2) {
+        let at = numbers.below(file.len() + 1);
+        match numbers.below(6) {
+            0 => file.truncate(at),
+            1 => file.insert(at, numbers.next() as u8),
+            2 if at < file.len() => drop(file.remove(at)),
+            3 if at < file.len() => file[at] = numbers.next() as u8,
+            4 if at < file.len() => file[at] = numbers.below(6) as u8,
+            _ if at < file.len() => file[at] ^= 1 << numbers.below(8),
+            _ => (),
+        }
+    }
+    file
+}
+
+/// Diagrams with every kind of field.
+fn diagrams() -> Vec<Vec<u8>> {
+    let values =
+        "10 00 01 01 20 00 03 01 56 00 20 00 07 01 43 02 01 72 01 67 30 00 04 02 01 49 00 \
+        30 00 05 00 01 41 01 00 30 00 05 02 01 4A 01 00 40 00 04 00 01 61 00 40 00 04 01 01 62 01";
+    vec![sites::p(), sites::z(), sites::line_and_port(3), hex(values)]
+}
+
+/// Records with every kind of field.
+fn records() -> Vec<Vec<u8>> {
+    let values =
+        "60 00 01 01 61 00 02 01 41 62 00 06 00 01 61 01 56 00 62 00 07 00 01 62 01 43 01 72";
+    vec![
+        sites::shelf_with(3),
+        sites::one_way(),
+        sites::wrong_way(),
+        hex(values),
+    ]
+}
+
+/// Checks a file that is damaged; what is refused is refused at a place.
+fn check(folder: &Folder, file: &[u8]) -> i32 {
+    folder.put("file", file);
+    let ran = folder.line("check file");
+    let shown = format!("{file:02X?}: {} {}", ran.out, ran.err);
+    assert!(ran.status == 0 || ran.status == 2, "{shown}");
+    assert_eq!(ran.status == 0, ran.err.is_empty(), "{shown}");
+    assert!(
+        !ran.err.contains("panicked") && !ran.err.contains("could not find"),
+        "{shown}"
+    );
+    assert!(!ran.err.contains("cannot explain"), "{shown}");
+    ran.status
+}
+
+/// Damages each file so many times; returns how many were accepted and refused.
+fn check_all(test: &str, files: &[Vec<u8>], times: usize) -> (usize, usize) {
+    let folder = Folder::of(test);
+    let mut numbers = Numbers(1);
+    let mut counts = (0, 0);
+    for file in files {
+        assert_eq!(check(&folder, file), 0, "undamaged: {file:02X?}");
+        for _ in 0..times {
+            let damaged = match numbers.below(3) {
+                0 => nudge(file, &mut numbers),
+                _ => damage(file, &mut numbers),
+            };
+            match check(&folder, &damaged) {
+                0 => counts.0 += 1,
+                _ => counts.1 += 1,
+            }
+        }
+    }
+    counts
+}
+
+#[test]
+fn damaged_diagrams() {
+    let (accepted, refused) = check_all("damaged_diagrams", &diagrams(), 250);
+    assert!(accepted >= 50 && refused >= 500, "{accepted} {refused}");
+}
+
+#[test]
+fn damaged_records() {
+    let (accepted, refused) = check_all("damaged_records", &records(), 250);
+    assert!(accepted >= 50 && refused >= 500, "{accepted} {refused}");
+}
+
+#[test]
+fn every_broken_rule_has_a_place() {
+    let folder = Folder::of("damaged_judged");
+    let mut numbers = Numbers(2);
+    let mut illegal = 0;
+    for (diagram, record) in diagrams().iter().zip(records()).cycle().take(600) {
+        folder.put("d", &nudge(diagram, &mut numbers));
+        folder.put("r", &nudge(&record, &mut numbers));
+        folder.put("whole", diagram);
+        for line in ["judge whole r", "evaluate d r"] {
+            let ran = folder.line(line);
+            let shown = format!("{line}: {} {}", ran.out, ran.err);
+            assert!((0..=2).contains(&ran.status), "{shown}");
+            assert!(
+                !ran.err.contains("panicked") && !ran.err.contains("cannot explain"),
+                "{shown}"
+            );
+            assert!(!ran.out.contains("could not find"), "{shown}");
+            illegal += usize::from(ran.status == 1);
+        }
+    }
+    assert!(illegal >= 100, "{illegal}");
+}

@@ -1,0 +1,112 @@
+//! The folder `examples` of the repository: its files, its texts and its answers.
+
+mod common;
+
+#[path = "../examples/write_examples/builder.rs"]
+mod builder;
+#[path = "../examples/write_examples/pairs.rs"]
+mod pairs;
+
+use std::fs;
+use std::path::{Path, PathBuf};
+
+use common::json::{read, Value};
+use common::Folder;
+
+/// The folder of one example.
+fn example(name: &str) -> PathBuf {
+    let root = Path::new(env!("CARGO_MANIFEST_DIR")).join("../../examples");
+    root.join(name)
+}
+
+/// Compares an example's diagrams; the exit status and the answer.
+fn compare(name: &str, old: &str, new: &str, bound: &str) -> (i32, Value) {
+    let path = |file: &str| example(name).join(file).to_string_lossy().into_owned();
+    let words = [
+        "compare",
+        &path(old),
+        &path(new),
+        "--bound",
+        bound,
+        "--json",
+    ];
+    let ran = Folder::of(&format!("example_{name}_{old}")).run(&words);
+    assert_eq!(ran.err, "");
+    (ran.status, read(&ran.out))
+}
+
+/// The types of the objects of a witness, in alphabetical order.
+fn types(answer: &Value) -> Vec<String> {
+    let objects = answer.get("witness").get("objects");
+    let type_of = |i: usize| objects.at(i).get("type").text().to_string();
+    let mut types: Vec<String> = (0..objects.len()).map(type_of).collect();
+    types.sort();
+    types
+}
+
+#[test]
+fn the_files_are_those_that_the_program_writes() {
+    let pairs = pairs::pairs();
+    assert_eq!(pairs.len(), 3);
+    for (name, old, new) in pairs {
+        for (file, bytes) in [("old.diagram", old), ("new.diagram", new)] {
+            let found = fs::read(example(name).join(file)).expect(name);
+            assert_eq!(
+                found, bytes,
+                "{name}/{file}: run 'cargo run --example write_examples'"
+            );
+        }
+    }
+}
+
+#[test]
+fn the_texts_are_those_of_show() {
+    for (name, _, _) in pairs::pairs() {
+        let readme = fs::read_to_string(example(name).join("README.md")).expect(name);
+        for file in ["old.diagram", "new.diagram"] {
+            let path = example(name).join(file);
+            let ran = Folder::of(&format!("shown_{name}")).run(&["show", &path.to_string_lossy()]);
+            assert_eq!(ran.status, 0);
+            assert!(
+                readme.contains(&ran.out),
+                "{name}: the text of {file} is\n{}",
+                ran.out
+            );
+        }
+    }
+}
+
+#[test]
+fn line_cards_differ() {
+    let (status, answer) = compare("line_cards", "old.diagram", "new.diagram", "8");
+    assert_eq!((status, answer.get("result").text()), (1, "difference"));
+    assert_eq!(types(&answer), ["Card", "Exchange", "Shelf"]);
+    let reason = answer.get("reason");
+    assert_eq!(reason.get("rule").number(), 6);
+    assert_eq!(
+        reason.get("places").at(0).get("text").text(),
+        "Card0 has no link of role lines; allowed: 1 to 32."
+    );
+}
+
+#[test]
+fn card_states_differ() {
+    let (status, answer) = compare("card_states", "old.diagram", "new.diagram", "8");
+    assert_eq!((status, answer.get("objects").number()), (1, 4));
+    assert_eq!(answer.get("reason").get("rule").number(), 4);
+    let place = answer.get("reason").get("places").at(0);
+    assert_eq!(place.get("attribute").text(), "state");
+    assert!(place
+        .get("text")
+        .text()
+        .ends_with("State has no constant blocked."));
+}
+
+#[test]
+fn new_families_allow_all_that_the_old_ones_do() {
+    let (status, answer) = compare("new_families", "old.diagram", "new.diagram", "5");
+    assert_eq!((status, answer.get("result").text()), (0, "no difference"));
+    let (status, answer) = compare("new_families", "new.diagram", "old.diagram", "8");
+    assert_eq!((status, answer.get("result").text()), (1, "difference"));
+    assert_eq!(answer.get("objects").number(), 3);
+}

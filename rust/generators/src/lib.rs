@@ -1,0 +1,28 @@
+//! Made-up diagram files, record files and rows of calls, for tests and benchmarks.
+//!
+//! Everything comes from a seed, so that a case can be made again from its number alone.
+//! Nothing here judges, refuses or compares: it only makes input. `plan` is what a file is to
+//! say, and a plan may say something that a reader has to refuse.
+
+pub mod calls;
+pub mod damage;
+pub mod diagrams;
+pub mod edits;
+pub mod faults;
+pub mod fields;
+pub mod fillings;
+pub mod hex;
+pub mod instances;
+pub mod limits;
+pub mod names;
+pub mod plan;
+pub mod random;
+pub mod record_limits;
+pub mod records;
+pub mod rows;
+
+pub use calls::CallPlan;
+pub use plan::{
+    Association, Attribute, DiagramPlan, End, Link, RecordPlan, Type, Value, ValueType,
+};
+pub use random::Random;

@@ -1,0 +1,79 @@
+//! What the generators promise: the same input for the same seed, and sizes that can be counted by hand.
+
+use generators::damage::{cuts, damaged};
+use generators::diagrams::{diagram, SMALL};
+use generators::edits::edited;
+use generators::fillings::fillings;
+use generators::{Association, DiagramPlan, End, Random, Type};
+
+/// A class without parents.
+fn class(name: &str) -> Type {
+    Type {
+        kind: 0,
+        name: name.as_bytes().to_vec(),
+        parents: Vec::new(),
+    }
+}
+
+/// An end with its limits.
+fn end(of: u8, low: u8, up: u8, role: &str) -> End {
+    let role = role.as_bytes().to_vec();
+    End { of, low, up, role }
+}
+
+/// Shelf and Card: each Card in one Shelf, at most two Cards in a Shelf.
+fn shelf_and_card() -> DiagramPlan {
+    DiagramPlan {
+        types: vec![class("Shelf"), class("Card")],
+        associations: vec![Association {
+            form: 1,
+            arrow: 1,
+            left: end(0, 1, 1, "shelf"),
+            right: end(1, 0, 2, "cards"),
+        }],
+        ..DiagramPlan::default()
+    }
+}
+
+#[test]
+fn a_seed_gives_the_same_input_again() {
+    for seed in 0..50 {
+        let make = || {
+            let mut random = Random::new(seed);
+            let plan = diagram(&mut random, SMALL);
+            let other = edited(&mut random, &plan);
+            let file = damaged(&mut random, &other.fields());
+            (plan, other, file)
+        };
+        assert_eq!(make(), make());
+    }
+}
+
+#[test]
+fn most_edits_change_the_file() {
+    let changed = (0..200).filter(|seed| {
+        let mut random = Random::new(*seed);
+        let plan = diagram(&mut random, SMALL);
+        edited(&mut random, &plan).file() != plan.file()
+    });
+    assert!(changed.count() >= 190);
+}
+
+#[test]
+fn a_file_has_the_bytes_of_the_worked_example() {
+    let bytes = generators::hex::bytes(
+        "10 00 01 01 30 00 08 00 05 53 68 65 6C 66 00 30 00 07 00 04 43 61 72 64 00
+         50 00 14 01 01 00 01 01 05 73 68 65 6C 66 01 00 02 05 63 61 72 64 73",
+    );
+    assert_eq!(shelf_and_card().file(), bytes);
+    assert_eq!(cuts(&bytes).len(), 48);
+}
+
+#[test]
+fn fillings_of_shelves_and_cards() {
+    let count = |objects| fillings(&shelf_and_card(), objects, u64::MAX);
+    // No object; a Shelf or a Card; Shelf and Shelf, twice a Shelf with a Card or without, Card and Card.
+    assert_eq!((count(0), count(1), count(2)), (1, 3, 9));
+    assert_eq!((count(4), count(8)), (193, 2_497_305));
+    assert_eq!(fillings(&shelf_and_card(), 8, 100), 100);
+}
