@@ -5,4 +5,4 @@ pub mod PieceLaws
 pub mod StoredLaws
 pub mod NumberLaws
 pub mod FileLaws
-pub mod KnownLaws
+pub mod WritableLaws

@@ -1,9 +1,9 @@
 use Rattle.laws.proofs.BitLaws.{shifted}
 use borrow.Author.Needs.{needs}
-use Rattle.writing.proofs.known.power.Statement.{statement}
-use Rattle.writing.proofs.known.power.Tie as tie
-use Rattle.writing.proofs.known.power.Reads as reads
-use Rattle.writing.proofs.known.power.Lts as lts
+use Rattle.known_records.proofs.power.Statement.{statement}
+use Rattle.known_records.proofs.power.Tie as tie
+use Rattle.known_records.proofs.power.Reads as reads
+use Rattle.known_records.proofs.power.Lts as lts
 
 shl-result : tie.Need-shl-result
 shl-result c = search needs

@@ -1,27 +1,25 @@
--- Whether a record in memory can be written, in the terms of the arrays: one law for each way out of the functions of `known`.
+-- Whether the diagram has an index for everything in a record, in the terms of the arrays: one law for each way out of the functions.
 -- Assumes nothing.
 use Prim.Native.Nat.{ℕ, _%_, _*_, _+_, _-_, _/_, _^_, _<_, _≤_}
 use mathlib.Core.Bool.{Bool, true, false, _&&_, _||_}
-use mathlib.Core.List.{List, []}
+use mathlib.Core.List.{[]}
 use mathlib.Core.Path.{_≡_, refl, sym, ap, ap₂, _∙_}
-use lib.Dec.{eqb, leb, ltb}
+use lib.Dec.{eqb, ltb}
 use lib.ListN.{length, getD}
-use borrow.Author.Tests.{eq-eqb, leb-true, ne-eqb, le-ltb, lt-ltb}
+use borrow.Author.Tests.{eq-eqb, ne-eqb, le-ltb, lt-ltb}
 use Rattle.laws.specs.Bounded.{all}
 use Rattle.laws.specs.Connective.{both, either}
-use Rattle.laws.proofs.ConnectiveLaws.{both-left, both-right, true-false}
 use Rattle.laws.proofs.JoinedLaws.{length-each}
 use Rattle.laws.proofs.SearchLaws.{both-no, both-yes, either-no, either-yes}
-use Rattle.files.specs.Diagram.{Diagram, valueTypeAt}
+use Rattle.files.specs.Diagram.{valueTypeAt}
 use Rattle.fields.specs.Slot.{slotName}
 use Rattle.diagrams.specs.declared.StoredDiagram.{StoredDiagram}
 use Rattle.diagrams.specs.View.{diagramOf, valueTypeIn}
 use Rattle.diagrams.proofs.ViewLaws.{association-count, attribute-count, type-count, value-type-at, value-type-count}
 use Rattle.records.specs.declared.MemoryRecord.{MemoryRecord}
-use Rattle.records.specs.Written.{Within, constantKnown, recordOf, valueIn}
-use Rattle.records.specs.WithinTest.{objectKnown, rowKnown, targetsKnown, valueKnown, valuesKnown, within}
-use Rattle.records.proofs.WithinLaws.{row-below, within-sound}
-use Rattle.writing.specs.Writes.{Writes, WritesWithin, writable}
+use Rattle.records.specs.Written.{constantKnown, valueIn}
+use Rattle.records.specs.WithinTest.{objectKnown, rowKnown, targetsKnown, valueKnown, valuesKnown}
+use Rattle.records.proofs.WithinLaws.{row-below}
 
 -- a mask of targets by one comparison
 pub row-by : (n x : ℕ) {w p : ℕ} → w ≡ x → w < 256 → p ≡ 2 ^ n → ltb w p ≡ rowKnown n x
@@ -80,21 +78,3 @@ module _ (d : StoredDiagram) where
     pub object-stored : both (ltb (getD (m .types) o 0) (d .types .count)) (both (valuesKnown (diagramOf d) m o) (targetsKnown (diagramOf d) m o)) ≡ objectKnown (diagramOf d) m o
     unfolding objectKnown
     object-stored = ap (λ (n : ℕ). both (ltb (getD (m .types) o 0) n) (both (valuesKnown (diagramOf d) m o) (targetsKnown (diagramOf d) m o))) (sym (type-count d))
-
--- ---- the record
-
-module _ (d : Diagram) (m : MemoryRecord) where
-  module _ (room : ℕ) (h : writable d m room ≡ true) where
-    pub writable-room : 59300 ≤ room
-    unfolding writable
-    writable-room = leb-true 59300 room (both-left (leb 59300 room) (within d m) h)
-
-    pub writable-within : Within d m
-    unfolding writable
-    writable-within = within-sound d m (both-right (leb 59300 room) (within d m) h)
-
-  pub record-written : {before : List ℕ} {n : ℕ} {after : List ℕ} → writable d m (length before) ≡ true → Writes (recordOf d m) before n after → WritesWithin d m before n after
-  record-written h w = record { written = λ t. w; refused = λ f. absurd (true-false h f) }
-
-  pub record-refused : {before : List ℕ} → writable d m (length before) ≡ false → WritesWithin d m before 0 before
-  record-refused h = record { written = λ t. absurd (true-false t h); refused = λ f. (refl, refl) }

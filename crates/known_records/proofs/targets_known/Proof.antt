@@ -1,4 +1,4 @@
-use Rattle.writing.proofs.KnownLaws.{targets-stored}
+use Rattle.known_records.proofs.KnownLaws.{targets-stored}
 use Rattle.records.specs.WithinTest.{rowKnown}
 use Rattle.laws.specs.Bounded.{all}
 use Rattle.laws.proofs.LoopLaws.{each}
@@ -7,11 +7,11 @@ use mathlib.Core.Bool.{false, true}
 use mathlib.Core.Path.{_≡_, _∙_}
 use lib.ListN.{getD}
 use borrow.Author.Needs.{needs}
-use Rattle.writing.proofs.known.targets_known.Statement.{statement}
-use Rattle.writing.proofs.known.targets_known.Tie as tie
-use Rattle.writing.proofs.known.targets_known.Reads as reads
-use Rattle.writing.proofs.known.targets_known.Lts as lts
-use Rattle.writing.proofs.known.row_known.Reads as row-known-reads
+use Rattle.known_records.proofs.targets_known.Statement.{statement}
+use Rattle.known_records.proofs.targets_known.Tie as tie
+use Rattle.known_records.proofs.targets_known.Reads as reads
+use Rattle.known_records.proofs.targets_known.Lts as lts
+use Rattle.known_records.proofs.row_known.Reads as row-known-reads
 
 abbrev Inv-loop : tie.InvT-loop
 Inv-loop o m end n s₀ s = (s ≤ end) × (all (λ i. rowKnown n (getD (m .links) (o * 32 + i) 0)) s ≡ true)

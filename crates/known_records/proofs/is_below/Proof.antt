@@ -1,8 +1,8 @@
 use borrow.Author.Needs.{needs}
-use Rattle.writing.proofs.known.is_below.Statement.{statement}
-use Rattle.writing.proofs.known.is_below.Tie as tie
-use Rattle.writing.proofs.known.is_below.Reads as reads
-use Rattle.writing.proofs.known.is_below.Lts as lts
+use Rattle.known_records.proofs.is_below.Statement.{statement}
+use Rattle.known_records.proofs.is_below.Tie as tie
+use Rattle.known_records.proofs.is_below.Reads as reads
+use Rattle.known_records.proofs.is_below.Lts as lts
 use Rattle.laws.proofs.wide.Reads as wide-reads
 
 wide-requires : tie.Need-wide-requires

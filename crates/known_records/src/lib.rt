@@ -1,11 +1,10 @@
-// Whether a record in memory can be written: the diagram has an index for all of it, and the buffer has room.
+// Whether a diagram has an index for everything in a record in memory.
 ghost use mathlib.Core.Path.{_≡_};
 ghost use Prim.Native.Nat.{_^_, _<_, _≤_};
 ghost use lib.Dec.{ltb};
 ghost use Rattle.diagrams.specs.Held.{Held};
 ghost use Rattle.diagrams.specs.View.{diagramOf};
 ghost use Rattle.records.specs.WithinTest.{valueKnown, valuesKnown, rowKnown, targetsKnown, objectKnown, within};
-ghost use Rattle.writing.specs.Writes.{writable};
 use diagrams::StoredDiagram;
 use records::MemoryRecord;
 
@@ -100,7 +99,7 @@ fn object_known(d: StoredDiagram, m: MemoryRecord, o: usize) -> bool
 }
 
 // The diagram has an index for everything.
-fn is_within(d: StoredDiagram, m: MemoryRecord) -> bool
+pub fn is_within(d: StoredDiagram, m: MemoryRecord) -> bool
     requires { ⌜ Held d ⌝ }
     ensures { λ r. ⌜ r ≡ within (diagramOf d) m ⌝ }
 {
@@ -115,15 +114,4 @@ fn is_within(d: StoredDiagram, m: MemoryRecord) -> bool
         o += 1;
     }
     true
-}
-
-// It does, and a buffer of `room` bytes holds any record's file.
-pub(crate) fn is_writable(d: StoredDiagram, m: MemoryRecord, room: usize) -> bool
-    requires { ⌜ Held d ⌝ }
-    ensures { λ r. ⌜ r ≡ writable (diagramOf d) m room ⌝ }
-{
-    if room < 59300 {
-        return false;
-    }
-    is_within(d, m)
 }

@@ -1,11 +1,11 @@
-use Rattle.writing.proofs.KnownLaws.{row-by}
+use Rattle.known_records.proofs.KnownLaws.{row-by}
 use borrow.Author.Needs.{needs}
-use Rattle.writing.proofs.known.row_known.Statement.{statement}
-use Rattle.writing.proofs.known.row_known.Tie as tie
-use Rattle.writing.proofs.known.row_known.Reads as reads
-use Rattle.writing.proofs.known.row_known.Lts as lts
+use Rattle.known_records.proofs.row_known.Statement.{statement}
+use Rattle.known_records.proofs.row_known.Tie as tie
+use Rattle.known_records.proofs.row_known.Reads as reads
+use Rattle.known_records.proofs.row_known.Lts as lts
 use Rattle.laws.proofs.wide.Reads as wide-reads
-use Rattle.writing.proofs.known.power.Reads as power-reads
+use Rattle.known_records.proofs.power.Reads as power-reads
 
 wide-requires : tie.Need-wide-requires
 wide-requires c κs = search needs

@@ -1,4 +1,4 @@
-use Rattle.writing.proofs.KnownLaws.{object-stored}
+use Rattle.known_records.proofs.KnownLaws.{object-stored}
 use Rattle.records.specs.WithinTest.{targetsKnown, valuesKnown}
 use Rattle.diagrams.specs.View.{diagramOf}
 use Rattle.laws.specs.Connective.{both}
@@ -8,13 +8,13 @@ use mathlib.Core.Path.{_≡_, _∙_}
 use lib.Dec.{ltb}
 use lib.ListN.{getD}
 use borrow.Author.Needs.{needs}
-use Rattle.writing.proofs.known.object_known.Statement.{statement}
-use Rattle.writing.proofs.known.object_known.Tie as tie
-use Rattle.writing.proofs.known.object_known.Reads as reads
-use Rattle.writing.proofs.known.object_known.Lts as lts
-use Rattle.writing.proofs.known.is_below.Reads as is-below-reads
-use Rattle.writing.proofs.known.targets_known.Reads as targets-known-reads
-use Rattle.writing.proofs.known.values_known.Reads as values-known-reads
+use Rattle.known_records.proofs.object_known.Statement.{statement}
+use Rattle.known_records.proofs.object_known.Tie as tie
+use Rattle.known_records.proofs.object_known.Reads as reads
+use Rattle.known_records.proofs.object_known.Lts as lts
+use Rattle.known_records.proofs.is_below.Reads as is-below-reads
+use Rattle.known_records.proofs.targets_known.Reads as targets-known-reads
+use Rattle.known_records.proofs.values_known.Reads as values-known-reads
 
 element-copy-out-is-below : tie.Need-element-copy-out-is-below
 element-copy-out-is-below c = search needs

@@ -1,4 +1,4 @@
-use Rattle.writing.proofs.KnownLaws.{values-stored}
+use Rattle.known_records.proofs.KnownLaws.{values-stored}
 use Rattle.records.specs.Written.{valueIn}
 use Rattle.records.specs.WithinTest.{valueKnown}
 use Rattle.diagrams.specs.View.{diagramOf}
@@ -8,11 +8,11 @@ use Prim.Native.Nat.{_-_, _≤_}
 use mathlib.Core.Bool.{false, true}
 use mathlib.Core.Path.{_≡_, _∙_}
 use borrow.Author.Needs.{needs}
-use Rattle.writing.proofs.known.values_known.Statement.{statement}
-use Rattle.writing.proofs.known.values_known.Tie as tie
-use Rattle.writing.proofs.known.values_known.Reads as reads
-use Rattle.writing.proofs.known.values_known.Lts as lts
-use Rattle.writing.proofs.known.value_known.Reads as value-known-reads
+use Rattle.known_records.proofs.values_known.Statement.{statement}
+use Rattle.known_records.proofs.values_known.Tie as tie
+use Rattle.known_records.proofs.values_known.Reads as reads
+use Rattle.known_records.proofs.values_known.Lts as lts
+use Rattle.known_records.proofs.value_known.Reads as value-known-reads
 
 abbrev Inv-loop : tie.InvT-loop
 Inv-loop d o m end s₀ s = (s ≤ end) × (all (λ i. valueKnown (diagramOf d) (valueIn m o i)) s ≡ true)

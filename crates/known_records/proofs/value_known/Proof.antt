@@ -1,12 +1,12 @@
-use Rattle.writing.proofs.KnownLaws.{value-none, value-untyped, value-typed}
+use Rattle.known_records.proofs.KnownLaws.{value-none, value-untyped, value-typed}
 use native.Mathlib.Omega.{arith}
 use mathlib.Core.Path.{refl}
 use Prim.Native.Nat.{_<_}
 use borrow.Author.Needs.{needs}
-use Rattle.writing.proofs.known.value_known.Statement.{statement}
-use Rattle.writing.proofs.known.value_known.Tie as tie
-use Rattle.writing.proofs.known.value_known.Reads as reads
-use Rattle.writing.proofs.known.value_known.Lts as lts
+use Rattle.known_records.proofs.value_known.Statement.{statement}
+use Rattle.known_records.proofs.value_known.Tie as tie
+use Rattle.known_records.proofs.value_known.Reads as reads
+use Rattle.known_records.proofs.value_known.Lts as lts
 use Rattle.laws.proofs.wide.Reads as wide-reads
 
 returns : tie.Need-returns

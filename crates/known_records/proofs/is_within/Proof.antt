@@ -9,11 +9,11 @@ use Prim.Native.Nat.{_-_, _≤_}
 use mathlib.Core.Bool.{false, true}
 use mathlib.Core.Path.{_≡_}
 use borrow.Author.Needs.{needs}
-use Rattle.writing.proofs.known.is_within.Statement.{statement}
-use Rattle.writing.proofs.known.is_within.Tie as tie
-use Rattle.writing.proofs.known.is_within.Reads as reads
-use Rattle.writing.proofs.known.is_within.Lts as lts
-use Rattle.writing.proofs.known.object_known.Reads as object-known-reads
+use Rattle.known_records.proofs.is_within.Statement.{statement}
+use Rattle.known_records.proofs.is_within.Tie as tie
+use Rattle.known_records.proofs.is_within.Reads as reads
+use Rattle.known_records.proofs.is_within.Lts as lts
+use Rattle.known_records.proofs.object_known.Reads as object-known-reads
 
 abbrev Inv-loop : tie.InvT-loop
 Inv-loop d m o₀ o = (o ≤ m .count) × (all (objectKnown (diagramOf d) m) o ≡ true)
