@@ -208,9 +208,9 @@ fn a_file_of_neither_kind() {
 #[test]
 fn a_bound_above_8_is_refusal_9() {
     let folder = Folder::of("refused_bound");
-    folder.put("p.diagram", &sites::p());
+    folder.put("e.diagram", &sites::e());
     for bound in ["9", "255"] {
-        let ran = folder.run(&["compare", "p.diagram", "p.diagram", "--bound", bound]);
+        let ran = folder.run(&["compare", "e.diagram", "e.diagram", "--bound", bound]);
         assert_eq!((ran.status, ran.out.as_str()), (2, ""));
         let first = format!("corfynnog: The bound {bound} is refused (refusal 9).\n");
         assert!(ran.err.starts_with(&first), "{}", ran.err);
