@@ -3,7 +3,5 @@ pub mod StoredLaws
 pub mod AssociationLaws
 pub mod AncestorSetLaws
 pub mod TypeLaws
-pub mod NumberLaws
-pub mod FieldLaws
 pub mod GrownLaws
 pub mod ReaderLaws

@@ -1,4 +1,3 @@
 pub mod Stored
 pub mod Loads
-pub mod Numbers
 pub mod Grown

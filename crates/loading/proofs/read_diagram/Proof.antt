@@ -14,7 +14,7 @@ use Rattle.diagrams.proofs.empty_diagram.Reads as empty-diagram-reads
 use Rattle.fields.proofs.after.Reads as after-reads
 use Rattle.fields.proofs.content.Reads as content-reads
 use Rattle.fields.proofs.read_head.Reads as read-head-reads
-use Rattle.loading.proofs.field_no.Reads as field-no-reads
+use Rattle.refusing.proofs.field_no.Reads as field-no-reads
 use Rattle.loading.proofs.with_field.Reads as with-field-reads
 
 abbrev Inv-loop : tie.InvT-loop
