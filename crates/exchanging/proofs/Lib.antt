@@ -1,2 +1,3 @@
 pub mod SwapLaws
 pub mod ExchangeLaws
+pub mod AlikeLaws

@@ -1,1 +1,2 @@
 pub mod Exchange
+pub mod Alike
