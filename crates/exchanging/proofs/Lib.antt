@@ -1,3 +1,4 @@
 pub mod SwapLaws
 pub mod ExchangeLaws
 pub mod AlikeLaws
+pub mod ExchangedInLaws

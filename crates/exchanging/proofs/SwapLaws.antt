@@ -92,15 +92,19 @@ tally-without-two i j p n hi hj other =
 
 -- ---- at each, at some, at how many
 
+-- a test of each index is a test of each that they go to, where two steps lead back
+pub all-turned : (f : ℕ → ℕ) (n : ℕ) → ((k : ℕ) → k < n → f k < n) → ((k : ℕ) → k < n → f (f k) ≡ k) → (p : ℕ → Bool) → all (λ k. p (f k)) n ≡ all p n
+all-turned f n below back p =
+    same-test (all (λ k. p (f k)) n) (all p n)
+    (λ e. all-of p n (λ k l. ap p (sym (back k l)) ∙ all-at (λ k. p (f k)) n e (f k) (below k l)))
+    (λ e. all-of (λ k. p (f k)) n (λ k l. all-at p n e (f k) (below k l)))
+
 module _ (i j n : ℕ) (hi : i < n) (hj : j < n) (p : ℕ → Bool) where
   abbrev moved : ℕ → Bool
   moved k = p (swap i j k)
 
   pub all-swap : all (λ k. p (swap i j k)) n ≡ all p n
-  all-swap =
-      same-test (all moved n) (all p n)
-      (λ e. all-of p n (λ k l. ap p (sym (swap-twice i j k)) ∙ all-at moved n e (swap i j k) (swap-below i j n hi hj k l)))
-      (λ e. all-of moved n (λ k l. all-at p n e (swap i j k) (swap-below i j n hi hj k l)))
+  all-swap = all-turned (swap i j) n (swap-below i j n hi hj) (λ k l. swap-twice i j k) p
 
   pub any-swap : any (λ k. p (swap i j k)) n ≡ any p n
   any-swap =
