@@ -2,3 +2,4 @@ pub mod SwapLaws
 pub mod ExchangeLaws
 pub mod AlikeLaws
 pub mod ExchangedInLaws
+pub mod ExchangedMemory
