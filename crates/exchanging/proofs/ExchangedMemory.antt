@@ -10,7 +10,6 @@ use lib.Dec.{eqb}
 use lib.ListN.{getD, length}
 use borrow.Author.Tests.{eqb-true, lt-ltb}
 use Rattle.laws.specs.Bits.{bit, maskOf}
-use Rattle.laws.specs.Connective.{both}
 use Rattle.files.specs.Diagram.{Diagram}
 use Rattle.files.specs.Membership.{hasLink}
 use Rattle.files.specs.Name.{sameName}
@@ -18,7 +17,7 @@ use Rattle.files.specs.Record.{Record, linkAt, objectCount}
 use Rattle.files.specs.WellFormedDiagram.{WfDiagram}
 use Rattle.records.specs.declared.MemoryRecord.{MemoryRecord}
 use Rattle.records.specs.Represents.{linkBit}
-use Rattle.records.specs.Slots.{ownRole, roleCount, roleName}
+use Rattle.records.specs.Slots.{ownRole, roleName}
 use Rattle.records.specs.Written.{IsValue, Within, linkIn, valueIn}
 use Rattle.rules.specs.Judge.{Legal, judge}
 use Rattle.memory_rules.specs.Stands.{Stands}

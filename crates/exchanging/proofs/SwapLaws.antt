@@ -92,7 +92,7 @@ tally-without-two i j p n hi hj other =
 
 -- ---- at each, at some, at how many
 
--- a test of each index is a test of each that they go to, where two steps lead back
+-- a test of each index below a bound is a test of each that they go to, where two steps lead back
 pub all-turned : (f : ℕ → ℕ) (n : ℕ) → ((k : ℕ) → k < n → f k < n) → ((k : ℕ) → k < n → f (f k) ≡ k) → (p : ℕ → Bool) → all (λ k. p (f k)) n ≡ all p n
 all-turned f n below back p =
     same-test (all (λ k. p (f k)) n) (all p n)

@@ -24,7 +24,7 @@ exchangedValue i j v = record { object = swap i j (v .object); attribute = v .at
 abbrev pub exchangedLink : ℕ → ℕ → Link → Link
 exchangedLink i j k = record { from = swap i j (k .from); role = k .role; to = swap i j (k .to) }
 
--- a site in which i is what j was, and j what i was
+-- a site in which i is what j was, and j what i was. A value or a link of it is one of the site with its objects exchanged.
 abbrev pub exchanged : ℕ → ℕ → Site → Site
 exchanged i j x = record {
   count = x .count;
