@@ -1,0 +1,159 @@
+-- Laws of growth, for any property of worlds that is blind from place k on.
+-- The one step that is not bookkeeping is `tried-call`. Let a wanted world have an extra object o of the type t that is about to be
+-- forbidden. Either some extra object has a type that is forbidden already, and then that type was tried. Or none has: then o
+-- goes to place k, and the world so made starts with the given types and t, avoids what is forbidden, and is still wanted, so
+-- the growth with t at place k has covered it.
+-- Assumes nothing.
+use mathlib.Core.Path.{_≡_, refl, sym, ap, subst, _∙_}
+use mathlib.Core.Bool.{Bool, true, false, _&&_, _||_}
+use mathlib.Core.Logic.{⊎-elim, _⊎_}
+use mathlib.Core.List.{List}
+use Prim.Native.Nat.{ℕ, _+_, _≤_, _<_}
+use native.Mathlib.Nat.{eq-or-lt-of-le}
+use native.Mathlib.Omega.{arith}
+use lib.Dec.{eqb, leb}
+use lib.ListN.{length, getD, set}
+use lib.Seq.{getD-set-same, getD-set-other}
+use borrow.Author.Tests.{eqb-true, leb-true, le-leb}
+use Rattle.laws.specs.Bits.{bit}
+use Rattle.laws.specs.Bounded.{any}
+use Rattle.laws.proofs.BoundedLaws.{any-at, any-no}
+use Rattle.laws.proofs.ConnectiveLaws.{and-left, and-right, or-cases, or-left, same-test, true-false, known}
+use Rattle.growing.specs.World.{World, exchanged, swap, Blind}
+use Rattle.growing.specs.Growth.{Extends, Nowhere, Extra, Demanded, Ended, Grown, Tried}
+use Rattle.growing.proofs.SwapLaws.{swap-left, swap-else, swap-above, swap-below}
+
+-- below m + 1: m, or below m
+up-to : (x m : ℕ) → x < m + 1 → (x ≡ m) ⊎ (x < m)
+up-to x m h = eq-or-lt-of-le (omega arith)
+
+-- a type outside the larger of two masks is outside the smaller
+outside : (x forb f : ℕ) → (bit x forb ≡ true → bit x f ≡ true) → bit x f ≡ false → bit x forb ≡ false
+outside x forb f sub e = ⊎-elim (λ p. absurd (true-false (sub p) e)) (λ p. p) (known (bit x forb))
+
+-- the extra object o of the type x goes to place k
+pub into : (kinds : List ℕ) (k forb n : ℕ) → k < length kinds → (w : World) → Extends kinds k forb n w
+    → (f x o : ℕ) → k ≤ o → o < w .size → w .kind o ≡ x → ((p : ℕ) → k ≤ p → p < w .size → bit (w .kind p) f ≡ false)
+    → Extends (set kinds k x) (k + 1) f n (exchanged k o w)
+into kinds k forb n room w e f x o past below is free = record {
+  few = e .few;
+  many = omega arith;
+  kept = λ p h. ⊎-elim
+      (λ q. subst (λ (m : ℕ). w .kind (swap k o m) ≡ getD (set kinds k x) m 0) (sym q)
+      (ap (w .kind) (swap-left k o) ∙ is ∙ sym (getD-set-same kinds k x 0 room)))
+      (λ l. ap (w .kind) (swap-else k o p (λ z. omega arith) (λ z. omega arith)) ∙ e .kept p l ∙ sym (getD-set-other kinds k p x 0 (omega arith)))
+      (up-to p k h);
+  avoids = λ p h l. free (swap k o p) (swap-above k o k (omega arith) past p (omega arith)) (swap-below k o (w .size) (omega arith) below p l);
+}
+
+-- a world that starts with the given types and x starts with the given types
+pub out-of : (kinds : List ℕ) (k forb f n x : ℕ) → k < length kinds → bit x forb ≡ false
+    → ((y : ℕ) → bit y forb ≡ true → bit y f ≡ true) → (w : World) → Extends (set kinds k x) (k + 1) f n w → Extends kinds k forb n w
+out-of kinds k forb f n x room free sub w e = record {
+  few = e .few;
+  many = omega (arith, e .many);
+  kept = λ o h. e .kept o (omega arith) ∙ getD-set-other kinds k o x 0 (omega arith);
+  avoids = λ o h l. ⊎-elim
+      (λ q. subst (λ (m : ℕ). bit (w .kind m) forb ≡ false) q
+      (ap (λ (y : ℕ). bit y forb) (e .kept k (omega arith) ∙ getD-set-same kinds k x 0 room) ∙ free))
+      (λ m. outside (w .kind o) forb f (sub (w .kind o)) (e .avoids o (omega arith) l)) (eq-or-lt-of-le h);
+}
+
+-- ---- the loop over the types of one more object
+
+module _ (S : World → Type 0) (types : ℕ) (kinds : List ℕ) (k forb n g : ℕ) where
+  pub tried-begin : Tried S types kinds k forb n g 0 forb
+  tried-begin = record {
+    within = omega arith;
+    kept = λ x h. h;
+    added = λ x p q. absurd (true-false p q);
+    none = λ w e s o a b l. absurd (omega arith);
+  }
+
+  -- a type that is not in the mask, or is forbidden, is passed over
+  pub tried-skip : (t f : ℕ) → t < types → (bit t g ≡ true → bit t f ≡ true)
+      → Tried S types kinds k forb n g t f → Tried S types kinds k forb n g (t + 1) f
+  tried-skip t f h skip a = record {
+    within = omega arith;
+    kept = a .kept;
+    added = λ x p q. let r = a .added x p q in (omega (arith, r .0), r .1);
+    none = λ w e s o past below l typed. ⊎-elim
+        (λ z.
+        let r = a .added t (skip (ap (λ (y : ℕ). bit y g) (sym z) ∙ typed)) (ap (λ (y : ℕ). bit y forb) (sym z) ∙ e .avoids o past below) in
+        omega (arith, r .0))
+        (λ m. a .none w e s o past below m typed) (up-to (w .kind o) t l);
+  }
+
+  -- a type with which the growth found nothing is forbidden from here on
+  pub tried-call : (t f u : ℕ) → t < types → k < length kinds → Blind k S → bit t g ≡ true → Tried S types kinds k forb n g t f
+      → Nowhere S (set kinds k t) (k + 1) f n → ((j : ℕ) → bit j u ≡ bit j f || eqb j t) → Tried S types kinds k forb n g (t + 1) u
+  tried-call t f u h room blind ing a nowhere is = record {
+    within = omega arith;
+    kept = λ x p. is x ∙ or-left (bit x f) (eqb x t) (a .kept x p);
+    added = λ x p q. ⊎-elim (λ z. let r = a .added x z q in (omega (arith, r .0), r .1))
+        (λ z. let y : x ≡ t = eqb-true x t z in (omega arith, ap (λ (y : ℕ). bit y g) y ∙ ing))
+        (or-cases (bit x f) (eqb x t) (sym (is x) ∙ p));
+    none = λ w e s o past below l typed. ⊎-elim
+        (λ z. covered w e s o past below z (any (taken w) (w .size)) refl)
+        (λ m. a .none w e s o past below m typed) (up-to (w .kind o) t l);
+  }
+    where
+      -- an extra object whose type is forbidden already
+      taken : World → ℕ → Bool
+      taken w p = leb k p && bit (w .kind p) f
+
+      free : (w : World) → any (taken w) (w .size) ≡ false → (p : ℕ) → k ≤ p → p < w .size → bit (w .kind p) f ≡ false
+      free w e p past below = sym (ap (λ (b : Bool). b && bit (w .kind p) f) (le-leb k p past)) ∙ any-no (taken w) (w .size) e p below
+
+      covered : (w : World) → Extends kinds k forb n w → S w → (o : ℕ) → k ≤ o → o < w .size → w .kind o ≡ t
+          → (b : Bool) → any (taken w) (w .size) ≡ b → ⊥
+      covered w e s o past below z true some =
+          let v = any-at (taken w) (w .size) some in
+          let p : k ≤ v .0 = leb-true k (v .0) (and-left (leb k (v .0)) (bit (w .kind (v .0)) f) (v .2)) in
+          let r = a .added (w .kind (v .0)) (and-right (leb k (v .0)) (bit (w .kind (v .0)) f) (v .2)) (e .avoids (v .0) p (v .1)) in
+          a .none w e s (v .0) p (v .1) (r .0) (r .1)
+      covered w e s o past below z false some =
+          nowhere (exchanged k o w) (into kinds k forb n room w e f t o past below z (free w some))
+          (blind w k o (omega arith) past (omega arith) below s)
+
+-- ---- the ways out of the growth
+
+module _ (S : World → Type 0) (types : ℕ) (kinds : List ℕ) (k forb n : ℕ) where
+  pub grown-none : (ok : Bool) (m : World) → ok ≡ false → Nowhere S kinds k forb n → Grown S kinds k forb n ok m
+  grown-none ok m e h = record { fits = λ z. absurd (true-false z e); sound = λ z. absurd (true-false z e); complete = λ _. h }
+
+  -- the k objects alone are enough
+  pub grown-end : (skip ok : Bool) (m : World) → k ≤ n → Ended S kinds k skip ok m → ok ≡ true → Grown S kinds k forb n ok m
+  grown-end skip ok m le a e = record {
+    fits = λ _. let z = a .size e in
+        record { few = omega arith; many = omega arith; kept = a .kept e; avoids = λ o p q. absurd (omega arith) };
+    sound = a .sound;
+    complete = λ z. absurd (true-false e z);
+  }
+
+  -- the growth with t at place k found a world
+  pub grown-call : (g t f : ℕ) (ok : Bool) (m : World) → k < length kinds → bit t f ≡ false → Tried S types kinds k forb n g t f
+      → Grown S (set kinds k t) (k + 1) f n ok m → ok ≡ true → Grown S kinds k forb n ok m
+  grown-call g t f ok m room free a r e = record {
+    fits = λ z. out-of kinds k forb f n t room (outside t forb f (a .kept t) free) (a .kept) m (r .fits z);
+    sound = r .sound;
+    complete = λ z. absurd (true-false e z);
+  }
+
+  -- where nothing was found with the k objects alone, each wanted world has an extra object
+  pub beyond-end : (dead more ok : Bool) (g : ℕ) (m : World) → Demanded S types kinds k forb n dead more g → Ended S kinds k more ok m → ok ≡ false
+      → (w : World) → Extends kinds k forb n w → S w → k < w .size
+  beyond-end dead more ok g m a b e w x s = ⊎-elim (λ z. a .beyond z w x s)
+      (λ z. ⊎-elim (λ y. absurd (b .complete e z w (sym y) (x .kept) s)) (λ l. l) (eq-or-lt-of-le (x .many))) (known more)
+
+  -- and where no place is spare, there is none
+  pub no-room : (dead more ok : Bool) (g : ℕ) (m : World) → n ≤ k → Demanded S types kinds k forb n dead more g → Ended S kinds k more ok m → ok ≡ false
+      → Nowhere S kinds k forb n
+  no-room dead more ok g m full a b e w x s = omega (arith, x .few, beyond-end dead more ok g m a b e w x s)
+
+  -- and where all types were tried
+  pub all-tried : (dead more ok : Bool) (g t f : ℕ) (m : World) → types ≤ t → Demanded S types kinds k forb n dead more g → Ended S kinds k more ok m
+      → ok ≡ false → Tried S types kinds k forb n g t f → Nowhere S kinds k forb n
+  all-tried dead more ok g t f m h a b e r w x s =
+      let v = a .extra w x s (beyond-end dead more ok g m a b e w x s) in
+      r .none w x s (v .at) (v .past) (v .below) (omega (arith, v .small)) (v .typed)

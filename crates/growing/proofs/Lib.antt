@@ -1,0 +1,3 @@
+pub mod SwapLaws
+pub mod GrowthLaws
+pub mod SplitLaws
