@@ -5,7 +5,7 @@
 -- the growth with t at place k has covered it.
 -- Assumes nothing.
 use mathlib.Core.Path.{_≡_, refl, sym, ap, subst, _∙_}
-use mathlib.Core.Bool.{Bool, true, false, _&&_, _||_}
+use mathlib.Core.Bool.{Bool, true, false, not, _&&_, _||_}
 use mathlib.Core.Logic.{⊎-elim, _⊎_}
 use mathlib.Core.List.{List}
 use Prim.Native.Nat.{ℕ, _+_, _≤_, _<_}
@@ -14,11 +14,11 @@ use native.Mathlib.Omega.{arith}
 use lib.Dec.{eqb, leb}
 use lib.ListN.{length, getD, set}
 use lib.Seq.{getD-set-same, getD-set-other}
-use borrow.Author.Tests.{eqb-true, leb-true, le-leb}
+use borrow.Author.Tests.{eqb-true, eqb-false, leb-true, le-leb}
 use Rattle.laws.specs.Bits.{bit}
 use Rattle.laws.specs.Bounded.{any}
 use Rattle.laws.proofs.BoundedLaws.{any-at, any-no}
-use Rattle.laws.proofs.ConnectiveLaws.{and-left, and-right, or-cases, or-left, same-test, true-false, known}
+use Rattle.laws.proofs.ConnectiveLaws.{and-left, and-right, and-both, or-cases, or-left, true-false, known}
 use Rattle.growing.specs.World.{World, exchanged, swap, Blind}
 use Rattle.growing.specs.Growth.{Extends, Nowhere, Extra, Demanded, Ended, Grown, Tried}
 use Rattle.growing.proofs.SwapLaws.{swap-left, swap-else, swap-above, swap-below}
@@ -59,7 +59,28 @@ out-of kinds k forb f n x room free sub w e = record {
       (λ m. outside (w .kind o) forb f (sub (w .kind o)) (e .avoids o (omega arith) l)) (eq-or-lt-of-le h);
 }
 
+-- a property that is blind from place k on is so from each later place on
+pub blind-later : (S : World → Type 0) (k l : ℕ) → k ≤ l → Blind k S → Blind l S
+blind-later S k l h blind w i j a b = blind w i j (omega arith) (omega arith)
+
+-- and so are two together
+pub blind-both : (S R : World → Type 0) (k : ℕ) → Blind k S → Blind k R → Blind k (λ w. S w × R w)
+blind-both S R k f g w i j a b c d s = (f w i j a b c d (s .0), g w i j a b c d (s .1))
+
+-- with one more type the list still has types of the diagram only
+pub kinds-more : (types m : ℕ) (kinds : List ℕ) (k x : ℕ) → k < length kinds → x < types
+    → ((o : ℕ) → o < m → getD kinds o 0 < types) → (o : ℕ) → o < m → getD (set kinds k x) o 0 < types
+kinds-more types m kinds k x room h small o l = go (eqb o k) refl
+  where
+    go : (b : Bool) → eqb o k ≡ b → getD (set kinds k x) o 0 < types
+    go true e = subst (λ (p : ℕ). getD (set kinds k x) p 0 < types) (sym (eqb-true o k e)) (rw (getD-set-same kinds k x 0 room) h)
+    go false e = rw (getD-set-other kinds k o x 0 (eqb-false o k e)) (small o l)
+
 -- ---- the loop over the types of one more object
+
+-- a type that is not both in the mask and allowed: what `tried-skip` asks
+pub passed-over : (t g f : ℕ) → bit t g && not (bit t f) ≡ false → bit t g ≡ true → bit t f ≡ true
+passed-over t g f e h = ⊎-elim (λ z. z) (λ z. absurd (true-false (and-both (bit t g) (not (bit t f)) h (ap not z)) e)) (known (bit t f))
 
 module _ (S : World → Type 0) (types : ℕ) (kinds : List ℕ) (k forb n g : ℕ) where
   pub tried-begin : Tried S types kinds k forb n g 0 forb

@@ -1,3 +1,4 @@
 pub mod SwapLaws
 pub mod GrowthLaws
 pub mod SplitLaws
+pub mod DemandLaws

@@ -1,10 +1,10 @@
 -- Laws of `tally` over a range that is split at a place. General: nothing here is about worlds.
 -- Assumes nothing.
-use mathlib.Core.Path.{_≡_, refl, sym, ap, ap₂, _∙_}
+use mathlib.Core.Path.{_≡_, refl, ap, _∙_}
 use mathlib.Core.Bool.{Bool, true, false}
 use Prim.Native.Nat.{ℕ, zero, suc, _+_, _-_, _<_, _≤_}
 use native.Mathlib.Omega.{arith}
-use Rattle.laws.specs.Bounded.{one, any, tally}
+use Rattle.laws.specs.Bounded.{any, tally}
 use Rattle.laws.proofs.BoundedLaws.{any-at, any-no, tally-none}
 use Rattle.laws.proofs.CountLaws.{tally-le, tally-mono, tally-less}
 use Rattle.laws.proofs.ConnectiveLaws.{true-false}

@@ -24,8 +24,8 @@ Needs S kinds k forb n g c = (w : World) → Extends kinds k forb n w → S w �
 
 -- the extra objects of wanted worlds have types of the mask
 abbrev pub Available : (World → Type 0) → List ℕ → ℕ → ℕ → ℕ → ℕ → Type 0
-Available S kinds k forb n avail =
-    (w : World) → Extends kinds k forb n w → S w → (o : ℕ) → k ≤ o → o < w .size → bit (w .kind o) avail ≡ true
+Available S kinds k forb n available =
+    (w : World) → Extends kinds k forb n w → S w → (o : ℕ) → k ≤ o → o < w .size → bit (w .kind o) available ≡ true
 
 -- q holds at no fewer than low objects of w, only at those of an allowed type, and at none that is closed
 pub record AtLeast (q : ℕ → Bool) (low : ℕ) (allowed closed : ℕ → Bool) (w : World) : Type 0 where
