@@ -73,13 +73,18 @@ missing : (kinds : List ℕ) (k forb n : ℕ) (w : World) → Extends kinds k fo
     → AtLeast q low allowed closed w → ((o : ℕ) → k ≤ o → o < w .size → q o ≡ true → bit (w .kind o) g ≡ true)
     → low - candidates allowed closed kinds k ≤ extras g k w
 missing kinds k forb n w e q low g allowed closed a typed =
-    let first : tally q k ≤ candidates allowed closed kinds k =
-    tally-mono q (λ o. allowed (getD kinds o 0) && not (closed o)) k
-    (λ o l h. and-both (allowed (getD kinds o 0)) (not (closed o))
-    (sym (ap allowed (e .kept o l)) ∙ a .typed o (omega (arith, e .many)) h)
-    (ap not (a .free o (omega (arith, e .many)) h))) in
-    let rest : from q k (w .size) ≤ extras g k w = from-mono (λ o. bit (w .kind o) g) k (w .size) q typed in
-    omega (arith, first, rest, a .enough, from-split q k (w .size) (e .many))
+    let split = from-split q k (w .size) (e .many) in
+    let rest = from-mono (λ o. bit (w .kind o) g) k (w .size) q typed in
+    let first = tally-mono q candidate k inside in
+    omega (arith, split, rest, first, a .enough)
+  where
+    candidate : ℕ → Bool
+    candidate o = allowed (getD kinds o 0) && not (closed o)
+
+    inside : (o : ℕ) → o < k → q o ≡ true → candidate o ≡ true
+    inside o l h =
+        let below : o < w .size = omega (arith, e .many) in
+        and-both (allowed (getD kinds o 0)) (not (closed o)) (ap allowed (sym (e .kept o l)) ∙ a .typed o below h) (ap not (a .free o below h))
 
 module _ (S : World → Type 0) (kinds : List ℕ) (k forb n : ℕ) where
   -- the extra objects of wanted worlds have a possible type, no forbidden one, and none of a singleton that is among the first k
@@ -91,14 +96,18 @@ module _ (S : World → Type 0) (kinds : List ℕ) (k forb n : ℕ) where
   available-of possible single available some once is w e s o past below =
       is (w .kind o) (some w s o below) (e .avoids o past below) (λ h p l z. twice h p l (e .kept p l ∙ z))
     where
+      same : ℕ → Bool
+      same p = eqb (w .kind p) (w .kind o)
+
+      -- o, as one of the places from k on
+      here : same (k + (o - k)) ≡ true
+      here = let z : k + (o - k) ≡ o = omega arith in eq-eqb (w .kind (k + (o - k))) (w .kind o) (ap (w .kind) z)
+
       twice : bit (w .kind o) single ≡ true → (p : ℕ) → p < k → w .kind p ≡ w .kind o → ⊥
       twice h p l z =
-          let q : ℕ → Bool = λ m. eqb (w .kind m) (w .kind o) in
-          let a : 0 < tally q k = tally-holds q k p l (eq-eqb (w .kind p) (w .kind o) z) in
-          let e1 : k + (o - k) ≡ o = omega arith in
-          let b : 0 < from q k (w .size) =
-          tally-holds (λ i. q (k + i)) (w .size - k) (o - k) (omega arith) (eq-eqb (w .kind (k + (o - k))) (w .kind o) (ap (w .kind) e1)) in
-          omega (arith, a, b, from-split q k (w .size) (e .many), once w s (w .kind o) h)
+          let a = tally-holds same k p l (eq-eqb (w .kind p) (w .kind o) z) in
+          let b = tally-holds (λ i. same (k + i)) (w .size - k) (o - k) (omega arith) here in
+          omega (arith, a, b, from-split same k (w .size) (e .many), once w s (w .kind o) h)
 
   module _ (available : ℕ) (all : Available S kinds k forb n available) where
     pub needs-of : (q : World → ℕ → Bool) (low g : ℕ) (allowed closed : ℕ → Bool)
@@ -122,24 +131,29 @@ module _ (S : World → Type 0) (kinds : List ℕ) (k forb n : ℕ) where
         → ((x : ℕ) → bit x counted && bit x sources ≡ true → bit x available ≡ true → bit x g ≡ true)
         → Needs S kinds k forb n g (low - candidates (λ x. bit x counted && bit x sources) closed kinds k)
     column-needs r p low counted sources g closed each mask =
-        needs-of (λ w o. bit (w .kind o) counted && w .link r o p) low g (λ x. bit x counted && bit x sources) closed
-        (λ w e s.
-        let a = each w e s in
-        record {
+        needs-of source low g (λ x. bit x counted && bit x sources) closed column mask
+      where
+        source : World → ℕ → Bool
+        source w o = bit (w .kind o) counted && w .link r o p
+
+        column : (w : World) → Extends kinds k forb n w → S w → AtLeast (source w) low (λ x. bit x counted && bit x sources) closed w
+        column w e s = let a = each w e s in record {
           enough = a .enough;
           typed = λ o l h. and-both (bit (w .kind o) counted) (bit (w .kind o) sources) (and-left (bit (w .kind o) counted) (w .link r o p) h)
               (a .typed o l (and-right (bit (w .kind o) counted) (w .link r o p) h));
           free = λ o l h. a .free o l (and-right (bit (w .kind o) counted) (w .link r o p) h);
-        }) mask
+        }
 
     -- an object of a singleton x that none of the first k objects has
     pub single-needs : (x g : ℕ) → ((w : World) → S w → 0 < tally (λ o. eqb (w .kind o) x) (w .size))
         → ((o : ℕ) → o < k → getD kinds o 0 ≡ x → ⊥) → (bit x available ≡ true → bit x g ≡ true) → Needs S kinds k forb n g 1
-    single-needs x g some absent mask w e s =
-        let none : candidates (λ y. eqb y x) (λ _. false) kinds k ≡ 0 =
-        tally-none (λ o. eqb (getD kinds o 0) x && not false) k
-        (λ o l. ap (λ (b : Bool). b && not false) (ne-eqb (getD kinds o 0) x (absent o l))) in
-        let a = needs-of (λ w o. eqb (w .kind o) x) 1 g (λ y. eqb y x) (λ _. false)
-        (λ w e s. record { enough = some w s; typed = λ o l h. h; free = λ o l h. refl })
-        (λ y z h. let i : y ≡ x = eqb-true y x z in ap (λ (m : ℕ). bit m g) i ∙ mask (sym (ap (λ (m : ℕ). bit m available) i) ∙ h)) w e s in
-        omega (arith, none, a)
+    single-needs x g some absent mask w e s = omega (arith, none, need w e s)
+      where
+        need : Needs S kinds k forb n g (1 - candidates (λ y. eqb y x) (λ _. false) kinds k)
+        need = needs-of (λ w o. eqb (w .kind o) x) 1 g (λ y. eqb y x) (λ _. false)
+            (λ w e s. record { enough = some w s; typed = λ o l h. h; free = λ o l h. refl })
+            (λ y z h. let i : y ≡ x = eqb-true y x z in ap (λ (m : ℕ). bit m g) i ∙ mask (ap (λ (m : ℕ). bit m available) (sym i) ∙ h))
+
+        none : candidates (λ y. eqb y x) (λ _. false) kinds k ≡ 0
+        none = tally-none (λ o. eqb (getD kinds o 0) x && not false) k
+            (λ o l. ap (λ (b : Bool). b && not false) (ne-eqb (getD kinds o 0) x (absent o l)))

@@ -27,7 +27,7 @@ abbrev pub Available : (World → Type 0) → List ℕ → ℕ → ℕ → ℕ �
 Available S kinds k forb n available =
     (w : World) → Extends kinds k forb n w → S w → (o : ℕ) → k ≤ o → o < w .size → bit (w .kind o) available ≡ true
 
--- q holds at no fewer than low objects of w, only at those of an allowed type, and at none that is closed
+-- q holds at no fewer than low objects of w, only at those of an allowed type, and at none that is closed (known to be left out)
 pub record AtLeast (q : ℕ → Bool) (low : ℕ) (allowed closed : ℕ → Bool) (w : World) : Type 0 where
   pub enough : low ≤ tally q (w .size)
   pub typed : (o : ℕ) → o < w .size → q o ≡ true → allowed (w .kind o) ≡ true
@@ -37,13 +37,13 @@ pub record AtLeast (q : ℕ → Bool) (low : ℕ) (allowed closed : ℕ → Bool
 abbrev pub candidates : (ℕ → Bool) → (ℕ → Bool) → List ℕ → ℕ → ℕ
 candidates allowed closed kinds k = tally (λ o. allowed (getD kinds o 0) && not (closed o)) k
 
--- the row of object o in role slot s: no fewer than low targets, with types of the mask `targets`
+-- the row of object o in role slot r: no fewer than low targets, with types of the mask `targets`
 abbrev pub RowAtLeast : ℕ → ℕ → ℕ → ℕ → (ℕ → Bool) → World → Type 0
-RowAtLeast s o low targets closed w = AtLeast (λ p. w .link s o p) low (λ x. bit x targets) closed w
+RowAtLeast r o low targets closed w = AtLeast (λ p. w .link r o p) low (λ x. bit x targets) closed w
 
--- the column of object p in role slot s: it is the target of no fewer than low objects with types of the mask `counted`; types of
+-- the column of object p in role slot r: it is the target of no fewer than low objects with types of the mask `counted`; types of
 -- the mask `sources` may have such a link at all
-pub record ColumnAtLeast (s p low counted sources : ℕ) (closed : ℕ → Bool) (w : World) : Type 0 where
-  pub enough : low ≤ tally (λ o. bit (w .kind o) counted && w .link s o p) (w .size)
-  pub typed : (o : ℕ) → o < w .size → w .link s o p ≡ true → bit (w .kind o) sources ≡ true
-  pub free : (o : ℕ) → o < w .size → w .link s o p ≡ true → closed o ≡ false
+pub record ColumnAtLeast (r p low counted sources : ℕ) (closed : ℕ → Bool) (w : World) : Type 0 where
+  pub enough : low ≤ tally (λ o. bit (w .kind o) counted && w .link r o p) (w .size)
+  pub typed : (o : ℕ) → o < w .size → w .link r o p ≡ true → bit (w .kind o) sources ≡ true
+  pub free : (o : ℕ) → o < w .size → w .link r o p ≡ true → closed o ≡ false

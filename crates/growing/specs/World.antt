@@ -5,7 +5,7 @@ use Prim.Native.Nat.{ℕ, _<_, _≤_}
 use mathlib.Core.Bool.{Bool, cond}
 use lib.Dec.{eqb}
 
--- `link s o p`: object o has a link in role slot s to the target p. Only what stands below `size` counts.
+-- `link r o p`: object o has a link in role slot r to the target p. Only what stands below `size` counts.
 pub record World : Type 0 where
   pub size : ℕ
   pub kind : ℕ → ℕ
@@ -17,7 +17,7 @@ swap i j o = cond (eqb o i) j (cond (eqb o j) i o)
 
 -- the world in which the objects i and j have changed places
 abbrev pub exchanged : ℕ → ℕ → World → World
-exchanged i j w = record { size = w .size; kind = λ o. w .kind (swap i j o); link = λ s o p. w .link s (swap i j o) (swap i j p) }
+exchanged i j w = record { size = w .size; kind = λ o. w .kind (swap i j o); link = λ r o p. w .link r (swap i j o) (swap i j p) }
 
 -- a property of worlds that does not see two objects from place k on change places
 abbrev pub Blind : ℕ → (World → Type 0) → Type 0
