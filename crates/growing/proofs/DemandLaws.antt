@@ -23,7 +23,7 @@ use Rattle.growing.proofs.SplitLaws.{tally-holds, from-split, from-leas
 
 -- ---- what a need says
 
-module _ (S : World → Type 0) (types : ℕ) (kinds : List ℕ) (k forb n : ℕ) where
+module _ (S : World → Type 0) (kinds : List ℕ) (k forb n : ℕ) where
   -- more extra objects than spare places
   pub needs-room : (g c : ℕ) → Needs S kinds k forb n g c → n - k < c → Nowhere S kinds k forb n
   needs-room g c need h w e s =
@@ -36,6 +36,8 @@ module _ (S : World → Type 0) (types : ℕ) (kinds : List ℕ) (k forb n : ℕ
       let v = from-least (λ o. bit (w .kind o) 0) k (w .size) c (need w e s) .1 h in
       true-false (v .3) (bit-zero (w .kind (v .0)))
 
+module _ (S : World → Type 0) (types : ℕ) (kinds : List ℕ) (k forb n : ℕ) where
+  -- there is no wanted world
   pub demanded-dead : (more : Bool) (g : ℕ) → Nowhere S kinds k forb n → Demanded S types kinds k forb n true more g
   demanded-dead more g none = record {
     nowhere = λ _. none;

@@ -4,7 +4,7 @@
 -- goes to place k, and the world so made starts with the given types and t, avoids what is forbidden, and is still wanted, so
 -- the growth with t at place k has covered it.
 -- Assumes nothing.
-use mathlib.Core.Path.{_≡_, refl, sym, ap, subst, _∙_}
+use mathlib.Core.Path.{_≡_, refl, sym, ap, ap₂, subst, _∙_}
 use mathlib.Core.Bool.{Bool, true, false, not, _&&_, _||_}
 use mathlib.Core.Logic.{⊎-elim, _⊎_}
 use mathlib.Core.List.{List}
@@ -66,6 +66,16 @@ blind-later S k l h blind w i j a b = blind w i j (omega arith) (omega arith)
 -- and so are two together
 pub blind-both : (S R : World → Type 0) (k : ℕ) → Blind k S → Blind k R → Blind k (λ w. S w × R w)
 blind-both S R k f g w i j a b c d s = (f w i j a b c d (s .0), g w i j a b c d (s .1))
+
+-- a property of the first k objects' types and links is blind from k on
+pub blind-kind : (k o x : ℕ) → o < k → Blind k (λ w. w .kind o ≡ x)
+blind-kind k o x h w i j a b c d s = ap (w .kind) (swap-else i j o (λ z. omega arith) (λ z. omega arith)) ∙ s
+
+pub blind-link : (k r o p : ℕ) (b : Bool) → o < k → p < k → Blind k (λ w. w .link r o p ≡ b)
+blind-link k r o p b ho hp w i j a c d e s =
+    let x = swap-else i j o (λ z. omega arith) (λ z. omega arith) in
+    let y = swap-else i j p (λ z. omega arith) (λ z. omega arith) in
+    ap₂ (w .link r) x y ∙ s
 
 -- with one more type the list still has types of the diagram only
 pub kinds-more : (types m : ℕ) (kinds : List ℕ) (k x : ℕ) → k < length kinds → x < types
@@ -139,7 +149,7 @@ module _ (S : World → Type 0) (types : ℕ) (kinds : List ℕ) (k forb n g : �
 
 -- ---- the ways out of the growth
 
-module _ (S : World → Type 0) (types : ℕ) (kinds : List ℕ) (k forb n : ℕ) where
+module _ (S : World → Type 0) (kinds : List ℕ) (k forb n : ℕ) where
   pub grown-none : (ok : Bool) (m : World) → ok ≡ false → Nowhere S kinds k forb n → Grown S kinds k forb n ok m
   grown-none ok m e h = record { fits = λ z. absurd (true-false z e); sound = λ z. absurd (true-false z e); complete = λ _. h }
 
@@ -152,6 +162,7 @@ module _ (S : World → Type 0) (types : ℕ) (kinds : List ℕ) (k forb n : ℕ
     complete = λ z. absurd (true-false e z);
   }
 
+module _ (S : World → Type 0) (types : ℕ) (kinds : List ℕ) (k forb n : ℕ) where
   -- the growth with t at place k found a world
   pub grown-call : (g t f : ℕ) (ok : Bool) (m : World) → k < length kinds → bit t f ≡ false → Tried S types kinds k forb n g t f
       → Grown S (set kinds k t) (k + 1) f n ok m → ok ≡ true → Grown S kinds k forb n ok m
