@@ -31,10 +31,10 @@ module _ (S : World → Type 0) (kinds : List ℕ) (k forb n : ℕ) where
       omega (arith, v .0, e .few)
 
   -- an extra object, and no type that it could have
-  pub needs-type : (c : ℕ) → Needs S kinds k forb n 0 c → 0 < c → Nowhere S kinds k forb n
-  needs-type c need h w e s =
-      let v = from-least (λ o. bit (w .kind o) 0) k (w .size) c (need w e s) .1 h in
-      true-false (v .3) (bit-zero (w .kind (v .0)))
+  pub needs-type : (g c : ℕ) → Needs S kinds k forb n g c → 0 < c → g ≡ 0 → Nowhere S kinds k forb n
+  needs-type g c need h none w e s =
+      let v = from-least (λ o. bit (w .kind o) g) k (w .size) c (need w e s) .1 h in
+      true-false (v .3) (ap (bit (w .kind (v .0))) none ∙ bit-zero (w .kind (v .0)))
 
 module _ (S : World → Type 0) (types : ℕ) (kinds : List ℕ) (k forb n : ℕ) where
   -- there is no wanted world
