@@ -63,7 +63,7 @@ out-of kinds k forb f n x room free sub w e = record {
 pub blind-later : (S : World → Type 0) (k l : ℕ) → k ≤ l → Blind k S → Blind l S
 blind-later S k l h blind w i j a b = blind w i j (omega arith) (omega arith)
 
--- and so are two together
+-- two properties that are blind from place k on, taken together, are so too
 pub blind-both : (S R : World → Type 0) (k : ℕ) → Blind k S → Blind k R → Blind k (λ w. S w × R w)
 blind-both S R k f g w i j a b c d s = (f w i j a b c d (s .0), g w i j a b c d (s .1))
 

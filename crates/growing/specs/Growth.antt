@@ -50,8 +50,8 @@ pub record Grown (S : World → Type 0) (kinds : List ℕ) (k forb n : ℕ) (ok 
   pub sound : ok ≡ true → S m
   pub complete : ok ≡ false → Nowhere S kinds k forb n
 
--- the growth has tried, for one more object, the types of the mask g that are below t: f is forb and some of these, and no wanted
--- world has an extra object of one
+-- the growth has tried, for one more object, the types of the mask g that are below t: no wanted world has an extra object of
+-- such a type, and f holds the forbidden types, those of forb and some of these
 pub record Tried (S : World → Type 0) (types : ℕ) (kinds : List ℕ) (k forb n g t f : ℕ) : Type 0 where
   pub within : t ≤ types
   pub kept : (x : ℕ) → bit x forb ≡ true → bit x f ≡ true
