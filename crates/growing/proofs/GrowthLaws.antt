@@ -4,7 +4,7 @@
 -- goes to place k, and the world so made starts with the given types and t, avoids what is forbidden, and is still wanted, so
 -- the growth with t at place k has covered it.
 -- Assumes nothing.
-use mathlib.Core.Path.{_≡_, refl, sym, ap, ap₂, subst, _∙_}
+use mathlib.Core.Path.{_≡_, sym, ap, ap₂, subst, _∙_}
 use mathlib.Core.Bool.{Bool, true, false, not, _&&_, _||_}
 use mathlib.Core.Logic.{⊎-elim, _⊎_}
 use mathlib.Core.List.{List}
@@ -21,29 +21,37 @@ use Rattle.laws.proofs.BoundedLaws.{any-at, any-no}
 use Rattle.laws.proofs.ConnectiveLaws.{and-left, and-right, and-both, or-cases, or-left, true-false, known}
 use Rattle.growing.specs.World.{World, exchanged, swap, Blind}
 use Rattle.growing.specs.Growth.{Extends, Nowhere, Extra, Demanded, Ended, Grown, Tried}
-use Rattle.growing.proofs.SwapLaws.{swap-left, swap-else, swap-above, swap-below}
+use Rattle.growing.proofs.SwapLaws.{swap-first, swap-other, swap-among}
 
 -- below m + 1: m, or below m
-up-to : (x m : ℕ) → x < m + 1 → (x ≡ m) ⊎ (x < m)
-up-to x m h = eq-or-lt-of-le (omega arith)
+below-next : {x m : ℕ} → x < m + 1 → (x ≡ m) ⊎ (x < m)
+below-next h = eq-or-lt-of-le (omega arith)
 
 -- a type outside the larger of two masks is outside the smaller
 outside : (x forb f : ℕ) → (bit x forb ≡ true → bit x f ≡ true) → bit x f ≡ false → bit x forb ≡ false
 outside x forb f sub e = ⊎-elim (λ p. absurd (true-false (sub p) e)) (λ p. p) (known (bit x forb))
 
--- the extra object o of the type x goes to place k
+-- ---- one more type
+
+-- the given types and x at place k: what holds of x at k, and of each given type at its place, holds of each
+kinds-cases : (P : ℕ → ℕ → Type 0) (kinds : List ℕ) (k x : ℕ) → k < length kinds → P k x → ((o : ℕ) → o < k → P o (getD kinds o 0))
+    → (o : ℕ) → o < k + 1 → P o (getD (set kinds k x) o 0)
+kinds-cases P kinds k x room here before o h = ⊎-elim
+    (λ e. subst (λ (m : ℕ). P m (getD (set kinds k x) m 0)) (sym e) (rw (getD-set-same kinds k x 0 room) here))
+    (λ l. rw (getD-set-other kinds k o x 0 (omega arith)) (before o l)) (below-next h)
+
+-- the extra object o goes to place k
 pub into : (kinds : List ℕ) (k forb n : ℕ) → k < length kinds → (w : World) → Extends kinds k forb n w
     → (f x o : ℕ) → k ≤ o → o < w .size → w .kind o ≡ x → ((p : ℕ) → k ≤ p → p < w .size → bit (w .kind p) f ≡ false)
     → Extends (set kinds k x) (k + 1) f n (exchanged k o w)
 into kinds k forb n room w e f x o past below is free = record {
   few = e .few;
-  many = omega arith;
-  kept = λ p h. ⊎-elim
-      (λ q. subst (λ (m : ℕ). w .kind (swap k o m) ≡ getD (set kinds k x) m 0) (sym q)
-      (ap (w .kind) (swap-left k o) ∙ is ∙ sym (getD-set-same kinds k x 0 room)))
-      (λ l. ap (w .kind) (swap-else k o p (λ z. omega arith) (λ z. omega arith)) ∙ e .kept p l ∙ sym (getD-set-other kinds k p x 0 (omega arith)))
-      (up-to p k h);
-  avoids = λ p h l. free (swap k o p) (swap-above k o k (omega arith) past p (omega arith)) (swap-below k o (w .size) (omega arith) below p l);
+  many = omega (arith, past, below);
+  kept = kinds-cases (λ p v. w .kind (swap k o p) ≡ v) kinds k x room (ap (w .kind) (swap-first k o) ∙ is)
+      (λ p l. ap (w .kind) (swap-other k o p (λ z. omega arith) (λ z. omega arith)) ∙ e .kept p l);
+  avoids = λ p h l. free (swap k o p)
+      (swap-among (λ (m : ℕ). k ≤ m) k o p (omega arith) past (omega arith))
+      (swap-among (λ (m : ℕ). m < w .size) k o p (omega arith) below l);
 }
 
 -- a world that starts with the given types and x starts with the given types
@@ -52,12 +60,24 @@ pub out-of : (kinds : List ℕ) (k forb f n x : ℕ) → k < length kinds → bi
 out-of kinds k forb f n x room free sub w e = record {
   few = e .few;
   many = omega (arith, e .many);
-  kept = λ o h. e .kept o (omega arith) ∙ getD-set-other kinds k o x 0 (omega arith);
-  avoids = λ o h l. ⊎-elim
-      (λ q. subst (λ (m : ℕ). bit (w .kind m) forb ≡ false) q
-      (ap (λ (y : ℕ). bit y forb) (e .kept k (omega arith) ∙ getD-set-same kinds k x 0 room) ∙ free))
-      (λ m. outside (w .kind o) forb f (sub (w .kind o)) (e .avoids o (omega arith) l)) (eq-or-lt-of-le h);
+  kept = λ o l. e .kept o (omega arith) ∙ getD-set-other kinds k o x 0 (omega arith);
+  avoids = λ o h l. ⊎-elim (λ z. first o z) (λ m. outside (w .kind o) forb f (sub (w .kind o)) (e .avoids o (omega arith) l)) (eq-or-lt-of-le h);
 }
+  where
+    is-x : w .kind k ≡ x
+    is-x = e .kept k (omega arith) ∙ getD-set-same kinds k x 0 room
+
+    first : (o : ℕ) → k ≡ o → bit (w .kind o) forb ≡ false
+    first o z = ap (λ (m : ℕ). bit (w .kind m) forb) (sym z) ∙ ap (λ (y : ℕ). bit y forb) is-x ∙ free
+
+-- the list still has types of the diagram only
+pub kinds-more : (types m : ℕ) (kinds : List ℕ) (k x : ℕ) → k < length kinds → x < types
+    → ((o : ℕ) → o < m → getD kinds o 0 < types) → (o : ℕ) → o < m → getD (set kinds k x) o 0 < types
+kinds-more types m kinds k x room h small o l = ⊎-elim
+    (λ e. let z : o ≡ k = eqb-true o k e in subst (λ (p : ℕ). getD (set kinds k x) p 0 < types) (sym z) (rw (getD-set-same kinds k x 0 room) h))
+    (λ e. rw (getD-set-other kinds k o x 0 (eqb-false o k e)) (small o l)) (known (eqb o k))
+
+-- ---- blind properties
 
 -- a property that is blind from place k on is so from each later place on
 pub blind-later : (S : World → Type 0) (k l : ℕ) → k ≤ l → Blind k S → Blind l S
@@ -69,22 +89,13 @@ blind-both S R k f g w i j a b c d s = (f w i j a b c d (s .0), g w i j a b c d 
 
 -- a property of the first k objects' types and links is blind from k on
 pub blind-kind : (k o x : ℕ) → o < k → Blind k (λ w. w .kind o ≡ x)
-blind-kind k o x h w i j a b c d s = ap (w .kind) (swap-else i j o (λ z. omega arith) (λ z. omega arith)) ∙ s
+blind-kind k o x h w i j a b c d s = ap (w .kind) (swap-other i j o (λ z. omega arith) (λ z. omega arith)) ∙ s
 
 pub blind-link : (k r o p : ℕ) (b : Bool) → o < k → p < k → Blind k (λ w. w .link r o p ≡ b)
 blind-link k r o p b ho hp w i j a c d e s =
-    let x = swap-else i j o (λ z. omega arith) (λ z. omega arith) in
-    let y = swap-else i j p (λ z. omega arith) (λ z. omega arith) in
+    let x = swap-other i j o (λ z. omega arith) (λ z. omega arith) in
+    let y = swap-other i j p (λ z. omega arith) (λ z. omega arith) in
     ap₂ (w .link r) x y ∙ s
-
--- with one more type the list still has types of the diagram only
-pub kinds-more : (types m : ℕ) (kinds : List ℕ) (k x : ℕ) → k < length kinds → x < types
-    → ((o : ℕ) → o < m → getD kinds o 0 < types) → (o : ℕ) → o < m → getD (set kinds k x) o 0 < types
-kinds-more types m kinds k x room h small o l = go (eqb o k) refl
-  where
-    go : (b : Bool) → eqb o k ≡ b → getD (set kinds k x) o 0 < types
-    go true e = subst (λ (p : ℕ). getD (set kinds k x) p 0 < types) (sym (eqb-true o k e)) (rw (getD-set-same kinds k x 0 room) h)
-    go false e = rw (getD-set-other kinds k o x 0 (eqb-false o k e)) (small o l)
 
 -- ---- the loop over the types of one more object
 
@@ -93,59 +104,70 @@ pub passed-over : (t g f : ℕ) → bit t g && not (bit t f) ≡ false → bit t
 passed-over t g f e h = ⊎-elim (λ z. z) (λ z. absurd (true-false (and-both (bit t g) (not (bit t f)) h (ap not z)) e)) (known (bit t f))
 
 module _ (S : World → Type 0) (types : ℕ) (kinds : List ℕ) (k forb n g : ℕ) where
+  -- no wanted world has an extra object of the type t
+  abbrev Free : ℕ → Type 0
+  Free t = (w : World) → Extends kinds k forb n w → S w → (o : ℕ) → k ≤ o → o < w .size → w .kind o ≡ t → ⊥
+
   pub tried-begin : Tried S types kinds k forb n g 0 forb
   tried-begin = record {
     within = omega arith;
     kept = λ x h. h;
     added = λ x p q. absurd (true-false p q);
-    none = λ w e s o a b l. absurd (omega arith);
+    none = λ w e s o past below l. absurd (omega arith);
+  }
+
+  -- one type more: f is what is forbidden before, u after
+  tried-more : (t f u : ℕ) → t < types → Tried S types kinds k forb n g t f → ((x : ℕ) → bit x f ≡ true → bit x u ≡ true)
+      → ((x : ℕ) → bit x u ≡ true → bit x f ≡ false → (x ≡ t) × (bit t g ≡ true)) → (bit t g ≡ true → Free t)
+      → Tried S types kinds k forb n g (t + 1) u
+  tried-more t f u h a more only free = record {
+    within = omega arith;
+    kept = λ x p. more x (a .kept x p);
+    added = λ x p q. ⊎-elim
+        (λ z. let r = a .added x z q in (omega (arith, r .0), r .1))
+        (λ z. let r = only x p z in let y : x ≡ t = r .0 in (omega arith, ap (λ (m : ℕ). bit m g) y ∙ r .1)) (known (bit x f));
+    none = λ w e s o past below l typed. ⊎-elim
+        (λ z. free (ap (λ (m : ℕ). bit m g) (sym z) ∙ typed) w e s o past below z)
+        (λ m. a .none w e s o past below m typed) (below-next l);
   }
 
   -- a type that is not in the mask, or is forbidden, is passed over
   pub tried-skip : (t f : ℕ) → t < types → (bit t g ≡ true → bit t f ≡ true)
       → Tried S types kinds k forb n g t f → Tried S types kinds k forb n g (t + 1) f
-  tried-skip t f h skip a = record {
-    within = omega arith;
-    kept = a .kept;
-    added = λ x p q. let r = a .added x p q in (omega (arith, r .0), r .1);
-    none = λ w e s o past below l typed. ⊎-elim
-        (λ z.
-        let r = a .added t (skip (ap (λ (y : ℕ). bit y g) (sym z) ∙ typed)) (ap (λ (y : ℕ). bit y forb) (sym z) ∙ e .avoids o past below) in
-        omega (arith, r .0))
-        (λ m. a .none w e s o past below m typed) (up-to (w .kind o) t l);
-  }
+  tried-skip t f h skip a = tried-more t f f h a (λ x p. p) (λ x p q. absurd (true-false p q)) never
+    where
+      -- in the mask, it is forbidden; not below t, it was so from the beginning
+      never : bit t g ≡ true → Free t
+      never ing w e s o past below z =
+          let r = a .added t (skip ing) (ap (λ (m : ℕ). bit m forb) (sym z) ∙ e .avoids o past below) in
+          omega (arith, r .0)
 
   -- a type with which the growth found nothing is forbidden from here on
   pub tried-call : (t f u : ℕ) → t < types → k < length kinds → Blind k S → bit t g ≡ true → Tried S types kinds k forb n g t f
       → Nowhere S (set kinds k t) (k + 1) f n → ((j : ℕ) → bit j u ≡ bit j f || eqb j t) → Tried S types kinds k forb n g (t + 1) u
-  tried-call t f u h room blind ing a nowhere is = record {
-    within = omega arith;
-    kept = λ x p. is x ∙ or-left (bit x f) (eqb x t) (a .kept x p);
-    added = λ x p q. ⊎-elim (λ z. let r = a .added x z q in (omega (arith, r .0), r .1))
-        (λ z. let y : x ≡ t = eqb-true x t z in (omega arith, ap (λ (y : ℕ). bit y g) y ∙ ing))
-        (or-cases (bit x f) (eqb x t) (sym (is x) ∙ p));
-    none = λ w e s o past below l typed. ⊎-elim
-        (λ z. covered w e s o past below z (any (taken w) (w .size)) refl)
-        (λ m. a .none w e s o past below m typed) (up-to (w .kind o) t l);
-  }
+  tried-call t f u h room blind ing a nowhere is =
+      tried-more t f u h a (λ x p. is x ∙ or-left (bit x f) (eqb x t) p)
+      (λ x p q. (⊎-elim (λ z. absurd (true-false z q)) (λ z. eqb-true x t z) (or-cases (bit x f) (eqb x t) (sym (is x) ∙ p)), ing))
+      (λ _ w e s o past below z. ⊎-elim (some w e s) (none w e s o past below z) (known (any (taken w) (w .size))))
     where
       -- an extra object whose type is forbidden already
       taken : World → ℕ → Bool
       taken w p = leb k p && bit (w .kind p) f
 
-      free : (w : World) → any (taken w) (w .size) ≡ false → (p : ℕ) → k ≤ p → p < w .size → bit (w .kind p) f ≡ false
-      free w e p past below = sym (ap (λ (b : Bool). b && bit (w .kind p) f) (le-leb k p past)) ∙ any-no (taken w) (w .size) e p below
+      -- such a type is one of forb, which e excludes, or was tried
+      some : (w : World) → Extends kinds k forb n w → S w → any (taken w) (w .size) ≡ true → ⊥
+      some w e s h =
+          let v = any-at (taken w) (w .size) h in
+          let past = leb-true k (v .0) (and-left (leb k (v .0)) (bit (w .kind (v .0)) f) (v .2)) in
+          let r = a .added (w .kind (v .0)) (and-right (leb k (v .0)) (bit (w .kind (v .0)) f) (v .2)) (e .avoids (v .0) past (v .1)) in
+          a .none w e s (v .0) past (v .1) (r .0) (r .1)
 
-      covered : (w : World) → Extends kinds k forb n w → S w → (o : ℕ) → k ≤ o → o < w .size → w .kind o ≡ t
-          → (b : Bool) → any (taken w) (w .size) ≡ b → ⊥
-      covered w e s o past below z true some =
-          let v = any-at (taken w) (w .size) some in
-          let p : k ≤ v .0 = leb-true k (v .0) (and-left (leb k (v .0)) (bit (w .kind (v .0)) f) (v .2)) in
-          let r = a .added (w .kind (v .0)) (and-right (leb k (v .0)) (bit (w .kind (v .0)) f) (v .2)) (e .avoids (v .0) p (v .1)) in
-          a .none w e s (v .0) p (v .1) (r .0) (r .1)
-      covered w e s o past below z false some =
-          nowhere (exchanged k o w) (into kinds k forb n room w e f t o past below z (free w some))
-          (blind w k o (omega arith) past (omega arith) below s)
+      none : (w : World) → Extends kinds k forb n w → S w → (o : ℕ) → k ≤ o → o < w .size → w .kind o ≡ t → any (taken w) (w .size) ≡ false → ⊥
+      none w e s o past below z h =
+          nowhere (exchanged k o w) (into kinds k forb n room w e f t o past below z free) (blind w k o (omega arith) past (omega arith) below s)
+        where
+          free : (p : ℕ) → k ≤ p → p < w .size → bit (w .kind p) f ≡ false
+          free p q l = ap (λ (b : Bool). b && bit (w .kind p) f) (sym (le-leb k p q)) ∙ any-no (taken w) (w .size) h p l
 
 -- ---- the ways out of the growth
 
