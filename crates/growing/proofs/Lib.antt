@@ -1,0 +1,4 @@
+pub mod SwapLaws
+pub mod GrowthLaws
+pub mod SplitLaws
+pub mod DemandLaws

@@ -1,0 +1,24 @@
+-- What a search by types sees of a record: how many objects there are, their types, and their links. Values stay out: what they
+-- may be is a matter of the type alone. Types, role slots and objects are numbers.
+-- Assumes nothing.
+use Prim.Native.Nat.{ℕ, _<_, _≤_}
+use mathlib.Core.Bool.{Bool, cond}
+use lib.Dec.{eqb}
+
+-- `link r o p`: object o has a link in role slot r to the target p. Only what stands below `size` counts.
+pub record World : Type 0 where
+  pub size : ℕ
+  pub kind : ℕ → ℕ
+  pub link : ℕ → ℕ → ℕ → Bool
+
+-- i and j change places, and every other place stays
+unfoldable pub swap : ℕ → ℕ → ℕ → ℕ
+swap i j o = cond (eqb o i) j (cond (eqb o j) i o)
+
+-- the world in which the objects i and j have changed places
+abbrev pub exchanged : ℕ → ℕ → World → World
+exchanged i j w = record { size = w .size; kind = λ o. w .kind (swap i j o); link = λ r o p. w .link r (swap i j o) (swap i j p) }
+
+-- a property of worlds that does not see two objects from place k on change places
+abbrev pub Blind : ℕ → (World → Type 0) → Type 0
+Blind k S = (w : World) (i j : ℕ) → k ≤ i → k ≤ j → i < w .size → j < w .size → S w → S (exchanged i j w)
