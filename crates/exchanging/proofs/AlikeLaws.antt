@@ -21,7 +21,7 @@ use Rattle.exchanging.specs.Exchange.{SameRules, exchanged, exchangedLin
 use Rattle.laws.proofs.BoundedLaws.{all-ext}
 use Rattle.memory_rules.proofs.AgreeLaws.{declared-agrees, declares-agrees, rule1-agrees, rule2-agrees, rule5At-agrees, rule6-agrees, rule7-agrees, rule8-agrees, rule9-agrees}
 use Rattle.exchanging.proofs.ExchangeLaws.{lowest-same}
-use Rattle.exchanging.proofs.SwapLaws.{swap-below, swap-twice}
+use Rattle.laws.proofs.SwapLaws.{swap-below, swap-twice}
 
 -- ---- alike, so judged alike
 

@@ -21,9 +21,10 @@ use Rattle.rules.specs.Site.{Site}
 use Rattle.rules.specs.TypeRules.{rule1, rule1At, rule2, rule2At}
 use Rattle.rules.specs.ValueRules.{belongs, declared, declares, rule3, rule3At, rule3For, rule4, rule4At}
 use Rattle.rules.specs.WholeRule.{isWhole, rule9, rule9At, wholeBy}
-use Rattle.exchanging.specs.Exchange.{ExchangeKeeps, ExchangeKeepsRules, SameRules, exchanged, exchangedLink, exchangedValue, swap}
+use Rattle.exchanging.specs.Exchange.{ExchangeKeeps, ExchangeKeepsRules, SameRules, exchanged, exchangedLink, exchangedValue}
+use Rattle.laws.specs.Swap.{swap}
 use Rattle.laws.proofs.BoundedLaws.{all-ext}
-use Rattle.exchanging.proofs.SwapLaws.{all-swap, swap-twice, tally-swap}
+use Rattle.laws.proofs.SwapLaws.{all-swap, swap-twice, tally-swap}
 
 module _ (d : Diagram) (x : Site) (i j : ℕ) where
   -- an object of the exchanged site is an instance of what the one that it goes to is

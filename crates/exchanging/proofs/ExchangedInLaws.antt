@@ -23,13 +23,14 @@ use Rattle.records.specs.Written.{linkIn, valueIn}
 use Rattle.memory_rules.specs.JudgeIn.{lowestIn, rule3In, rule5In}
 use Rattle.memory_rules.specs.SiteIn.{keptLink, keptValue, linkKept, linkedIn, siteIn, typedIn, valueKept, valuedIn}
 use Rattle.exchanging.specs.Alike.{Alike, Regular}
-use Rattle.exchanging.specs.Exchange.{SameRules, exchanged, swap}
+use Rattle.exchanging.specs.Exchange.{SameRules, exchanged}
+use Rattle.laws.specs.Swap.{swap}
 use Rattle.exchanging.specs.ExchangedIn.{ExchangedIn, TargetsKnown}
 use Rattle.laws.proofs.BoundedLaws.{all-ext}
 use Rattle.laws.proofs.ConnectiveLaws.{both-left, both-right}
 use Rattle.exchanging.proofs.AlikeLaws.{alike-rules, exchange-regular}
 use Rattle.exchanging.proofs.ExchangeLaws.{exchange-keeps-rules}
-use Rattle.exchanging.proofs.SwapLaws.{all-turned, swap-below, swap-twice}
+use Rattle.laws.proofs.SwapLaws.{all-turned, swap-below, swap-twice}
 
 -- two answers that agree where a test holds
 both-where : (a b c : Bool) → (a ≡ true → b ≡ c) → both a b ≡ both a c

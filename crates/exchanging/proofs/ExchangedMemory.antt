@@ -21,7 +21,7 @@ use Rattle.records.specs.Slots.{ownRole, roleName}
 use Rattle.records.specs.Written.{IsValue, Within, linkIn, valueIn}
 use Rattle.rules.specs.Judge.{Legal, judge}
 use Rattle.memory_rules.specs.Stands.{Stands}
-use Rattle.exchanging.specs.Exchange.{swap}
+use Rattle.laws.specs.Swap.{swap}
 use Rattle.exchanging.specs.ExchangedIn.{ExchangedIn, TargetsKnown, exchangedMemory}
 use Rattle.laws.proofs.BoundedLaws.{any-at}
 use Rattle.laws.proofs.ConnectiveLaws.{both-right}
@@ -29,7 +29,7 @@ use Rattle.laws.proofs.JoinedLaws.{getD-each}
 use Rattle.laws.proofs.MaskLaws.{mask-bit}
 use Rattle.memory_rules.proofs.JudgeInLaws.{judge-in}
 use Rattle.exchanging.proofs.ExchangedInLaws.{exchanged-in-judged}
-use Rattle.exchanging.proofs.SwapLaws.{swap-below, swap-twice}
+use Rattle.laws.proofs.SwapLaws.{swap-below, swap-twice}
 
 -- ---- the record that is made
 

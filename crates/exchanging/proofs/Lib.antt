@@ -1,4 +1,3 @@
-pub mod SwapLaws
 pub mod ExchangeLaws
 pub mod AlikeLaws
 pub mod ExchangedInLaws

@@ -1,9 +1,8 @@
 -- Two objects of a site exchange their numbers. No rule speaks of a number, so that no judgement changes.
 -- Assumes nothing.
 use Prim.Native.Nat.{_<_, ℕ}
-use mathlib.Core.Bool.{cond}
 use mathlib.Core.Path.{_≡_}
-use lib.Dec.{eqb}
+use Rattle.laws.specs.Swap.{swap}
 use Rattle.files.specs.Diagram.{Diagram}
 use Rattle.files.specs.Record.{Link, Value}
 use Rattle.rules.specs.Judge.{lowestBroken}
@@ -12,10 +11,6 @@ use Rattle.rules.specs.Site.{Site}
 use Rattle.rules.specs.TypeRules.{rule1, rule2}
 use Rattle.rules.specs.ValueRules.{rule3, rule4}
 use Rattle.rules.specs.WholeRule.{rule9}
-
--- i and j exchanged, all else stays
-unfoldable pub swap : ℕ → ℕ → ℕ → ℕ
-swap i j k = cond (eqb k i) j (cond (eqb k j) i k)
 
 -- a value and a link, their objects exchanged
 abbrev pub exchangedValue : ℕ → ℕ → Value → Value

@@ -10,7 +10,7 @@ use Rattle.files.specs.Diagram.{Diagram}
 use Rattle.records.specs.declared.MemoryRecord.{MemoryRecord}
 use Rattle.records.specs.Slots.{roleCount}
 use Rattle.records.specs.Written.{linkIn, valueIn}
-use Rattle.exchanging.specs.Exchange.{swap}
+use Rattle.laws.specs.Swap.{swap}
 
 -- n is m, i and j exchanged: what an object of n has is what the one that it goes to has in m
 pub record ExchangedIn (i j : ℕ) (m n : MemoryRecord) : Type 0 where

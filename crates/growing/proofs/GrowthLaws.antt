@@ -19,9 +19,10 @@ use Rattle.laws.specs.Bits.{bit}
 use Rattle.laws.specs.Bounded.{any}
 use Rattle.laws.proofs.BoundedLaws.{any-at, any-no}
 use Rattle.laws.proofs.ConnectiveLaws.{and-left, and-right, and-both, or-cases, or-left, true-false, known}
-use Rattle.growing.specs.World.{World, exchanged, swap, Blind}
+use Rattle.growing.specs.World.{World, exchanged, Blind}
+use Rattle.laws.specs.Swap.{swap}
 use Rattle.growing.specs.Growth.{Extends, Nowhere, Extra, Demanded, Ended, Grown, Tried}
-use Rattle.growing.proofs.SwapLaws.{swap-first, swap-other, swap-among}
+use Rattle.laws.proofs.SwapLaws.{swap-first, swap-else, swap-among}
 
 -- below m + 1: m, or below m
 below-next : {x m : ℕ} → x < m + 1 → (x ≡ m) ⊎ (x < m)
@@ -48,7 +49,7 @@ into kinds k forb n room w e f x o past below is free = record {
   few = e .few;
   many = omega (arith, past, below);
   kept = kinds-cases (λ p v. w .kind (swap k o p) ≡ v) kinds k x room (ap (w .kind) (swap-first k o) ∙ is)
-      (λ p l. ap (w .kind) (swap-other k o p (λ z. omega arith) (λ z. omega arith)) ∙ e .kept p l);
+      (λ p l. ap (w .kind) (swap-else k o p (λ z. omega arith) (λ z. omega arith)) ∙ e .kept p l);
   avoids = λ p h l. free (swap k o p)
       (swap-among (λ (m : ℕ). k ≤ m) k o p (omega arith) past (omega arith))
       (swap-among (λ (m : ℕ). m < w .size) k o p (omega arith) below l);
@@ -89,12 +90,12 @@ blind-both S R k f g w i j a b c d s = (f w i j a b c d (s .0), g w i j a b c d 
 
 -- a property of the first k objects' types and links is blind from k on
 pub blind-kind : (k o x : ℕ) → o < k → Blind k (λ w. w .kind o ≡ x)
-blind-kind k o x h w i j a b c d s = ap (w .kind) (swap-other i j o (λ z. omega arith) (λ z. omega arith)) ∙ s
+blind-kind k o x h w i j a b c d s = ap (w .kind) (swap-else i j o (λ z. omega arith) (λ z. omega arith)) ∙ s
 
 pub blind-link : (k r o p : ℕ) (b : Bool) → o < k → p < k → Blind k (λ w. w .link r o p ≡ b)
 blind-link k r o p b ho hp w i j a c d e s =
-    let x = swap-other i j o (λ z. omega arith) (λ z. omega arith) in
-    let y = swap-other i j p (λ z. omega arith) (λ z. omega arith) in
+    let x = swap-else i j o (λ z. omega arith) (λ z. omega arith) in
+    let y = swap-else i j p (λ z. omega arith) (λ z. omega arith) in
     ap₂ (w .link r) x y ∙ s
 
 -- ---- the loop over the types of one more object

@@ -1,4 +1,3 @@
-pub mod SwapLaws
 pub mod GrowthLaws
 pub mod SplitLaws
 pub mod DemandLaws

@@ -2,18 +2,14 @@
 -- may be is a matter of the type alone. Types, role slots and objects are numbers.
 -- Assumes nothing.
 use Prim.Native.Nat.{ℕ, _<_, _≤_}
-use mathlib.Core.Bool.{Bool, cond}
-use lib.Dec.{eqb}
+use mathlib.Core.Bool.{Bool}
+use Rattle.laws.specs.Swap.{swap}
 
 -- `link r o p`: object o has a link in role slot r to the target p. Only what stands below `size` counts.
 pub record World : Type 0 where
   pub size : ℕ
   pub kind : ℕ → ℕ
   pub link : ℕ → ℕ → ℕ → Bool
-
--- i and j change places, and every other place stays
-unfoldable pub swap : ℕ → ℕ → ℕ → ℕ
-swap i j o = cond (eqb o i) j (cond (eqb o j) i o)
 
 -- the world in which the objects i and j have changed places
 abbrev pub exchanged : ℕ → ℕ → World → World
