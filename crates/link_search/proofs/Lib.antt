@@ -1,3 +1,5 @@
 pub mod JudgeLaws
 pub mod NetLaws
 pub mod SeenLaws
+pub mod ColumnLaws
+pub mod JoinLaws

@@ -10,9 +10,13 @@ use lib.ListN.{getD}
 use borrow.Author.Count.{below-more}
 use Rattle.laws.specs.Bounded.{tally}
 use Rattle.link_search.specs.Nets.{Net, netOf, Between, Within}
-use Rattle.link_search.specs.Families.{Rows, Fits}
+use Rattle.link_search.specs.Families.{Rows}
 use Rattle.link_search.specs.Answers.{Judged, Looked}
 use Rattle.link_search.specs.declared.Sight.{Sight}
+
+-- the bit p of row i is wanted
+abbrev pub sightAt : ℕ → ℕ → Sight
+sightAt i p = record { kind = 2; row = i; target = p }
 
 -- the first n parts were looked at: P holds of each, or a bit was found
 pub record Seen (P : ℕ → Type 0) (may : List ℕ) (n : ℕ) (l : Sight) : Type 0 where
@@ -69,6 +73,26 @@ module _ (C : Net → Type 0) (must may : List ℕ) where
     few = omega arith;
   }
 
+  pub looked-spot : (i p : ℕ) → i < 256 → p < 8 → netOf may i p ≡ true → Looked C must may (sightAt i p)
+  looked-spot i p hi hp e = record {
+    fine = λ z. absurd (omega arith);
+    dead = λ z. absurd (omega arith);
+    below = λ _. hi;
+    inside = λ _. hp;
+    spot = λ _. e;
+    few = omega arith;
+  }
+
+  pub looked-fine : C (netOf must) → Looked C must may (record { kind = 0; row = 0; target = 0 })
+  looked-fine h = record {
+    fine = λ _. h;
+    dead = λ z. absurd (omega arith);
+    below = λ z. absurd (omega arith);
+    inside = λ z. absurd (omega arith);
+    spot = λ z. absurd (omega arith);
+    few = omega arith;
+  }
+
 -- rows
 module _ (low high must may : List ℕ) where
   abbrev pub RowJudged : ℕ → ℕ → Type 0
@@ -86,13 +110,3 @@ module _ (low high must may : List ℕ) where
   row-more i v l m h n j a = ⊎-elim
       (λ c. subst (Seen RowFine may (i + 1)) (sym (c .1)) (seen-spot RowFine may (i + 1) i v h (c .0) (j .spot (c .0))))
       (λ c. let e : v ≡ 8 = omega (arith, j .few, n) in subst (Seen RowFine may (i + 1)) (sym (c .1)) (seen-fine RowFine may i l a (j .fine e)))
-
-  pub looked-fits : (l : Sight) → Looked (Rows low high) must may l → Looked (Fits low high) must may l
-  looked-fits l a = record {
-    fine = λ e. record { rows = a .fine e };
-    dead = λ e w b c. a .dead e w b (c .rows);
-    below = a .below;
-    inside = a .inside;
-    spot = a .spot;
-    few = a .few;
-  }

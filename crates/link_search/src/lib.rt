@@ -2,12 +2,16 @@
 // rows and columns, mirrors and wholes are right. It knows no diagram: all that is asked stands in arrays.
 ghost use mathlib.Core.Path.{_≡_};
 ghost use mathlib.Core.Bool.{Bool, true, false};
-ghost use Prim.Native.Nat.{ℕ, _<_, _≤_, _+_};
+ghost use Prim.Native.Nat.{ℕ, _<_, _≤_, _+_, _*_};
 ghost use lib.ListN.{length};
 ghost use Rattle.laws.specs.Bits.{bit};
 ghost use Rattle.laws.specs.Bounded.{tally};
-ghost use Rattle.link_search.specs.Families.{Rows, Fits};
-ghost use Rattle.link_search.specs.Answers.{Judged, Looked, Answer};
+ghost use Rattle.link_search.specs.Nets.{netOf};
+ghost use Rattle.link_search.specs.Families.{Slots, Fits};
+ghost use Rattle.link_search.specs.Answers.{Judged, Looked, joined, Answer};
+
+mod columns;
+mod rows;
 
 // What a look says. kind 0: nothing is missing. 1: no net between is right. 2: the bit `target` of row `row` may stand, and is wanted.
 pub struct Sight {
@@ -21,6 +25,14 @@ fn number(x: u8) -> u32
     ensures { λ r. ⌜ (r ≡ x) × (r < 256) ⌝ }
 {
     x as u32
+}
+
+// Whether object o has a link to p by the role in the slot.
+fn is_link(rows: &[u8; 256], o: u8, slot: u8, p: u8) -> bool
+    requires { ⌜ (o < 8) × (slot < 32) × (p < 8) ⌝ }
+    ensures { λ r. ⌜ r ≡ netOf (now (rows .entry)) (o * 32 + slot) p ⌝ }
+{
+    laws::has8(rows[laws::wide(o) * 32 + laws::wide(slot)], p)
 }
 
 // The lowest bit that is set, of a mask that has one.
@@ -56,66 +68,73 @@ fn judge(must: u8, may: u8, low: u8, high: u8) -> u8
     8
 }
 
-// A look at the rows.
-fn look_rows<'a>(
-    low: &'a [u8; 256],
-    high: &'a [u8; 256],
-    must: &'a [u8; 256],
-    may: &'a [u8; 256],
-) -> Sight
-    ensures { λ l. ⌜ Looked (Rows (now (low .entry)) (now (high .entry))) (now (must .entry)) (now (may .entry)) l ⌝ }
+// Two looks as one: no net between is right if either says so; else a bit that is wanted.
+fn join(a: Sight, b: Sight) -> Sight
+    ensures { λ l. ⌜ l ≡ joined a b ⌝ }
 {
-    let mut best = Sight {
-        kind: 0,
-        row: 0,
-        target: 0,
-    };
-    let mut i: usize = 0;
-    while i < 256 {
-        let v = judge(must[i], may[i], low[i], high[i]);
-        if v == 9 {
-            return Sight {
-                kind: 1,
-                row: 0,
-                target: 0,
-            };
-        }
-        if v < 8 {
-            best = Sight {
-                kind: 2,
-                row: i,
-                target: v,
-            };
-        }
-        i += 1;
+    if a.kind == 1 {
+        return a;
     }
-    best
+    if b.kind == 1 {
+        return b;
+    }
+    if a.kind == 2 {
+        return a;
+    }
+    b
 }
 
 // A look at everything that is asked.
 fn look_all<'a>(
-    low: &'a [u8; 256],
-    high: &'a [u8; 256],
+    row_low: &'a [u8; 256],
+    row_high: &'a [u8; 256],
+    column_slot: &'a [u8; 17],
+    column_from: &'a [u8; 17],
+    column_low: &'a [u8; 136],
+    column_high: &'a [u8; 136],
     must: &'a [u8; 256],
     may: &'a [u8; 256],
 ) -> Sight
-    ensures { λ l. ⌜ Looked (Fits (now (low .entry)) (now (high .entry))) (now (must .entry)) (now (may .entry)) l ⌝ }
+    requires { ⌜ Slots (now «column_slot») 17 ⌝ }
+    ensures { λ l. ⌜ Looked (Fits (now («row_low» .entry)) (now («row_high» .entry)) (now («column_slot» .entry)) (now («column_from» .entry)) (now («column_low» .entry)) (now («column_high» .entry))) (now (must .entry)) (now (may .entry)) l ⌝ }
 {
-    look_rows(low, high, must, may)
+    let rows = rows::look_rows(row_low, row_high, must, may);
+    let columns = columns::look_columns(
+        column_slot,
+        column_from,
+        column_low,
+        column_high,
+        must,
+        may,
+    );
+    join(rows, columns)
 }
 
 // Links between `must` and `may` that are right, left in `must`. Each bit that is wanted is tried as a link and then as none; a try that
 // fails leaves both arrays as they were.
 pub fn links<'a>(
-    low: &'a [u8; 256],
-    high: &'a [u8; 256],
+    row_low: &'a [u8; 256],
+    row_high: &'a [u8; 256],
+    column_slot: &'a [u8; 17],
+    column_from: &'a [u8; 17],
+    column_low: &'a [u8; 136],
+    column_high: &'a [u8; 136],
     must: &mut [u8; 256],
     may: &mut [u8; 256],
 ) -> bool
-    requires { ⌜ (length (now must) ≡ 256) × (length (now may) ≡ 256) ⌝ }
-    ensures { λ ok. ⌜ Answer (Fits (now (low .entry)) (now (high .entry))) (now (must .entry)) (now (may .entry)) (now (must .exit)) (now (may .exit)) ok ⌝ }
+    requires { ⌜ Slots (now «column_slot») 17 × (length (now must) ≡ 256) × (length (now may) ≡ 256) ⌝ }
+    ensures { λ ok. ⌜ Answer (Fits (now («row_low» .entry)) (now («row_high» .entry)) (now («column_slot» .entry)) (now («column_from» .entry)) (now («column_low» .entry)) (now («column_high» .entry))) (now (must .entry)) (now (may .entry)) (now (must .exit)) (now (may .exit)) ok ⌝ }
 {
-    let l = look_all(low, high, must, may);
+    let l = look_all(
+        row_low,
+        row_high,
+        column_slot,
+        column_from,
+        column_low,
+        column_high,
+        must,
+        may,
+    );
     if l.kind == 1 {
         return false;
     }
@@ -127,11 +146,29 @@ pub fn links<'a>(
     let m = may[i];
     may[i] = laws::off8(m, l.target);
     must[i] = laws::with8(y, l.target);
-    if links(low, high, must, may) {
+    if links(
+        row_low,
+        row_high,
+        column_slot,
+        column_from,
+        column_low,
+        column_high,
+        must,
+        may,
+    ) {
         return true;
     }
     must[i] = y;
-    if links(low, high, must, may) {
+    if links(
+        row_low,
+        row_high,
+        column_slot,
+        column_from,
+        column_low,
+        column_high,
+        must,
+        may,
+    ) {
         return true;
     }
     may[i] = m;

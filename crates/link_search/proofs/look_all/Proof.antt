@@ -1,18 +1,37 @@
--- `look_all` meets its contract: a look at each family.
+-- `look_all` meets its contract: a look at each family, joined.
 -- Assumes nothing.
-use Rattle.link_search.proofs.SeenLaws.{looked-fits}
+use mathlib.Core.Path.{_≡_, sym, ap, subst, _∙_}
+use mathlib.Core.List.{List}
+use Prim.Native.Nat.{ℕ}
+use Rattle.link_search.specs.Families.{Fits}
+use Rattle.link_search.specs.Answers.{Looked, joined}
+use Rattle.link_search.specs.declared.Sight.{Sight}
+use Rattle.link_search.proofs.JoinLaws.{looked-fits}
 use borrow.Author.Needs.{needs}
 use Rattle.link_search.proofs.look_all.Statement.{statement}
 use Rattle.link_search.proofs.look_all.Tie as tie
 use Rattle.link_search.proofs.look_all.Reads as reads
 use Rattle.link_search.proofs.look_all.Lts as lts
-use Rattle.link_search.proofs.look_rows.Reads as look-rows-reads
+use Rattle.link_search.proofs.rows.look_rows.Reads as look-rows-reads
+use Rattle.link_search.proofs.columns.look_columns.Reads as look-columns-reads
+use Rattle.link_search.proofs.join.Reads as join-reads
 
 look-rows-requires : tie.Need-look-rows-requires
 look-rows-requires c κs = search needs
 
+look-columns-requires : tie.Need-look-columns-requires
+look-columns-requires c κs = search needs
+
+join-requires : tie.Need-join-requires
+join-requires c κs = search needs
+
 returns : tie.Need-returns
-returns c = let a = c .before .args in looked-fits (a .low .now) (a .high .now) (a .must .now) (a .may .now) (c .look-rows .result) (c .look-rows .ensures)
+returns c =
+    let k1 = c .before in
+    let k0 = k1 .before in
+    let a = k0 .before .args in
+    subst (Looked (Fits (a .row-low .now) (a .row-high .now) (a .column-slot .now) (a .column-from .now) (a .column-low .now) (a .column-high .now)) (a .must .now) (a .may .now)) (sym (c .join .ensures))
+    (looked-fits (a .row-low .now) (a .row-high .now) (a .column-slot .now) (a .column-from .now) (a .column-low .now) (a .column-high .now) (a .must .now) (a .may .now) (k0 .look-rows .result) (k1 .look-columns .result) (k0 .look-rows .ensures) (k1 .look-columns .ensures))
 
 pub look-all-spec : {M : Type 1} → statement M
-look-all-spec = tie.close (tie.spec look-rows-requires returns)
+look-all-spec = tie.close (tie.spec look-rows-requires look-columns-requires join-requires returns)

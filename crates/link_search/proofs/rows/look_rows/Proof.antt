@@ -7,10 +7,10 @@ use native.Mathlib.Omega.{arith}
 use Rattle.link_search.specs.Families.{Rows}
 use Rattle.link_search.proofs.SeenLaws.{Seen, RowFine, seen-begin, seen-done, looked-dead, row-dead, row-more}
 use borrow.Author.Needs.{needs}
-use Rattle.link_search.proofs.look_rows.Statement.{statement}
-use Rattle.link_search.proofs.look_rows.Tie as tie
-use Rattle.link_search.proofs.look_rows.Reads as reads
-use Rattle.link_search.proofs.look_rows.Lts as lts
+use Rattle.link_search.proofs.rows.look_rows.Statement.{statement}
+use Rattle.link_search.proofs.rows.look_rows.Tie as tie
+use Rattle.link_search.proofs.rows.look_rows.Reads as reads
+use Rattle.link_search.proofs.rows.look_rows.Lts as lts
 use Rattle.link_search.proofs.judge.Reads as judge-reads
 
 abbrev Inv-loop : tie.InvT-loop
