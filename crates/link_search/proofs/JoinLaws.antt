@@ -8,7 +8,7 @@ use native.Mathlib.Omega.{arith}
 use lib.Dec.{eqb}
 use borrow.Author.Tests.{eqb-true, eqb-false, eq-eqb, ne-eqb}
 use Rattle.link_search.specs.Nets.{Net, netOf}
-use Rattle.link_search.specs.Families.{Rows, Columns, Fits}
+use Rattle.link_search.specs.Families.{Rows, Columns, Mirrors, Fits}
 use Rattle.link_search.specs.Answers.{Looked, joined}
 use Rattle.link_search.specs.declared.Sight.{Sight}
 
@@ -47,14 +47,15 @@ module _ (a b : Sight) where
   join-second n m e = sym (ap₂ (λ (x y : Bool). cond x a (cond y b (cond (eqb (a .kind) 2) a b))) (ne-eqb (a .kind) 1 n) (ne-eqb (b .kind) 1 m) ∙ ap (λ (z : Bool). cond z a b) (ne-eqb (a .kind) 2 e))
 
 -- everything
-pub looked-fits : (rowLow rowHigh columnSlot columnFrom columnLow columnHigh must may : List ℕ) (a b : Sight) → Looked (Rows rowLow rowHigh) must may a → Looked (Columns columnSlot columnFrom columnLow columnHigh) must may b → Looked (Fits rowLow rowHigh columnSlot columnFrom columnLow columnHigh) must may (joined a b)
-looked-fits rowLow rowHigh columnSlot columnFrom columnLow columnHigh must may a b x y =
+pub looked-fits : (rowLow rowHigh columnSlot columnFrom columnLow columnHigh mirrorRight mirrorLeft mirrorFrom mirrorTo must may : List ℕ) (a b d : Sight) → Looked (Rows rowLow rowHigh) must may a → Looked (Columns columnSlot columnFrom columnLow columnHigh) must may b → Looked (Mirrors mirrorRight mirrorLeft mirrorFrom mirrorTo) must may d → Looked (Fits rowLow rowHigh columnSlot columnFrom columnLow columnHigh mirrorRight mirrorLeft mirrorFrom mirrorTo) must may (joined (joined a b) d)
+looked-fits rowLow rowHigh columnSlot columnFrom columnLow columnHigh mirrorRight mirrorLeft mirrorFrom mirrorTo must may a b d x y z =
     let p = looked-both (Rows rowLow rowHigh) (Columns columnSlot columnFrom columnLow columnHigh) must may a b x y in
+    let q = looked-both (λ w. Rows rowLow rowHigh w × Columns columnSlot columnFrom columnLow columnHigh w) (Mirrors mirrorRight mirrorLeft mirrorFrom mirrorTo) must may (joined a b) d p z in
     record {
-      fine = λ h. let t = p .fine h in record { rows = t .0; columns = t .1 };
-      dead = λ h w bw o. p .dead h w bw (o .rows, o .columns);
-      below = p .below;
-      inside = p .inside;
-      spot = p .spot;
-      few = p .few;
+      fine = λ h. let t = q .fine h in record { rows = t .0 .0; columns = t .0 .1; mirrors = t .1 };
+      dead = λ h w bw o. q .dead h w bw ((o .rows, o .columns), o .mirrors);
+      below = q .below;
+      inside = q .inside;
+      spot = q .spot;
+      few = q .few;
     }

@@ -3,3 +3,4 @@ pub mod NetLaws
 pub mod SeenLaws
 pub mod ColumnLaws
 pub mod JoinLaws
+pub mod MirrorLaws

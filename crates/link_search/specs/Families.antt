@@ -34,6 +34,7 @@ abbrev pub Slots : List ℕ → ℕ → Type 0
 Slots slot n = (j : ℕ) → j < n → getD slot j 0 < 32
 
 -- everything that is asked
-pub record Fits (rowLow rowHigh columnSlot columnFrom columnLow columnHigh : List ℕ) (w : Net) : Type 0 where
+pub record Fits (rowLow rowHigh columnSlot columnFrom columnLow columnHigh mirrorRight mirrorLeft mirrorFrom mirrorTo : List ℕ) (w : Net) : Type 0 where
   pub rows : Rows rowLow rowHigh w
   pub columns : Columns columnSlot columnFrom columnLow columnHigh w
+  pub mirrors : Mirrors mirrorRight mirrorLeft mirrorFrom mirrorTo w

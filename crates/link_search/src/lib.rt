@@ -11,6 +11,7 @@ ghost use Rattle.link_search.specs.Families.{Slots, Fits};
 ghost use Rattle.link_search.specs.Answers.{Judged, Looked, joined, Answer};
 
 mod columns;
+mod mirrors;
 mod rows;
 
 // What a look says. kind 0: nothing is missing. 1: no net between is right. 2: the bit `target` of row `row` may stand, and is wanted.
@@ -92,11 +93,15 @@ fn look_all<'a>(
     column_from: &'a [u8; 17],
     column_low: &'a [u8; 136],
     column_high: &'a [u8; 136],
+    mirror_right: &'a [u8; 16],
+    mirror_left: &'a [u8; 16],
+    mirror_from: &'a [u8; 16],
+    mirror_to: &'a [u8; 16],
     must: &'a [u8; 256],
     may: &'a [u8; 256],
 ) -> Sight
-    requires { ⌜ Slots (now «column_slot») 17 ⌝ }
-    ensures { λ l. ⌜ Looked (Fits (now («row_low» .entry)) (now («row_high» .entry)) (now («column_slot» .entry)) (now («column_from» .entry)) (now («column_low» .entry)) (now («column_high» .entry))) (now (must .entry)) (now (may .entry)) l ⌝ }
+    requires { ⌜ Slots (now «column_slot») 17 × Slots (now «mirror_right») 16 × Slots (now «mirror_left») 16 ⌝ }
+    ensures { λ l. ⌜ Looked (Fits (now («row_low» .entry)) (now («row_high» .entry)) (now («column_slot» .entry)) (now («column_from» .entry)) (now («column_low» .entry)) (now («column_high» .entry)) (now («mirror_right» .entry)) (now («mirror_left» .entry)) (now («mirror_from» .entry)) (now («mirror_to» .entry))) (now (must .entry)) (now (may .entry)) l ⌝ }
 {
     let rows = rows::look_rows(row_low, row_high, must, may);
     let columns = columns::look_columns(
@@ -107,7 +112,15 @@ fn look_all<'a>(
         must,
         may,
     );
-    join(rows, columns)
+    let mirrors = mirrors::look_mirrors(
+        mirror_right,
+        mirror_left,
+        mirror_from,
+        mirror_to,
+        must,
+        may,
+    );
+    join(join(rows, columns), mirrors)
 }
 
 // Links between `must` and `may` that are right, left in `must`. Each bit that is wanted is tried as a link and then as none; a try that
@@ -119,11 +132,15 @@ pub fn links<'a>(
     column_from: &'a [u8; 17],
     column_low: &'a [u8; 136],
     column_high: &'a [u8; 136],
+    mirror_right: &'a [u8; 16],
+    mirror_left: &'a [u8; 16],
+    mirror_from: &'a [u8; 16],
+    mirror_to: &'a [u8; 16],
     must: &mut [u8; 256],
     may: &mut [u8; 256],
 ) -> bool
-    requires { ⌜ Slots (now «column_slot») 17 × (length (now must) ≡ 256) × (length (now may) ≡ 256) ⌝ }
-    ensures { λ ok. ⌜ Answer (Fits (now («row_low» .entry)) (now («row_high» .entry)) (now («column_slot» .entry)) (now («column_from» .entry)) (now («column_low» .entry)) (now («column_high» .entry))) (now (must .entry)) (now (may .entry)) (now (must .exit)) (now (may .exit)) ok ⌝ }
+    requires { ⌜ Slots (now «column_slot») 17 × Slots (now «mirror_right») 16 × Slots (now «mirror_left») 16 × (length (now must) ≡ 256) × (length (now may) ≡ 256) ⌝ }
+    ensures { λ ok. ⌜ Answer (Fits (now («row_low» .entry)) (now («row_high» .entry)) (now («column_slot» .entry)) (now («column_from» .entry)) (now («column_low» .entry)) (now («column_high» .entry)) (now («mirror_right» .entry)) (now («mirror_left» .entry)) (now («mirror_from» .entry)) (now («mirror_to» .entry))) (now (must .entry)) (now (may .entry)) (now (must .exit)) (now (may .exit)) ok ⌝ }
 {
     let l = look_all(
         row_low,
@@ -132,6 +149,10 @@ pub fn links<'a>(
         column_from,
         column_low,
         column_high,
+        mirror_right,
+        mirror_left,
+        mirror_from,
+        mirror_to,
         must,
         may,
     );
@@ -153,6 +174,10 @@ pub fn links<'a>(
         column_from,
         column_low,
         column_high,
+        mirror_right,
+        mirror_left,
+        mirror_from,
+        mirror_to,
         must,
         may,
     ) {
@@ -166,6 +191,10 @@ pub fn links<'a>(
         column_from,
         column_low,
         column_high,
+        mirror_right,
+        mirror_left,
+        mirror_from,
+        mirror_to,
         must,
         may,
     ) {

@@ -14,6 +14,7 @@ use Rattle.link_search.proofs.look_all.Reads as reads
 use Rattle.link_search.proofs.look_all.Lts as lts
 use Rattle.link_search.proofs.rows.look_rows.Reads as look-rows-reads
 use Rattle.link_search.proofs.columns.look_columns.Reads as look-columns-reads
+use Rattle.link_search.proofs.mirrors.look_mirrors.Reads as look-mirrors-reads
 use Rattle.link_search.proofs.join.Reads as join-reads
 
 look-rows-requires : tie.Need-look-rows-requires
@@ -22,16 +23,24 @@ look-rows-requires c κs = search needs
 look-columns-requires : tie.Need-look-columns-requires
 look-columns-requires c κs = search needs
 
+look-mirrors-requires : tie.Need-look-mirrors-requires
+look-mirrors-requires c κs = search needs
+
 join-requires : tie.Need-join-requires
 join-requires c κs = search needs
 
+join-requires-2 : tie.Need-join-requires-2
+join-requires-2 c κs = search needs
+
 returns : tie.Need-returns
 returns c =
-    let k1 = c .before in
+    let j1 = c .before in
+    let k2 = j1 .before in
+    let k1 = k2 .before in
     let k0 = k1 .before in
     let a = k0 .before .args in
-    subst (Looked (Fits (a .row-low .now) (a .row-high .now) (a .column-slot .now) (a .column-from .now) (a .column-low .now) (a .column-high .now)) (a .must .now) (a .may .now)) (sym (c .join .ensures))
-    (looked-fits (a .row-low .now) (a .row-high .now) (a .column-slot .now) (a .column-from .now) (a .column-low .now) (a .column-high .now) (a .must .now) (a .may .now) (k0 .look-rows .result) (k1 .look-columns .result) (k0 .look-rows .ensures) (k1 .look-columns .ensures))
+    subst (Looked (Fits (a .row-low .now) (a .row-high .now) (a .column-slot .now) (a .column-from .now) (a .column-low .now) (a .column-high .now) (a .mirror-right .now) (a .mirror-left .now) (a .mirror-from .now) (a .mirror-to .now)) (a .must .now) (a .may .now)) (sym (c .join2 .ensures ∙ ap (λ (l : Sight). joined l (k2 .look-mirrors .result)) (j1 .join .ensures)))
+    (looked-fits (a .row-low .now) (a .row-high .now) (a .column-slot .now) (a .column-from .now) (a .column-low .now) (a .column-high .now) (a .mirror-right .now) (a .mirror-left .now) (a .mirror-from .now) (a .mirror-to .now) (a .must .now) (a .may .now) (k0 .look-rows .result) (k1 .look-columns .result) (k2 .look-mirrors .result) (k0 .look-rows .ensures) (k1 .look-columns .ensures) (k2 .look-mirrors .ensures))
 
 pub look-all-spec : {M : Type 1} → statement M
-look-all-spec = tie.close (tie.spec look-rows-requires look-columns-requires join-requires returns)
+look-all-spec = tie.close (tie.spec look-rows-requires look-columns-requires look-mirrors-requires join-requires join-requires-2 returns)
