@@ -8,7 +8,7 @@ use native.Mathlib.Omega.{arith}
 use lib.Dec.{eqb}
 use borrow.Author.Tests.{eqb-true, eqb-false, eq-eqb, ne-eqb}
 use Rattle.link_search.specs.Nets.{Net, netOf}
-use Rattle.link_search.specs.Families.{Rows, Columns, Mirrors, Fits}
+use Rattle.link_search.specs.Families.{Rows, Columns, Mirrors, Wholes, Fits}
 use Rattle.link_search.specs.Answers.{Looked, joined}
 use Rattle.link_search.specs.declared.Sight.{Sight}
 
@@ -47,15 +47,16 @@ module _ (a b : Sight) where
   join-second n m e = sym (ap₂ (λ (x y : Bool). cond x a (cond y b (cond (eqb (a .kind) 2) a b))) (ne-eqb (a .kind) 1 n) (ne-eqb (b .kind) 1 m) ∙ ap (λ (z : Bool). cond z a b) (ne-eqb (a .kind) 2 e))
 
 -- everything
-pub looked-fits : (rowLow rowHigh columnSlot columnFrom columnLow columnHigh mirrorRight mirrorLeft mirrorFrom mirrorTo must may : List ℕ) (a b d : Sight) → Looked (Rows rowLow rowHigh) must may a → Looked (Columns columnSlot columnFrom columnLow columnHigh) must may b → Looked (Mirrors mirrorRight mirrorLeft mirrorFrom mirrorTo) must may d → Looked (Fits rowLow rowHigh columnSlot columnFrom columnLow columnHigh mirrorRight mirrorLeft mirrorFrom mirrorTo) must may (joined (joined a b) d)
-looked-fits rowLow rowHigh columnSlot columnFrom columnLow columnHigh mirrorRight mirrorLeft mirrorFrom mirrorTo must may a b d x y z =
+pub looked-fits : (rowLow rowHigh columnSlot columnFrom columnLow columnHigh mirrorRight mirrorLeft mirrorFrom mirrorTo wholeSlot wholeFrom wholeTo must may : List ℕ) (a b d e : Sight) → Looked (Rows rowLow rowHigh) must may a → Looked (Columns columnSlot columnFrom columnLow columnHigh) must may b → Looked (Mirrors mirrorRight mirrorLeft mirrorFrom mirrorTo) must may d → Looked (Wholes wholeSlot wholeFrom wholeTo) must may e → Looked (Fits rowLow rowHigh columnSlot columnFrom columnLow columnHigh mirrorRight mirrorLeft mirrorFrom mirrorTo wholeSlot wholeFrom wholeTo) must may (joined (joined (joined a b) d) e)
+looked-fits rowLow rowHigh columnSlot columnFrom columnLow columnHigh mirrorRight mirrorLeft mirrorFrom mirrorTo wholeSlot wholeFrom wholeTo must may a b d e x y z v =
     let p = looked-both (Rows rowLow rowHigh) (Columns columnSlot columnFrom columnLow columnHigh) must may a b x y in
     let q = looked-both (λ w. Rows rowLow rowHigh w × Columns columnSlot columnFrom columnLow columnHigh w) (Mirrors mirrorRight mirrorLeft mirrorFrom mirrorTo) must may (joined a b) d p z in
+    let r = looked-both (λ w. (Rows rowLow rowHigh w × Columns columnSlot columnFrom columnLow columnHigh w) × Mirrors mirrorRight mirrorLeft mirrorFrom mirrorTo w) (Wholes wholeSlot wholeFrom wholeTo) must may (joined (joined a b) d) e q v in
     record {
-      fine = λ h. let t = q .fine h in record { rows = t .0 .0; columns = t .0 .1; mirrors = t .1 };
-      dead = λ h w bw o. q .dead h w bw ((o .rows, o .columns), o .mirrors);
-      below = q .below;
-      inside = q .inside;
-      spot = q .spot;
-      few = q .few;
+      fine = λ h. let t = r .fine h in record { rows = t .0 .0 .0; columns = t .0 .0 .1; mirrors = t .0 .1; wholes = t .1 };
+      dead = λ h w bw o. r .dead h w bw (((o .rows, o .columns), o .mirrors), o .wholes);
+      below = r .below;
+      inside = r .inside;
+      spot = r .spot;
+      few = r .few;
     }

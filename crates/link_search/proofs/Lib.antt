@@ -4,3 +4,4 @@ pub mod SeenLaws
 pub mod ColumnLaws
 pub mod JoinLaws
 pub mod MirrorLaws
+pub mod WholeLaws

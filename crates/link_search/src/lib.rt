@@ -13,6 +13,7 @@ ghost use Rattle.link_search.specs.Answers.{Judged, Looked, joined, Answ
 mod columns;
 mod mirrors;
 mod rows;
+mod wholes;
 
 // What a look says. kind 0: nothing is missing. 1: no net between is right. 2: the bit `target` of row `row` may stand, and is wanted.
 pub struct Sight {
@@ -97,11 +98,14 @@ fn look_all<'a>(
     mirror_left: &'a [u8; 16],
     mirror_from: &'a [u8; 16],
     mirror_to: &'a [u8; 16],
+    whole_slot: &'a [u8; 16],
+    whole_from: &'a [u8; 16],
+    whole_to: &'a [u8; 16],
     must: &'a [u8; 256],
     may: &'a [u8; 256],
 ) -> Sight
-    requires { ⌜ Slots (now «column_slot») 17 × Slots (now «mirror_right») 16 × Slots (now «mirror_left») 16 ⌝ }
-    ensures { λ l. ⌜ Looked (Fits (now («row_low» .entry)) (now («row_high» .entry)) (now («column_slot» .entry)) (now («column_from» .entry)) (now («column_low» .entry)) (now («column_high» .entry)) (now («mirror_right» .entry)) (now («mirror_left» .entry)) (now («mirror_from» .entry)) (now («mirror_to» .entry))) (now (must .entry)) (now (may .entry)) l ⌝ }
+    requires { ⌜ Slots (now «column_slot») 17 × Slots (now «mirror_right») 16 × Slots (now «mirror_left») 16 × Slots (now «whole_slot») 16 ⌝ }
+    ensures { λ l. ⌜ Looked (Fits (now («row_low» .entry)) (now («row_high» .entry)) (now («column_slot» .entry)) (now («column_from» .entry)) (now («column_low» .entry)) (now («column_high» .entry)) (now («mirror_right» .entry)) (now («mirror_left» .entry)) (now («mirror_from» .entry)) (now («mirror_to» .entry)) (now («whole_slot» .entry)) (now («whole_from» .entry)) (now («whole_to» .entry))) (now (must .entry)) (now (may .entry)) l ⌝ }
 {
     let rows = rows::look_rows(row_low, row_high, must, may);
     let columns = columns::look_columns(
@@ -120,7 +124,8 @@ fn look_all<'a>(
         must,
         may,
     );
-    join(join(rows, columns), mirrors)
+    let wholes = wholes::look_wholes(whole_slot, whole_from, whole_to, must, may);
+    join(join(join(rows, columns), mirrors), wholes)
 }
 
 // Links between `must` and `may` that are right, left in `must`. Each bit that is wanted is tried as a link and then as none; a try that
@@ -136,11 +141,14 @@ pub fn links<'a>(
     mirror_left: &'a [u8; 16],
     mirror_from: &'a [u8; 16],
     mirror_to: &'a [u8; 16],
+    whole_slot: &'a [u8; 16],
+    whole_from: &'a [u8; 16],
+    whole_to: &'a [u8; 16],
     must: &mut [u8; 256],
     may: &mut [u8; 256],
 ) -> bool
-    requires { ⌜ Slots (now «column_slot») 17 × Slots (now «mirror_right») 16 × Slots (now «mirror_left») 16 × (length (now must) ≡ 256) × (length (now may) ≡ 256) ⌝ }
-    ensures { λ ok. ⌜ Answer (Fits (now («row_low» .entry)) (now («row_high» .entry)) (now («column_slot» .entry)) (now («column_from» .entry)) (now («column_low» .entry)) (now («column_high» .entry)) (now («mirror_right» .entry)) (now («mirror_left» .entry)) (now («mirror_from» .entry)) (now («mirror_to» .entry))) (now (must .entry)) (now (may .entry)) (now (must .exit)) (now (may .exit)) ok ⌝ }
+    requires { ⌜ Slots (now «column_slot») 17 × Slots (now «mirror_right») 16 × Slots (now «mirror_left») 16 × Slots (now «whole_slot») 16 × (length (now must) ≡ 256) × (length (now may) ≡ 256) ⌝ }
+    ensures { λ ok. ⌜ Answer (Fits (now («row_low» .entry)) (now («row_high» .entry)) (now («column_slot» .entry)) (now («column_from» .entry)) (now («column_low» .entry)) (now («column_high» .entry)) (now («mirror_right» .entry)) (now («mirror_left» .entry)) (now («mirror_from» .entry)) (now («mirror_to» .entry)) (now («whole_slot» .entry)) (now («whole_from» .entry)) (now («whole_to» .entry))) (now (must .entry)) (now (may .entry)) (now (must .exit)) (now (may .exit)) ok ⌝ }
 {
     let l = look_all(
         row_low,
@@ -153,6 +161,9 @@ pub fn links<'a>(
         mirror_left,
         mirror_from,
         mirror_to,
+        whole_slot,
+        whole_from,
+        whole_to,
         must,
         may,
     );
@@ -178,6 +189,9 @@ pub fn links<'a>(
         mirror_left,
         mirror_from,
         mirror_to,
+        whole_slot,
+        whole_from,
+        whole_to,
         must,
         may,
     ) {
@@ -195,6 +209,9 @@ pub fn links<'a>(
         mirror_left,
         mirror_from,
         mirror_to,
+        whole_slot,
+        whole_from,
+        whole_to,
         must,
         may,
     ) {

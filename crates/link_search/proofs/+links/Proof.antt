@@ -20,7 +20,7 @@ use Rattle.link_search.proofs.+links.{statement}
 use Rattle.link_search.proofs.+links.Tie.{close}
 
 abbrev μ-links : Measures 3 links-kinds.ps ℕ
-μ-links κs a = openBits (a .1 .1 .1 .1 .1 .1 .1 .1 .1 .1 .1 .0 .now)
+μ-links κs a = openBits (a .1 .1 .1 .1 .1 .1 .1 .1 .1 .1 .1 .1 .1 .1 .0 .now)
 
 abbrev links-at : ℕ → In 3 links-kinds.ps
 links-at t = and 3 links-kinds.ps (is 3 links-kinds.ps μ-links t) links.Pre
@@ -37,7 +37,7 @@ module _ (t : ℕ) where
 
   -- what is asked
   abbrev Right : Start → Net → Type 0
-  Right c = Fits (c .args .row-low .now) (c .args .row-high .now) (c .args .column-slot .now) (c .args .column-from .now) (c .args .column-low .now) (c .args .column-high .now) (c .args .mirror-right .now) (c .args .mirror-left .now) (c .args .mirror-from .now) (c .args .mirror-to .now)
+  Right c = Fits (c .args .row-low .now) (c .args .row-high .now) (c .args .column-slot .now) (c .args .column-from .now) (c .args .column-low .now) (c .args .column-high .now) (c .args .mirror-right .now) (c .args .mirror-left .now) (c .args .mirror-from .now) (c .args .mirror-to .now) (c .args .whole-slot .now) (c .args .whole-from .now) (c .args .whole-to .now)
 
   abbrev Wanted : Type 0
   Wanted = links-lts.Else2 (calls t) (links-at t) links.Post
@@ -68,8 +68,8 @@ module _ (t : ℕ) where
         below = below w;
         target = inside w;
         spot = w .before .before .before .before .look-all .ensures .spot (chosen w);
-        long = start c .pre .1 .3;
-        longMay = start c .pre .1 .4;
+        long = start c .pre .1 .4;
+        longMay = start c .pre .1 .5;
         on = c .with8 .ensures;
         off = c .before .off8 .ensures;
       }
@@ -105,14 +105,14 @@ links-links-requires : (t : ℕ) → links-lts.Need-links-requires (calls t) (li
 links-links-requires t c κs =
     let w = c .before .before in
     let f = try-falls (Right t (start t w)) (start t w .args .must .now) (start t w .args .may .now) (seen t w .row) (seen t w .target) (w .with8 .result) (w .before .off8 .result) (tried t w) in
-    (search (needs, f), (start t w .pre .1 .0, start t w .pre .1 .1, start t w .pre .1 .2, try-long (Right t (start t w)) (start t w .args .must .now) (start t w .args .may .now) (seen t w .row) (seen t w .target) (w .with8 .result) (w .before .off8 .result) (tried t w), try-long-may (Right t (start t w)) (start t w .args .must .now) (start t w .args .may .now) (seen t w .row) (seen t w .target) (w .with8 .result) (w .before .off8 .result) (tried t w)))
+    (search (needs, f), (start t w .pre .1 .0, start t w .pre .1 .1, start t w .pre .1 .2, start t w .pre .1 .3, try-long (Right t (start t w)) (start t w .args .must .now) (start t w .args .may .now) (seen t w .row) (seen t w .target) (w .with8 .result) (w .before .off8 .result) (tried t w), try-long-may (Right t (start t w)) (start t w .args .must .now) (start t w .args .may .now) (seen t w .row) (seen t w .target) (w .with8 .result) (w .before .off8 .result) (tried t w)))
 
 links-returns-3 : (t : ℕ) → links-lts.Need-returns-3 (calls t) (links-at t) links.Post
 links-returns-3 t c =
     let k = c .before in
     let w = k .before .before .before in
     answer-first (Right t (start t w)) (start t w .args .must .now) (start t w .args .may .now) (seen t w .row) (seen t w .target) (w .with8 .result) (w .before .off8 .result) (tried t w)
-    (k .links .last .1 .1 .1 .1 .1 .1 .1 .1 .1 .1 .0) (k .links .last .1 .1 .1 .1 .1 .1 .1 .1 .1 .1 .1 .0) (k .links .result) (k .links .ensures) (c .if3 .taken)
+    (k .links .last .1 .1 .1 .1 .1 .1 .1 .1 .1 .1 .1 .1 .1 .0) (k .links .last .1 .1 .1 .1 .1 .1 .1 .1 .1 .1 .1 .1 .1 .1 .0) (k .links .result) (k .links .ensures) (c .if3 .taken)
 
 links-element-write-must-2 : (t : ℕ) → links-lts.Need-element-write-must-2 (calls t) (links-at t) links.Post
 links-element-write-must-2 t c = below t (c .before .before .before .before .before .before .before .before)
@@ -123,16 +123,17 @@ links-links-requires-2 t c κs =
     let w = k .before .before .before in
     let e = c .before .before .if3 .left in
     let f = again-falls (Right t (start t w)) (start t w .args .must .now) (start t w .args .may .now) (seen t w .row) (seen t w .target) (w .with8 .result) (w .before .off8 .result) (tried t w)
-    (k .links .last .1 .1 .1 .1 .1 .1 .1 .1 .1 .1 .0) (k .links .last .1 .1 .1 .1 .1 .1 .1 .1 .1 .1 .1 .0) (k .links .result) (k .links .ensures) e in (
+    (k .links .last .1 .1 .1 .1 .1 .1 .1 .1 .1 .1 .1 .1 .1 .0) (k .links .last .1 .1 .1 .1 .1 .1 .1 .1 .1 .1 .1 .1 .1 .1 .0) (k .links .result) (k .links .ensures) e in (
       omega (arith, f, start t w .pre .0),
       (
         start t w .pre .1 .0,
         start t w .pre .1 .1,
         start t w .pre .1 .2,
+        start t w .pre .1 .3,
         again-long (Right t (start t w)) (start t w .args .must .now) (start t w .args .may .now) (seen t w .row) (seen t w .target) (w .with8 .result) (w .before .off8 .result) (tried t w)
-            (k .links .last .1 .1 .1 .1 .1 .1 .1 .1 .1 .1 .0) (k .links .last .1 .1 .1 .1 .1 .1 .1 .1 .1 .1 .1 .0) (k .links .result) (k .links .ensures) e,
+            (k .links .last .1 .1 .1 .1 .1 .1 .1 .1 .1 .1 .1 .1 .1 .0) (k .links .last .1 .1 .1 .1 .1 .1 .1 .1 .1 .1 .1 .1 .1 .1 .0) (k .links .result) (k .links .ensures) e,
         again-long-may (Right t (start t w)) (start t w .args .must .now) (start t w .args .may .now) (seen t w .row) (seen t w .target) (w .with8 .result) (w .before .off8 .result) (tried t w)
-            (k .links .last .1 .1 .1 .1 .1 .1 .1 .1 .1 .1 .0) (k .links .last .1 .1 .1 .1 .1 .1 .1 .1 .1 .1 .1 .0) (k .links .result) (k .links .ensures) e,
+            (k .links .last .1 .1 .1 .1 .1 .1 .1 .1 .1 .1 .1 .1 .1 .0) (k .links .last .1 .1 .1 .1 .1 .1 .1 .1 .1 .1 .1 .1 .1 .1 .0) (k .links .result) (k .links .ensures) e,
       ),
     )
 
@@ -142,8 +143,8 @@ links-returns-4 t c =
     let k = n .before .before .before .before in
     let w = k .before .before .before in
     answer-second (Right t (start t w)) (start t w .args .must .now) (start t w .args .may .now) (seen t w .row) (seen t w .target) (w .with8 .result) (w .before .off8 .result) (tried t w)
-    (k .links .last .1 .1 .1 .1 .1 .1 .1 .1 .1 .1 .0) (k .links .last .1 .1 .1 .1 .1 .1 .1 .1 .1 .1 .1 .0) (k .links .result) (k .links .ensures) (n .before .before .before .if3 .left)
-    (n .links2 .last .1 .1 .1 .1 .1 .1 .1 .1 .1 .1 .0) (n .links2 .last .1 .1 .1 .1 .1 .1 .1 .1 .1 .1 .1 .0) (n .links2 .result) (n .links2 .ensures) (c .if4 .taken)
+    (k .links .last .1 .1 .1 .1 .1 .1 .1 .1 .1 .1 .1 .1 .1 .0) (k .links .last .1 .1 .1 .1 .1 .1 .1 .1 .1 .1 .1 .1 .1 .1 .0) (k .links .result) (k .links .ensures) (n .before .before .before .if3 .left)
+    (n .links2 .last .1 .1 .1 .1 .1 .1 .1 .1 .1 .1 .1 .1 .1 .0) (n .links2 .last .1 .1 .1 .1 .1 .1 .1 .1 .1 .1 .1 .1 .1 .1 .0) (n .links2 .result) (n .links2 .ensures) (c .if4 .taken)
 
 links-element-write-may-2 : (t : ℕ) → links-lts.Need-element-write-may-2 (calls t) (links-at t) links.Post
 links-element-write-may-2 t c = below t (c .before .before .before .before .before .before .before .before .before .before .before .before)
@@ -154,8 +155,8 @@ links-returns-5 t c =
     let k = n .before .before .before .before in
     let w = k .before .before .before in
     answer-none (Right t (start t w)) (start t w .args .must .now) (start t w .args .may .now) (seen t w .row) (seen t w .target) (w .with8 .result) (w .before .off8 .result) (tried t w)
-    (k .links .last .1 .1 .1 .1 .1 .1 .1 .1 .1 .1 .0) (k .links .last .1 .1 .1 .1 .1 .1 .1 .1 .1 .1 .1 .0) (k .links .result) (k .links .ensures) (n .before .before .before .if3 .left)
-    (n .links2 .last .1 .1 .1 .1 .1 .1 .1 .1 .1 .1 .0) (n .links2 .last .1 .1 .1 .1 .1 .1 .1 .1 .1 .1 .1 .0) (n .links2 .result) (n .links2 .ensures) (c .if4 .left)
+    (k .links .last .1 .1 .1 .1 .1 .1 .1 .1 .1 .1 .1 .1 .1 .0) (k .links .last .1 .1 .1 .1 .1 .1 .1 .1 .1 .1 .1 .1 .1 .1 .0) (k .links .result) (k .links .ensures) (n .before .before .before .if3 .left)
+    (n .links2 .last .1 .1 .1 .1 .1 .1 .1 .1 .1 .1 .1 .1 .1 .0) (n .links2 .last .1 .1 .1 .1 .1 .1 .1 .1 .1 .1 .1 .1 .1 .1 .0) (n .links2 .result) (n .links2 .ensures) (c .if4 .left)
 
 pub +links-spec : {M : Type 1} → statement M
 +links-spec = close μ-links λ t. links-lts.spec (calls t)
