@@ -117,7 +117,7 @@ pub record Try (must may : List ℕ) (i p y m : ℕ) : Type 0 where
   pub on : (q : ℕ) → bit q y ≡ bit q (getD must i 0) || eqb q p
   pub off : (q : ℕ) → bit q m ≡ bit q (getD may i 0) && not (eqb q p)
 
-module _ (C : Net → Type 0) (must may : List ℕ) (i p y m : ℕ) (r : Try must may i p y m) where
+module _ (C : Net → Type 0) {must may : List ℕ} {i p y m : ℕ} (r : Try must may i p y m) where
   linked : Bit must i p true (set must i y)
   linked = bit-on must i p y (omega (arith, r .below, r .long)) (r .on)
 
@@ -134,8 +134,8 @@ module _ (C : Net → Type 0) (must may : List ℕ) (i p y m : ℕ) (r : Try mus
   try-long-may = length-set may i m ∙ r .longMay
 
   -- the first try found a net
-  pub answer-first : (u v : List ℕ) (f : Bool) → Answer C (set must i y) (set may i m) u v f → f ≡ true → Answer C must may u v true
-  answer-first u v f a h = record {
+  pub answer-first : {u v : List ℕ} {f : Bool} → Answer C (set must i y) (set may i m) u v f → f ≡ true → Answer C must may u v true
+  answer-first {u} {v} {f} a h = record {
     between = λ e. widen must may i p (r .spot) (set must i y) (set may i m) decided true (λ x. refl) linked (netOf u) (a .between h);
     sound = λ e. a .sound h;
     kept = λ e. absurd (true≢false e);
@@ -144,7 +144,7 @@ module _ (C : Net → Type 0) (must may : List ℕ) (i p y m : ℕ) (r : Try mus
   }
 
   -- it found none, and left u and v
-  module _ (u v : List ℕ) (f : Bool) (a : Answer C (set must i y) (set may i m) u v f) (none : f ≡ false) where
+  module _ {u v : List ℕ} {f : Bool} (a : Answer C (set must i y) (set may i m) u v f) (none : f ≡ false) where
     pub back-must : set u i (getD must i 0) ≡ must
     back-must = ap (λ (l : List ℕ). set l i (getD must i 0)) (a .kept none) ∙ put-back must i y (getD must i 0) refl
 
@@ -157,7 +157,7 @@ module _ (C : Net → Type 0) (must may : List ℕ) (i p y m : ℕ) (r : Try mus
     pub again-long-may : length v ≡ 256
     again-long-may = ap length (a .keptMay none) ∙ try-long-may
 
-    module _ (s t : List ℕ) (g : Bool) (b : Answer C (set u i (getD must i 0)) v s t g) where
+    module _ {s t : List ℕ} {g : Bool} (b : Answer C (set u i (getD must i 0)) v s t g) where
       second : Answer C must (set may i m) s t g
       second = subst (λ (l : List ℕ). Answer C must l s t g) (a .keptMay none) (subst (λ (l : List ℕ). Answer C l v s t g) back-must b)
 

@@ -104,15 +104,14 @@ links-element-write-must t c = below t (c .before .before .before .before)
 links-links-requires : (t : ℕ) → links-lts.Need-links-requires (calls t) (links-at t) links.Post
 links-links-requires t c κs =
     let w = c .before .before in
-    let f = try-falls (Right t (start t w)) (start t w .args .must .now) (start t w .args .may .now) (seen t w .row) (seen t w .target) (w .with8 .result) (w .before .off8 .result) (tried t w) in
-    (search (needs, f), (start t w .pre .1 .0, start t w .pre .1 .1, start t w .pre .1 .2, start t w .pre .1 .3, try-long (Right t (start t w)) (start t w .args .must .now) (start t w .args .may .now) (seen t w .row) (seen t w .target) (w .with8 .result) (w .before .off8 .result) (tried t w), try-long-may (Right t (start t w)) (start t w .args .must .now) (start t w .args .may .now) (seen t w .row) (seen t w .target) (w .with8 .result) (w .before .off8 .result) (tried t w)))
+    let f = try-falls (Right t (start t w)) (tried t w) in
+    (search (needs, f), (start t w .pre .1 .0, start t w .pre .1 .1, start t w .pre .1 .2, start t w .pre .1 .3, try-long (Right t (start t w)) (tried t w), try-long-may (Right t (start t w)) (tried t w)))
 
 links-returns-3 : (t : ℕ) → links-lts.Need-returns-3 (calls t) (links-at t) links.Post
 links-returns-3 t c =
     let k = c .before in
     let w = k .before .before .before in
-    answer-first (Right t (start t w)) (start t w .args .must .now) (start t w .args .may .now) (seen t w .row) (seen t w .target) (w .with8 .result) (w .before .off8 .result) (tried t w)
-    (k .links .last .1 .1 .1 .1 .1 .1 .1 .1 .1 .1 .1 .1 .1 .0) (k .links .last .1 .1 .1 .1 .1 .1 .1 .1 .1 .1 .1 .1 .1 .1 .0) (k .links .result) (k .links .ensures) (c .if3 .taken)
+    answer-first (Right t (start t w)) (tried t w) (k .links .ensures) (c .if3 .taken)
 
 links-element-write-must-2 : (t : ℕ) → links-lts.Need-element-write-must-2 (calls t) (links-at t) links.Post
 links-element-write-must-2 t c = below t (c .before .before .before .before .before .before .before .before)
@@ -122,18 +121,15 @@ links-links-requires-2 t c κs =
     let k = c .before .before .before in
     let w = k .before .before .before in
     let e = c .before .before .if3 .left in
-    let f = again-falls (Right t (start t w)) (start t w .args .must .now) (start t w .args .may .now) (seen t w .row) (seen t w .target) (w .with8 .result) (w .before .off8 .result) (tried t w)
-    (k .links .last .1 .1 .1 .1 .1 .1 .1 .1 .1 .1 .1 .1 .1 .0) (k .links .last .1 .1 .1 .1 .1 .1 .1 .1 .1 .1 .1 .1 .1 .1 .0) (k .links .result) (k .links .ensures) e in (
+    let f = again-falls (Right t (start t w)) (tried t w) (k .links .ensures) e in (
       omega (arith, f, start t w .pre .0),
       (
         start t w .pre .1 .0,
         start t w .pre .1 .1,
         start t w .pre .1 .2,
         start t w .pre .1 .3,
-        again-long (Right t (start t w)) (start t w .args .must .now) (start t w .args .may .now) (seen t w .row) (seen t w .target) (w .with8 .result) (w .before .off8 .result) (tried t w)
-            (k .links .last .1 .1 .1 .1 .1 .1 .1 .1 .1 .1 .1 .1 .1 .0) (k .links .last .1 .1 .1 .1 .1 .1 .1 .1 .1 .1 .1 .1 .1 .1 .0) (k .links .result) (k .links .ensures) e,
-        again-long-may (Right t (start t w)) (start t w .args .must .now) (start t w .args .may .now) (seen t w .row) (seen t w .target) (w .with8 .result) (w .before .off8 .result) (tried t w)
-            (k .links .last .1 .1 .1 .1 .1 .1 .1 .1 .1 .1 .1 .1 .1 .0) (k .links .last .1 .1 .1 .1 .1 .1 .1 .1 .1 .1 .1 .1 .1 .1 .0) (k .links .result) (k .links .ensures) e,
+        again-long (Right t (start t w)) (tried t w) (k .links .ensures) e,
+        again-long-may (Right t (start t w)) (tried t w) (k .links .ensures) e,
       ),
     )
 
@@ -142,9 +138,7 @@ links-returns-4 t c =
     let n = c .before in
     let k = n .before .before .before .before in
     let w = k .before .before .before in
-    answer-second (Right t (start t w)) (start t w .args .must .now) (start t w .args .may .now) (seen t w .row) (seen t w .target) (w .with8 .result) (w .before .off8 .result) (tried t w)
-    (k .links .last .1 .1 .1 .1 .1 .1 .1 .1 .1 .1 .1 .1 .1 .0) (k .links .last .1 .1 .1 .1 .1 .1 .1 .1 .1 .1 .1 .1 .1 .1 .0) (k .links .result) (k .links .ensures) (n .before .before .before .if3 .left)
-    (n .links2 .last .1 .1 .1 .1 .1 .1 .1 .1 .1 .1 .1 .1 .1 .0) (n .links2 .last .1 .1 .1 .1 .1 .1 .1 .1 .1 .1 .1 .1 .1 .1 .0) (n .links2 .result) (n .links2 .ensures) (c .if4 .taken)
+    answer-second (Right t (start t w)) (tried t w) (k .links .ensures) (n .before .before .before .if3 .left) (n .links2 .ensures) (c .if4 .taken)
 
 links-element-write-may-2 : (t : ℕ) → links-lts.Need-element-write-may-2 (calls t) (links-at t) links.Post
 links-element-write-may-2 t c = below t (c .before .before .before .before .before .before .before .before .before .before .before .before)
@@ -154,9 +148,7 @@ links-returns-5 t c =
     let n = c .before in
     let k = n .before .before .before .before in
     let w = k .before .before .before in
-    answer-none (Right t (start t w)) (start t w .args .must .now) (start t w .args .may .now) (seen t w .row) (seen t w .target) (w .with8 .result) (w .before .off8 .result) (tried t w)
-    (k .links .last .1 .1 .1 .1 .1 .1 .1 .1 .1 .1 .1 .1 .1 .0) (k .links .last .1 .1 .1 .1 .1 .1 .1 .1 .1 .1 .1 .1 .1 .1 .0) (k .links .result) (k .links .ensures) (n .before .before .before .if3 .left)
-    (n .links2 .last .1 .1 .1 .1 .1 .1 .1 .1 .1 .1 .1 .1 .1 .0) (n .links2 .last .1 .1 .1 .1 .1 .1 .1 .1 .1 .1 .1 .1 .1 .1 .0) (n .links2 .result) (n .links2 .ensures) (c .if4 .left)
+    answer-none (Right t (start t w)) (tried t w) (k .links .ensures) (n .before .before .before .if3 .left) (n .links2 .ensures) (c .if4 .left)
 
 pub +links-spec : {M : Type 1} → statement M
 +links-spec = close μ-links λ t. links-lts.spec (calls t)

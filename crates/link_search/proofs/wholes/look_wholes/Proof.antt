@@ -35,7 +35,7 @@ returns c =
     let a = h .before .args in
     looked-dead (Wholes (a .slot .now) (a .from .now) (a .to .now)) (a .must .now) (a .may .now)
     (λ w b ok. wholes-dead (a .slot .now) (a .from .now) (a .to .now) (a .must .now) (a .may .now) (h .before .pre) w b (h .loop .p) (k .count-wholes .result) (k .before .loop-test .taken)
-    (k .count-wholes .ensures) (c .if1 .taken) ok)
+    (k .count-wholes .ensures) (omega (arith, c .if1 .taken)) ok)
 
 add-p : tie.Need-add-p Inv-loop μ-loop
 add-p c = search needs
