@@ -46,17 +46,22 @@ module _ (a b : Sight) where
   unfolding joined
   join-second n m e = sym (ap₂ (λ (x y : Bool). cond x a (cond y b (cond (eqb (a .kind) 2) a b))) (ne-eqb (a .kind) 1 n) (ne-eqb (b .kind) 1 m) ∙ ap (λ (z : Bool). cond z a b) (ne-eqb (a .kind) 2 e))
 
--- everything
-pub looked-fits : (rowLow rowHigh columnSlot columnFrom columnLow columnHigh mirrorRight mirrorLeft mirrorFrom mirrorTo wholeSlot wholeFrom wholeTo must may : List ℕ) (a b d e : Sight) → Looked (Rows rowLow rowHigh) must may a → Looked (Columns columnSlot columnFrom columnLow columnHigh) must may b → Looked (Mirrors mirrorRight mirrorLeft mirrorFrom mirrorTo) must may d → Looked (Wholes wholeSlot wholeFrom wholeTo) must may e → Looked (Fits rowLow rowHigh columnSlot columnFrom columnLow columnHigh mirrorRight mirrorLeft mirrorFrom mirrorTo wholeSlot wholeFrom wholeTo) must may (joined (joined (joined a b) d) e)
-looked-fits rowLow rowHigh columnSlot columnFrom columnLow columnHigh mirrorRight mirrorLeft mirrorFrom mirrorTo wholeSlot wholeFrom wholeTo must may a b d e x y z v =
-    let p = looked-both (Rows rowLow rowHigh) (Columns columnSlot columnFrom columnLow columnHigh) must may a b x y in
-    let q = looked-both (λ w. Rows rowLow rowHigh w × Columns columnSlot columnFrom columnLow columnHigh w) (Mirrors mirrorRight mirrorLeft mirrorFrom mirrorTo) must may (joined a b) d p z in
-    let r = looked-both (λ w. (Rows rowLow rowHigh w × Columns columnSlot columnFrom columnLow columnHigh w) × Mirrors mirrorRight mirrorLeft mirrorFrom mirrorTo w) (Wholes wholeSlot wholeFrom wholeTo) must may (joined (joined a b) d) e q v in
-    record {
-      fine = λ h. let t = r .fine h in record { rows = t .0 .0 .0; columns = t .0 .0 .1; mirrors = t .0 .1; wholes = t .1 };
-      dead = λ h w bw o. r .dead h w bw (((o .rows, o .columns), o .mirrors), o .wholes);
-      below = r .below;
-      inside = r .inside;
-      spot = r .spot;
-      few = r .few;
-    }
+-- everything, mirrors first: a bit that a mirror wants has no other value
+module _ {rowLow rowHigh columnSlot columnFrom columnLow columnHigh mirrorRight mirrorLeft mirrorFrom mirrorTo wholeSlot wholeFrom wholeTo must may : List ℕ} {a b d e : Sight} where
+  pub looked-fits : Looked (Rows rowLow rowHigh) must may a → Looked (Columns columnSlot columnFrom columnLow columnHigh) must may b
+      → Looked (Mirrors mirrorRight mirrorLeft mirrorFrom mirrorTo) must may d → Looked (Wholes wholeSlot wholeFrom wholeTo) must may e
+      → Looked (Fits rowLow rowHigh columnSlot columnFrom columnLow columnHigh mirrorRight mirrorLeft mirrorFrom mirrorTo wholeSlot wholeFrom wholeTo) must may
+      (joined (joined (joined d a) b) e)
+  looked-fits x y z v =
+      let p = looked-both (Mirrors mirrorRight mirrorLeft mirrorFrom mirrorTo) (Rows rowLow rowHigh) must may d a z x in
+      let q = looked-both (λ w. Mirrors mirrorRight mirrorLeft mirrorFrom mirrorTo w × Rows rowLow rowHigh w) (Columns columnSlot columnFrom columnLow columnHigh) must may (joined d a) b p y in
+      let r = looked-both (λ w. (Mirrors mirrorRight mirrorLeft mirrorFrom mirrorTo w × Rows rowLow rowHigh w) × Columns columnSlot columnFrom columnLow columnHigh w)
+      (Wholes wholeSlot wholeFrom wholeTo) must may (joined (joined d a) b) e q v in
+      record {
+        fine = λ h. let t = r .fine h in record { mirrors = t .0 .0 .0; rows = t .0 .0 .1; columns = t .0 .1; wholes = t .1 };
+        dead = λ h w bw o. r .dead h w bw (((o .mirrors, o .rows), o .columns), o .wholes);
+        below = r .below;
+        inside = r .inside;
+        spot = r .spot;
+        few = r .few;
+      }

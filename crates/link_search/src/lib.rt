@@ -86,7 +86,7 @@ fn join(a: Sight, b: Sight) -> Sight
     b
 }
 
-// A look at everything that is asked.
+// A look at everything that is asked. What a mirror wants comes first: it has no other value.
 fn look_all<'a>(
     row_low: &'a [u8; 256],
     row_high: &'a [u8; 256],
@@ -125,7 +125,7 @@ fn look_all<'a>(
         may,
     );
     let wholes = wholes::look_wholes(whole_slot, whole_from, whole_to, must, may);
-    join(join(join(rows, columns), mirrors), wholes)
+    join(join(join(mirrors, rows), columns), wholes)
 }
 
 // Links between `must` and `may` that are right, left in `must`. Each bit that is wanted is tried as a link and then as none; a try that

@@ -48,8 +48,8 @@ returns c =
     let k1 = k2 .before in
     let k0 = k1 .before in
     let a = k0 .before .args in
-    subst (Looked (Fits (a .row-low .now) (a .row-high .now) (a .column-slot .now) (a .column-from .now) (a .column-low .now) (a .column-high .now) (a .mirror-right .now) (a .mirror-left .now) (a .mirror-from .now) (a .mirror-to .now) (a .whole-slot .now) (a .whole-from .now) (a .whole-to .now)) (a .must .now) (a .may .now)) (sym (c .join3 .ensures ∙ ap (λ (l : Sight). joined l (k3 .look-wholes .result)) (j2 .join2 .ensures ∙ ap (λ (l : Sight). joined l (k2 .look-mirrors .result)) (j1 .join .ensures))))
-    (looked-fits (a .row-low .now) (a .row-high .now) (a .column-slot .now) (a .column-from .now) (a .column-low .now) (a .column-high .now) (a .mirror-right .now) (a .mirror-left .now) (a .mirror-from .now) (a .mirror-to .now) (a .whole-slot .now) (a .whole-from .now) (a .whole-to .now) (a .must .now) (a .may .now) (k0 .look-rows .result) (k1 .look-columns .result) (k2 .look-mirrors .result) (k3 .look-wholes .result) (k0 .look-rows .ensures) (k1 .look-columns .ensures) (k2 .look-mirrors .ensures) (k3 .look-wholes .ensures))
+    subst (Looked (Fits (a .row-low .now) (a .row-high .now) (a .column-slot .now) (a .column-from .now) (a .column-low .now) (a .column-high .now) (a .mirror-right .now) (a .mirror-left .now) (a .mirror-from .now) (a .mirror-to .now) (a .whole-slot .now) (a .whole-from .now) (a .whole-to .now)) (a .must .now) (a .may .now)) (sym (c .join3 .ensures ∙ ap (λ (l : Sight). joined l (k3 .look-wholes .result)) (j2 .join2 .ensures ∙ ap (λ (l : Sight). joined l (k1 .look-columns .result)) (j1 .join .ensures))))
+    (looked-fits (k0 .look-rows .ensures) (k1 .look-columns .ensures) (k2 .look-mirrors .ensures) (k3 .look-wholes .ensures))
 
 pub look-all-spec : {M : Type 1} → statement M
 look-all-spec = tie.close (tie.spec look-rows-requires look-columns-requires look-mirrors-requires look-wholes-requires join-requires join-requires-2 join-requires-3 returns)
