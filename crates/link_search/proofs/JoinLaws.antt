@@ -46,6 +46,17 @@ module _ (a b : Sight) where
   unfolding joined
   join-second n m e = sym (ap₂ (λ (x y : Bool). cond x a (cond y b (cond (eqb (a .kind) 2) a b))) (ne-eqb (a .kind) 1 n) (ne-eqb (b .kind) 1 m) ∙ ap (λ (z : Bool). cond z a b) (ne-eqb (a .kind) 2 e))
 
+-- a part of what is asked that no net between meets
+pub looked-dead-part : {C D : Net → Type 0} {must may : List ℕ} {l : Sight} → ((w : Net) → D w → C w) → l .kind ≡ 1 → Looked C must may l → Looked D must may l
+looked-dead-part f e x = record {
+  fine = λ z. absurd (omega (arith, e, z));
+  dead = λ z w bw dw. x .dead z w bw (f w dw);
+  below = x .below;
+  inside = x .inside;
+  spot = x .spot;
+  few = x .few;
+}
+
 -- everything, mirrors first: a bit that a mirror wants has no other value
 module _ {rowLow rowHigh columnSlot columnFrom columnLow columnHigh mirrorRight mirrorLeft mirrorFrom mirrorTo wholeSlot wholeFrom wholeTo must may : List ℕ} {a b d e : Sight} where
   pub looked-fits : Looked (Rows rowLow rowHigh) must may a → Looked (Columns columnSlot columnFrom columnLow columnHigh) must may b

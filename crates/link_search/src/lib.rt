@@ -108,6 +108,9 @@ fn look_all<'a>(
     ensures { λ l. ⌜ Looked (Fits (now («row_low» .entry)) (now («row_high» .entry)) (now («column_slot» .entry)) (now («column_from» .entry)) (now («column_low» .entry)) (now («column_high» .entry)) (now («mirror_right» .entry)) (now («mirror_left» .entry)) (now («mirror_from» .entry)) (now («mirror_to» .entry)) (now («whole_slot» .entry)) (now («whole_from» .entry)) (now («whole_to» .entry))) (now (must .entry)) (now (may .entry)) l ⌝ }
 {
     let rows = rows::look_rows(row_low, row_high, must, may);
+    if rows.kind == 1 {
+        return rows;
+    }
     let columns = columns::look_columns(
         column_slot,
         column_from,

@@ -6,7 +6,7 @@ use Prim.Native.Nat.{ℕ}
 use Rattle.link_search.specs.Families.{Fits}
 use Rattle.link_search.specs.Answers.{Looked, joined}
 use Rattle.link_search.specs.declared.Sight.{Sight}
-use Rattle.link_search.proofs.JoinLaws.{looked-fits}
+use Rattle.link_search.proofs.JoinLaws.{looked-dead-part, looked-fits}
 use borrow.Author.Needs.{needs}
 use Rattle.link_search.proofs.look_all.Statement.{statement}
 use Rattle.link_search.proofs.look_all.Tie as tie
@@ -20,6 +20,9 @@ use Rattle.link_search.proofs.join.Reads as join-reads
 
 look-rows-requires : tie.Need-look-rows-requires
 look-rows-requires c κs = search needs
+
+returns : tie.Need-returns
+returns c = let k = c .before .before in looked-dead-part (λ w o. o .rows) (c .if1 .taken) (k .look-rows .ensures)
 
 look-columns-requires : tie.Need-look-columns-requires
 look-columns-requires c κs = search needs
@@ -39,17 +42,17 @@ join-requires-2 c κs = search needs
 join-requires-3 : tie.Need-join-requires-3
 join-requires-3 c κs = search needs
 
-returns : tie.Need-returns
-returns c =
+returns-2 : tie.Need-returns-2
+returns-2 c =
     let j2 = c .before in
     let j1 = j2 .before in
     let k3 = j1 .before in
     let k2 = k3 .before in
     let k1 = k2 .before in
-    let k0 = k1 .before in
+    let k0 = k1 .before .before .before in
     let a = k0 .before .args in
     subst (Looked (Fits (a .row-low .now) (a .row-high .now) (a .column-slot .now) (a .column-from .now) (a .column-low .now) (a .column-high .now) (a .mirror-right .now) (a .mirror-left .now) (a .mirror-from .now) (a .mirror-to .now) (a .whole-slot .now) (a .whole-from .now) (a .whole-to .now)) (a .must .now) (a .may .now)) (sym (c .join3 .ensures ∙ ap (λ (l : Sight). joined l (k3 .look-wholes .result)) (j2 .join2 .ensures ∙ ap (λ (l : Sight). joined l (k1 .look-columns .result)) (j1 .join .ensures))))
     (looked-fits (k0 .look-rows .ensures) (k1 .look-columns .ensures) (k2 .look-mirrors .ensures) (k3 .look-wholes .ensures))
 
 pub look-all-spec : {M : Type 1} → statement M
-look-all-spec = tie.close (tie.spec look-rows-requires look-columns-requires look-mirrors-requires look-wholes-requires join-requires join-requires-2 join-requires-3 returns)
+look-all-spec = tie.close (tie.spec look-rows-requires returns look-columns-requires look-mirrors-requires look-wholes-requires join-requires join-requires-2 join-requires-3 returns-2)
