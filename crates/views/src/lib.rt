@@ -1,0 +1,1 @@
+// A diagram through the indices of another one, old: tables by old's types and role slots.

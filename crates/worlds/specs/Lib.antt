@@ -1,0 +1,4 @@
+pub mod Ruled
+pub mod Asked
+pub mod Tables
+pub mod Renumbered
