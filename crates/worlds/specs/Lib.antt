@@ -1,4 +1,4 @@
-pub mod Ruled
+pub mod Kept
 pub mod Asked
 pub mod Tables
 pub mod Renumbered
