@@ -71,6 +71,9 @@ pub record Sheet : Type 0 where
   pub highs : List ℕ
   pub lines : Lines
 
+abbrev pub sheet : ℕ → ℕ → List ℕ → List ℕ → List ℕ → Lines → Sheet
+sheet usable singles targets lows highs lines = record { usable = usable; singles = singles; targets = targets; lows = lows; highs = highs; lines = lines }
+
 pub record Allowed (x : Sheet) (w : World) : Type 0 where
   pub few : w .size ≤ 8
   pub past : (s o p : ℕ) → 32 ≤ s → w .link s o p ≡ false
