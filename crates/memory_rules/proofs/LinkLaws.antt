@@ -55,14 +55,14 @@ module _ (d : Diagram) (r : Record) (m : MemoryRecord) (h : Stands d r m) where
       ap (λ (s : ℕ). linkIn m o s p) (sym q) ∙ link-kept d r m h o (roleName d e) p l k (omega arith)
 
   -- link number x is kept, and the record's link i is that one
-  record LinkPair (x i : ℕ) : Type 0 where
-    below : x < m .count * 256
-    within : i < length (r .links)
-    kept : linkKept d m x ≡ true
-    is : linkAt r i ≡ keptLink d x
+  pub record LinkPair (x i : ℕ) : Type 0 where
+    pub below : x < m .count * 256
+    pub within : i < length (r .links)
+    pub kept : linkKept d m x ≡ true
+    pub is : linkAt r i ≡ keptLink d x
 
   -- each link kept is one of the record
-  kept-pair : (x : ℕ) → x < m .count * 256 → linkKept d m x ≡ true → (i : ℕ) × LinkPair x i
+  pub kept-pair : (x : ℕ) → x < m .count * 256 → linkKept d m x ≡ true → (i : ℕ) × LinkPair x i
   unfolding linkKept hasLink
   kept-pair x l e =
       let own : ownRole d (x / 8 % 32) ≡ true = both-left _ _ e in
@@ -78,7 +78,7 @@ module _ (d : Diagram) (r : Record) (m : MemoryRecord) (h : Stands d r m) where
       named i x a b c = unfold keptLink in λ j. record { from = a j; role = b j; to = c j }
 
   -- each link of the record whose role the diagram has is kept
-  link-pair : (i : ℕ) → i < length (r .links) → roleSlot d (linkAt r i .role) < roleCount d → (x : ℕ) × LinkPair x i
+  pub link-pair : (i : ℕ) → i < length (r .links) → roleSlot d (linkAt r i .role) < roleCount d → (x : ℕ) × LinkPair x i
   unfolding linkKept keptLink hasLink
   link-pair i l k =
       let o : ℕ = linkAt r i .from in
