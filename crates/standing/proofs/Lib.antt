@@ -1,0 +1,4 @@
+pub mod CodeLaws
+pub mod LinkLaws
+pub mod ValueLaws
+pub mod StandingLaws
