@@ -1,0 +1,5 @@
+pub mod SeenLaws
+pub mod MirrorLaws
+pub mod WholeLaws
+pub mod WithinLaws
+pub mod ColumnLaws
