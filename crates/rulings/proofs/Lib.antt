@@ -3,3 +3,7 @@ pub mod MirrorLaws
 pub mod WholeLaws
 pub mod WithinLaws
 pub mod ColumnLaws
+pub mod LeadLaws
+pub mod PermitLaws
+pub mod TargetLaws
+pub mod RowLaws
