@@ -7,3 +7,8 @@ pub mod LeadLaws
 pub mod PermitLaws
 pub mod TargetLaws
 pub mod RowLaws
+pub mod SingleLaws
+pub mod KeptLaws
+pub mod OwnLaws
+pub mod AllowedLaws
+pub mod LegalLaws
