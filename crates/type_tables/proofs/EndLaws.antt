@@ -27,7 +27,7 @@ module _ (d : Diagram) where
       let even : a * 2 % 2 ≡ 0 = omega arith in
       rw (even, half)
 
-  end-opposite : (s : Side) (a : ℕ) → endAt d (opposite d (endOf d s a)) ≡ source s (associationAt d a)
+  pub end-opposite : (s : Side) (a : ℕ) → endAt d (opposite d (endOf d s a)) ≡ source s (associationAt d a)
   unfolding opposite
   end-opposite r2 a =
       let odd : (a * 2 + 1) % 2 ≡ 1 = omega arith in
@@ -35,7 +35,7 @@ module _ (d : Diagram) where
       rw (odd, less) (end-at r1 a)
   end-opposite r1 a = let even : a * 2 % 2 ≡ 0 = omega arith in rw even (end-at r2 a)
 
-  carried-to : (s : Side) (a : ℕ) → carriedTo d (endOf d s a) ≡ carries s (associationAt d a)
+  pub carried-to : (s : Side) (a : ℕ) → carriedTo d (endOf d s a) ≡ carries s (associationAt d a)
   unfolding carriedTo
   carried-to r2 a =
       let half : (a * 2 + 1) / 2 ≡ a = omega arith in

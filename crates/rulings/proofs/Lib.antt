@@ -1,0 +1,14 @@
+pub mod SeenLaws
+pub mod MirrorLaws
+pub mod WholeLaws
+pub mod WithinLaws
+pub mod ColumnLaws
+pub mod LeadLaws
+pub mod PermitLaws
+pub mod TargetLaws
+pub mod RowLaws
+pub mod SingleLaws
+pub mod KeptLaws
+pub mod OwnLaws
+pub mod AllowedLaws
+pub mod LegalLaws
