@@ -1,0 +1,5 @@
+pub mod AloneLaws
+pub mod JoinedLaws
+pub mod NamedLaws
+pub mod LegalLaws
+pub mod GoodLaws
