@@ -85,82 +85,82 @@ rule4-coded old new x w v s k is a c = rule4-alone new x w v (codedValue old s k
 module _ (old new : Diagram) (r : Record) (m : MemoryRecord) (stands : Stands old r m) (legal : Legal old r)
     (good : (o : ℕ) → o < m .count → badBy old new (getD (m .types) o 0) ≡ false)
   where
-  abbrev typeOf : ℕ → ℕ
-  typeOf o = getD (m .types) o 0
+    abbrev typeOf : ℕ → ℕ
+    typeOf o = getD (m .types) o 0
 
-  object-in : (o : ℕ) → o < objectCount r → o < m .count
-  object-in o l = subst (λ (n : ℕ). o < n) (sym (stands .count)) l
+    object-in : (o : ℕ) → o < objectCount r → o < m .count
+    object-in o l = subst (λ (n : ℕ). o < n) (sym (stands .count)) l
 
-  type-index : (o : ℕ) → o < objectCount r → typeOf o ≡ typeIndex old (objectType r o)
-  type-index o l = stands .represents .types o l
+    type-index : (o : ℕ) → o < objectCount r → typeOf o ≡ typeIndex old (objectType r o)
+    type-index o l = stands .represents .types o l
 
-  type-below : (o : ℕ) → o < objectCount r → typeOf o < length (old .types)
-  type-below o l =
-      subst (λ (n : ℕ). n < length (old .types)) (sym (type-index o l)) (known-type old r (stands .wf-record) (stands .wf-diagram) legal o l)
+    type-below : (o : ℕ) → o < objectCount r → typeOf o < length (old .types)
+    type-below o l =
+        subst (λ (n : ℕ). n < length (old .types)) (sym (type-index o l)) (known-type old r (stands .wf-record) (stands .wf-diagram) legal o l)
 
-  type-name : (o : ℕ) → o < objectCount r → typeAt old (typeOf o) .name ≡ objectType r o
-  type-name o l =
-      ap (λ (n : ℕ). typeAt old n .name) (type-index o l) ∙ index-name old (objectType r o) (known-type old r (stands .wf-record) (stands .wf-diagram) legal o l)
+    type-name : (o : ℕ) → o < objectCount r → typeAt old (typeOf o) .name ≡ objectType r o
+    type-name o l =
+        ap (λ (n : ℕ). typeAt old n .name) (type-index o l) ∙ index-name old (objectType r o) (known-type old r (stands .wf-record) (stands .wf-diagram) legal o l)
 
-  -- ---- rule 1
+    -- ---- rule 1
 
-  pub good-keeps-1 : rule1 new (siteOf r) ≡ true
-  unfolding rule1
-  good-keeps-1 = all-of _ _ each
-    where
-      each : (o : ℕ) → o < siteOf r .count → rule1At new (siteOf r) o ≡ true
-      each o l = unfold siteOf in
-          rule1-alone new (siteOf r) o (objectType r o) (record-typed r o)
-          ∙ subst (λ (w : Name). rule1At new (alone w) 0 ≡ true) (type-name o l) (good-type old new (typeOf o) (good o (object-in o l)))
+    pub good-keeps-1 : rule1 new (siteOf r) ≡ true
+    unfolding rule1
+    good-keeps-1 = all-of _ _ each
+      where
+        each : (o : ℕ) → o < siteOf r .count → rule1At new (siteOf r) o ≡ true
+        each o l = unfold siteOf in
+            rule1-alone new (siteOf r) o (objectType r o) (record-typed r o)
+            ∙ subst (λ (w : Name). rule1At new (alone w) 0 ≡ true) (type-name o l) (good-type old new (typeOf o) (good o (object-in o l)))
 
-  -- ---- rule 3
+    -- ---- rule 3
 
-  rule3-name : (o : ℕ) (w : Name) → o < objectCount r
-      → declared old (alone (typeAt old (typeOf o) .name)) 0 w ≡ declared new (alone (typeAt old (typeOf o) .name)) 0 w → rule3For new (siteOf r) o w ≡ true
-  unfolding rule3For siteOf
-  rule3-name o w l e =
-      let q : hasValue r o w ≡ declared new (siteOf r) o w = has-declared old (stands .wf-diagram) r (stands .wf-record) legal o w l
-      ∙ subst (λ (n : Name). declared old (alone n) 0 w ≡ declared new (alone n) 0 w) (type-name o l) e
-      ∙ sym (declared-alone new (siteOf r) o (objectType r o) (record-typed r o) w) in
-      same-iff (hasValue r o w) (declared new (siteOf r) o w) .1 ((λ h. sym q ∙ h), (λ h. q ∙ h))
+    rule3-name : (o : ℕ) (w : Name) → o < objectCount r
+        → declared old (alone (typeAt old (typeOf o) .name)) 0 w ≡ declared new (alone (typeAt old (typeOf o) .name)) 0 w → rule3For new (siteOf r) o w ≡ true
+    unfolding rule3For siteOf
+    rule3-name o w l e =
+        let q : hasValue r o w ≡ declared new (siteOf r) o w = has-declared old (stands .wf-diagram) r (stands .wf-record) legal o w l
+        ∙ subst (λ (n : Name). declared old (alone n) 0 w ≡ declared new (alone n) 0 w) (type-name o l) e
+        ∙ sym (declared-alone new (siteOf r) o (objectType r o) (record-typed r o) w) in
+        same-iff (hasValue r o w) (declared new (siteOf r) o w) .1 ((λ h. sym q ∙ h), (λ h. q ∙ h))
 
-  rule3-value : (o i : ℕ) → o < objectCount r → i < length (r .values) → rule3For new (siteOf r) o (valueAt r i .attribute) ≡ true
-  rule3-value o i l k =
-      let w : Name = valueAt r i .attribute in
-      let there : attributeSlot old w < length (old .attributes) = value-known old r (legal-keeps old r legal .third) i k (stands .wf-record .value i k .object-below) in
-      rule3-name o w l
-      (subst (λ (n : Name). declared old (alone (typeAt old (typeOf o) .name)) 0 n ≡ declared new (alone (typeAt old (typeOf o) .name)) 0 n) (attribute-name old w there)
-      (good-old old new (typeOf o) (good o (object-in o l)) (attributeSlot old w) there))
+    rule3-value : (o i : ℕ) → o < objectCount r → i < length (r .values) → rule3For new (siteOf r) o (valueAt r i .attribute) ≡ true
+    rule3-value o i l k =
+        let w : Name = valueAt r i .attribute in
+        let there : attributeSlot old w < length (old .attributes) = value-known old r (legal-keeps old r legal .third) i k (stands .wf-record .value i k .object-below) in
+        rule3-name o w l
+        (subst (λ (n : Name). declared old (alone (typeAt old (typeOf o) .name)) 0 n ≡ declared new (alone (typeAt old (typeOf o) .name)) 0 n) (attribute-name old w there)
+        (good-old old new (typeOf o) (good o (object-in o l)) (attributeSlot old w) there))
 
-  pub good-keeps-3 : rule3 new (siteOf r) ≡ true
-  unfolding rule3
-  good-keeps-3 = all-of _ _ each
-    where
-      each : (o : ℕ) → o < siteOf r .count → rule3At new (siteOf r) o ≡ true
-      each o l = unfold siteOf rule3At in
-          both-of _ _ (all-of _ (length (new .attributes)) (λ a k. rule3-name o (attributeAt new a .name) l (good-new old new (typeOf o) (good o (object-in o l)) a k)))
-          (all-of _ (length (r .values)) (λ i k. rule3-value o i l k))
+    pub good-keeps-3 : rule3 new (siteOf r) ≡ true
+    unfolding rule3
+    good-keeps-3 = all-of _ _ each
+      where
+        each : (o : ℕ) → o < siteOf r .count → rule3At new (siteOf r) o ≡ true
+        each o l = unfold siteOf rule3At in
+            both-of _ _ (all-of _ (length (new .attributes)) (λ a k. rule3-name o (attributeAt new a .name) l (good-new old new (typeOf o) (good o (object-in o l)) a k)))
+            (all-of _ (length (r .values)) (λ i k. rule3-value o i l k))
 
-  -- ---- rule 4
+    -- ---- rule 4
 
-  rule4-value : (i : ℕ) → i < length (r .values) → rule4At new (siteOf r) (valueAt r i) ≡ true
-  rule4-value i l =
-      let v : Value = valueAt r i in
-      let o : ℕ = v .object in
-      let w : Name = v .attribute in
-      let under : v .object < objectCount r = stands .wf-record .value i l .object-below in
-      let s : ℕ = attributeSlot old w in
-      let there : attributeSlot old w < length (old .attributes) = value-known old r (legal-keeps old r legal .third) i l under in
-      let k = value-due old (stands .wf-diagram) r (stands .wf-record) legal i l in
-      let due-is : due old (typeOf o) s ≡ 1 + k .0 / 8 =
-      sym (named-own old (stands .wf-diagram) (typeOf o) (type-below o under) w) ∙ ap (λ (n : Name). dueNamed old n w) (type-name o under) ∙ k .2 in
-      rule4-coded old new (siteOf r) (objectType r o) v s (k .0) (record-typed r o) (sym (attribute-name old w there)) (k .1)
-      ∙ subst (λ (n : Name). rule4At new (alone n) (codedValue old s (k .0)) ≡ true) (type-name o under)
-      (good-code old new (typeOf o) (good o (object-in o under)) s (k .0) there (k .1 .small) (allowed-of old (typeOf o) s (k .0) due-is (k .1 .is-value)))
+    rule4-value : (i : ℕ) → i < length (r .values) → rule4At new (siteOf r) (valueAt r i) ≡ true
+    rule4-value i l =
+        let v : Value = valueAt r i in
+        let o : ℕ = v .object in
+        let w : Name = v .attribute in
+        let under : v .object < objectCount r = stands .wf-record .value i l .object-below in
+        let s : ℕ = attributeSlot old w in
+        let there : attributeSlot old w < length (old .attributes) = value-known old r (legal-keeps old r legal .third) i l under in
+        let k = value-due old (stands .wf-diagram) r (stands .wf-record) legal i l in
+        let due-is : due old (typeOf o) s ≡ 1 + k .0 / 8 =
+        sym (named-own old (stands .wf-diagram) (typeOf o) (type-below o under) w) ∙ ap (λ (n : Name). dueNamed old n w) (type-name o under) ∙ k .2 in
+        rule4-coded old new (siteOf r) (objectType r o) v s (k .0) (record-typed r o) (sym (attribute-name old w there)) (k .1)
+        ∙ subst (λ (n : Name). rule4At new (alone n) (codedValue old s (k .0)) ≡ true) (type-name o under)
+        (good-code old new (typeOf o) (good o (object-in o under)) s (k .0) there (k .1 .small) (allowed-of old (typeOf o) s (k .0) due-is (k .1 .is-value)))
 
-  pub good-keeps-4 : rule4 new (siteOf r) ≡ true
-  unfolding rule4 siteOf
-  good-keeps-4 = all-of _ (length (r .values)) rule4-value
+    pub good-keeps-4 : rule4 new (siteOf r) ≡ true
+    unfolding rule4 siteOf
+    good-keeps-4 = all-of _ (length (r .values)) rule4-value
 
 -- all three
 pub record KeepsValues (new : Diagram) (r : Record) : Type 0 where

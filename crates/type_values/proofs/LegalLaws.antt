@@ -64,10 +64,11 @@ module _ (d : Diagram) (wf : WfDiagram d) where
       let type : valueTypeAt d (k / 8) .name ≡ v .valueType = code-type d wf (v .valueType) (v .constant) k is in
       let value = code-value d (v .valueType) (v .constant) k is in
       let own : valueTypeAt d u .name ≡ v .valueType = same-equal _ _ (both-left _ _ e) in
-      let one : sameName (valueTypeAt d (k / 8) .name) (valueTypeAt d u .name) ≡ true = ap (sameName (valueTypeAt d (k / 8) .name)) (own ∙ sym type) ∙ same-self (valueTypeAt d (k / 8) .name) in
-      (k,
-      record { small = small; is-value = value; type-is = type; constant-is = code-constant d wf (v .valueType) (v .constant) k is },
-      eqb-true (k / 8) u (sym (differ-same (λ n. valueTypeAt d n .name) (length (d .valueTypes)) (wf .value-types-differ) (k / 8) u (value .type-known) l) ∙ one))
+      let one : sameName (valueTypeAt d (k / 8) .name) (valueTypeAt d u .name) ≡ true = ap (sameName (valueTypeAt d (k / 8) .name)) (own ∙ sym type) ∙ same-self (valueTypeAt d (k / 8) .name) in (
+        k,
+        record { small = small; is-value = value; type-is = type; constant-is = code-constant d wf (v .valueType) (v .constant) k is },
+        eqb-true (k / 8) u (sym (differ-same (λ n. valueTypeAt d n .name) (length (d .valueTypes)) (wf .value-types-differ) (k / 8) u (value .type-known) l) ∙ one),
+      )
 
   -- where something is due, and a value belongs to it, that is its code's value type
   pub fits-code : (v : Value) (e : ℕ) → e ≢ 0 → (e ≢ 255 → e - 1 < length (d .valueTypes)) → fitsDue d v e ≡ true → (k : ℕ) × Coded d v k × (e ≡ 1 + k / 8)

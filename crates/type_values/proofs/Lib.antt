@@ -3,3 +3,5 @@ pub mod JoinedLaws
 pub mod NamedLaws
 pub mod LegalLaws
 pub mod GoodLaws
+pub mod SharedLaws
+pub mod KeptLaws
