@@ -1,0 +1,7 @@
+pub mod AloneLaws
+pub mod JoinedLaws
+pub mod NamedLaws
+pub mod LegalLaws
+pub mod GoodLaws
+pub mod SharedLaws
+pub mod KeptLaws

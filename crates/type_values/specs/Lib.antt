@@ -1,0 +1,3 @@
+pub mod Bad
+pub mod Named
+pub mod Lacking
