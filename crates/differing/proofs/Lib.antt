@@ -1,0 +1,2 @@
+pub mod PossibleLaws
+pub mod CompleteLaws
