@@ -1,2 +1,3 @@
 pub mod PossibleLaws
 pub mod CompleteLaws
+pub mod SoundLaws
