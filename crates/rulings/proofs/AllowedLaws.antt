@@ -3,11 +3,11 @@
 -- Assumes nothing.
 use Prim.Native.Nat.{_*_, _+_, _<_, _≤_, ℕ}
 use native.Mathlib.Omega.{arith}
-use mathlib.Core.Bool.{Bool, _&&_, true}
-use mathlib.Core.Path.{_∙_, _≡_, ap, subst, sym}
+use mathlib.Core.Bool.{_&&_, true}
+use mathlib.Core.Path.{_∙_, _≡_, subst, sym}
 use lib.Dec.{ltb}
-use lib.ListN.{getD, length}
-use borrow.Author.Tests.{eqb-true, lt-ltb, ltb-true}
+use lib.ListN.{length}
+use borrow.Author.Tests.{eqb-true, ltb-true}
 use Rattle.laws.specs.Bits.{bit}
 use Rattle.laws.specs.Connective.{both}
 use Rattle.laws.proofs.BitLaws.{bit-zero}
@@ -24,7 +24,7 @@ use Rattle.memory_rules.proofs.SlotLaws.{role-own}
 use Rattle.tables.proofs.OwnLaws.{any-type}
 use Rattle.link_search.specs.Nets.{netOf}
 use Rattle.views.specs.Views.{leadsBy, mayTargetBy, slotBy}
-use Rattle.worlds.specs.Kept.{Allowed, Keeps, Sheet, TypesAvoided, worldIn, worldOf}
+use Rattle.worlds.specs.Kept.{Allowed, Sheet, TypesAvoided, worldIn, worldOf}
 use Rattle.worlds.specs.Tables.{SheetOf, possible}
 use Rattle.rulings.specs.Ruled.{Ruled}
 use Rattle.rulings.specs.Shaped.{Shaped, kindIn}

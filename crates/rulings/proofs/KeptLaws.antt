@@ -1,7 +1,7 @@
 -- Rules 2 and 5 to 9 of a diagram d hold on the site of a record in memory, by old's indices, exactly when its world keeps d's tables.
 -- Assumes nothing.
 use Prim.Native.Nat.{_<_, ℕ}
-use mathlib.Core.Bool.{Bool, false}
+use mathlib.Core.Bool.{false}
 use mathlib.Core.List.{List}
 use mathlib.Core.Path.{_≡_}
 use Rattle.files.specs.Diagram.{Diagram}

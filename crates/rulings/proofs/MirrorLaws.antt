@@ -5,7 +5,6 @@ use native.Mathlib.Omega.{arith}
 use mathlib.Core.Bool.{Bool, cond, true}
 use mathlib.Core.Logic.{_↔_}
 use mathlib.Core.Path.{_∙_, _≡_, ap, sym}
-use lib.Dec.{ltb}
 use lib.ListN.{getD, length}
 use borrow.Author.Tests.{lt-ltb, ltb-true}
 use Rattle.laws.specs.Bits.{bit}
@@ -54,9 +53,10 @@ module _ (old d : Diagram) (wo : WfDiagram old) (wd : WfDiagram d) (m : MemoryRe
   links-are : (j o p : ℕ) → j < 16 → isMirror old d j ≡ true → o < m .count → p < m .count
       → (worldOf m .link (getD (x .mirrorright) j 0) o p ≡ siteIn old m .linked o (associationAt d j .right .role) p)
       × (worldOf m .link (getD (x .mirrorleft) j 0) p o ≡ siteIn old m .linked p (associationAt d j .left .role) o)
-  links-are j o p l e b c =
-      (ap (λ (s : ℕ). worldOf m .link s o p) (right-slot j l e) ∙ sym (linked-by old wo m h d r2 j o p b c),
-      ap (λ (s : ℕ). worldOf m .link s p o) (left-slot j l e) ∙ sym (linked-by old wo m h d r1 j p o c b))
+  links-are j o p l e b c = (
+    ap (λ (s : ℕ). worldOf m .link s o p) (right-slot j l e) ∙ sym (linked-by old wo m h d r2 j o p b c),
+    ap (λ (s : ℕ). worldOf m .link s p o) (left-slot j l e) ∙ sym (linked-by old wo m h d r1 j p o c b),
+  )
 
   rule8-at : rule8 d (siteIn old m) ≡ true → (j o p : ℕ) → j < length (d .associations) → mirrors (associationAt d j .arrow) ≡ true → o < m .count → p < m .count
       → mirrorAt d (siteIn old m) (associationAt d j) o p ≡ true

@@ -4,16 +4,15 @@ use Prim.Native.Nat.{_%_, _*_, _+_, _/_, _<_, _≤_, ℕ}
 use native.Mathlib.Omega.{arith}
 use mathlib.Core.Bool.{true}
 use mathlib.Core.Logic.{⊎-elim}
-use mathlib.Core.Path.{_∙_, _≡_, ap, subst, sym}
+use mathlib.Core.Path.{_∙_, _≡_, ap, sym}
 use lib.ListN.{length}
 use borrow.Author.Tests.{eq-eqb, eqb-true}
-use Rattle.laws.specs.Connective.{both, imp}
+use Rattle.laws.specs.Connective.{imp}
 use Rattle.laws.proofs.BoundedLaws.{all-at, all-of, any-at, any-of}
 use Rattle.laws.proofs.ConnectiveLaws.{both-left, both-of, both-right, either-cases, either-left, either-right, imp-of, imp-use}
 use Rattle.files.specs.Diagram.{Diagram, End, associationAt}
 use Rattle.files.specs.Name.{Name, sameName}
 use Rattle.files.specs.Record.{Link}
-use Rattle.files.specs.WellFormedDiagram.{WfDiagram}
 use Rattle.files.proofs.NameLaws.{same-equal, same-self}
 use Rattle.records.specs.declared.MemoryRecord.{MemoryRecord}
 use Rattle.records.specs.Slots.{ownRole, roleCount, roleName, roleSlot}

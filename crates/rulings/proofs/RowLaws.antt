@@ -2,16 +2,14 @@
 -- link has an end that leads it, by rule 6 each end that leads has instances as targets and their number within its limits. An end
 -- whose role old lacks has no links, which breaks rule 6 only where its lower limit is above 0.
 -- Assumes nothing.
-use Prim.Native.Nat.{_*_, _+_, _<_, _≤_, ℕ}
+use Prim.Native.Nat.{_<_, _≤_, ℕ}
 use native.Mathlib.Decide.{decLt}
 use native.Mathlib.Omega.{arith}
 use mathlib.Core.Bool.{false, false≢true, true}
 use mathlib.Core.List.{List}
 use mathlib.Core.Logic.{_↔_}
-use mathlib.Core.Path.{_∙_, _≡_, ap, refl, subst, sym}
-use lib.ListN.{getD}
+use mathlib.Core.Path.{_∙_, _≡_, refl, subst, sym}
 use borrow.Author.Tests.{eq-eqb, eqb-true, le-leb, leb-true, lt-ltb, ltb-true}
-use Rattle.laws.specs.Bits.{bit}
 use Rattle.laws.specs.Bounded.{tally}
 use Rattle.laws.proofs.BoundedLaws.{all-at, all-of, any-at, any-no, any-none, any-of, tally-none}
 use Rattle.laws.proofs.ConnectiveLaws.{both-left, both-of, both-right, imp-of, imp-use, same-test, true-false}
@@ -30,7 +28,7 @@ use Rattle.worlds.specs.Kept.{RowsKept, worldIn, worldOf}
 use Rattle.worlds.specs.Tables.{RowTables, linksMissing}
 use Rattle.rulings.specs.Shaped.{Shaped, kindIn}
 use Rattle.rulings.proofs.LeadLaws.{high-among, high-covers, low-among, low-covers}
-use Rattle.rulings.proofs.PermitLaws.{Leads, Permitted, permitted-rule5, rule5-permitted}
+use Rattle.rulings.proofs.PermitLaws.{Permitted, permitted-rule5, rule5-permitted}
 use Rattle.rulings.proofs.SeenLaws.{link-past}
 use Rattle.rulings.proofs.TargetLaws.{Asked, Asks, asks-rule6, rule6-asks}
 use Rattle.rulings.proofs.WithinLaws.{capped-within, most-fits, within-capped}
@@ -167,8 +165,10 @@ module _ (old d : Diagram) (wo : WfDiagram old) (m : MemoryRecord) (h : Shaped o
 
     pub rows-kept : ((rule5 d (siteIn old m) ≡ true) × (rule6 d (siteIn old m) ≡ true))
         ↔ (RowsKept targets lows highs (worldOf m) × ((o : ℕ) → o < m .count → linksMissing old d (kindIn m o) ≡ false))
-    rows-kept =
-        ((λ r. (forth (r .0) (r .1), none-missing (rule5-permitted old d m h (r .0)) (rule6-asks old d wo m h (r .1)))),
-        (λ k.
-        (permitted-rule5 old d m h (rows-permit (may-of (k .0)) (row-of (k .0)) (k .1)),
-        asks-rule6 old d wo m h (rows-ask (may-of (k .0)) (row-of (k .0)) (k .1)))))
+    rows-kept = (
+      (λ r. (forth (r .0) (r .1), none-missing (rule5-permitted old d m h (r .0)) (rule6-asks old d wo m h (r .1)))),
+      (λ k. (
+        permitted-rule5 old d m h (rows-permit (may-of (k .0)) (row-of (k .0)) (k .1)),
+        asks-rule6 old d wo m h (rows-ask (may-of (k .0)) (row-of (k .0)) (k .1)),
+      )),
+    )

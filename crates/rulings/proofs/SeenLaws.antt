@@ -6,7 +6,7 @@ use native.Mathlib.Decide.{decLt}
 use native.Mathlib.Omega.{arith}
 use mathlib.Core.Bool.{Bool, false, false≢true, true}
 use mathlib.Core.Path.{_∙_, _≡_, ap, refl, sym}
-use lib.ListN.{getD, length}
+use lib.ListN.{length}
 use borrow.Author.Tests.{le-ltb, lt-ltb}
 use Rattle.laws.specs.Connective.{both, same}
 use Rattle.laws.proofs.ConnectiveLaws.{same-test}
@@ -19,7 +19,7 @@ use Rattle.records.specs.Written.{linkIn}
 use Rattle.rules.specs.Arrow.{Side, target}
 use Rattle.rules.specs.Instance.{hasType, isInstance}
 use Rattle.memory_rules.specs.SiteIn.{linkedIn, siteIn, typedIn}
-use Rattle.memory_rules.proofs.SlotLaws.{end-role, endOf, own-role-below, role-most}
+use Rattle.memory_rules.proofs.SlotLaws.{end-role, endOf, own-role-below}
 use Rattle.views.specs.Views.{countsAs, slotBy}
 use Rattle.worlds.specs.Kept.{worldIn, worldOf}
 use Rattle.rulings.specs.Shaped.{Shaped, kindIn}

@@ -4,16 +4,15 @@ use Prim.Native.Nat.{_<_, _≤_, ℕ}
 use native.Mathlib.Decide.{decLt}
 use native.Mathlib.Nat.{ne-of-lt}
 use native.Mathlib.Omega.{arith}
-use mathlib.Core.Bool.{Bool, false, false≢true, true}
+use mathlib.Core.Bool.{false, false≢true, true}
 use mathlib.Core.Logic.{_↔_}
 use mathlib.Core.Path.{_∙_, _≡_, ap, sym}
 use lib.Dec.{eqb}
 use lib.ListN.{length}
 use borrow.Author.Tests.{eq-eqb, eqb-true, ne-eqb}
 use Rattle.laws.specs.Bits.{bit}
-use Rattle.laws.specs.Bounded.{any, tally}
-use Rattle.laws.specs.Connective.{both}
-use Rattle.laws.proofs.BoundedLaws.{all-at, all-of, any-at, any-none, any-of, tally-none}
+use Rattle.laws.specs.Bounded.{tally}
+use Rattle.laws.proofs.BoundedLaws.{all-at, all-of, any-at, any-of, tally-none}
 use Rattle.laws.proofs.ConnectiveLaws.{both-left, both-of, both-right, imp-of, imp-use, same-test, true-false}
 use Rattle.laws.proofs.CountLaws.{tally-ext}
 use Rattle.laws.proofs.FirstLaws.{first-le}

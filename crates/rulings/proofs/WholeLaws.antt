@@ -13,7 +13,7 @@ use Rattle.laws.specs.Connective.{both}
 use Rattle.laws.proofs.BoundedLaws.{all-at, all-of, any-at, any-of}
 use Rattle.laws.proofs.ConnectiveLaws.{and-both, and-left, and-right, both-left, both-of, both-right, same-test}
 use Rattle.laws.proofs.CountLaws.{tally-ext}
-use Rattle.files.specs.Diagram.{Diagram, associationAt, isComposition}
+use Rattle.files.specs.Diagram.{Diagram, associationAt}
 use Rattle.files.specs.WellFormedDiagram.{WfDiagram}
 use Rattle.records.specs.declared.MemoryRecord.{MemoryRecord}
 use Rattle.rules.specs.Arrow.{r2}
