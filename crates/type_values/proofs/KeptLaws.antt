@@ -135,27 +135,27 @@ module _ (old new : Diagram) (wold : WfDiagram old) (wnew : WfDiagram new) (t : 
   module _ (s v : ℕ) (v-known : v < length (old .valueTypes)) (n : dueNew (attributeAt old s .name) ≢ 0)
       (each : (c : ℕ) → c < 8 → constantKnown old (v * 8 + c) ≡ true → rule4At new (alone name) (codedValue old s (v * 8 + c)) ≡ true)
     where
-    code-part : (c : ℕ) → c < 8 → constantKnown old (v * 8 + c) ≡ true
-        → both (not (eqb (dueNew (attributeAt old s .name)) 255)) (belongs (codedValue old s (v * 8 + c)) (valueTypeAt new (dueNew (attributeAt old s .name) - 1))) ≡ true
-    code-part c l h = sym (fits-part new _ _ n) ∙ sym (asked-of s (v * 8 + c)) ∙ each c l h
+      code-part : (c : ℕ) → c < 8 → constantKnown old (v * 8 + c) ≡ true
+          → both (not (eqb (dueNew (attributeAt old s .name)) 255)) (belongs (codedValue old s (v * 8 + c)) (valueTypeAt new (dueNew (attributeAt old s .name) - 1))) ≡ true
+      code-part c l h = sym (fits-part new _ _ n) ∙ sym (asked-of s (v * 8 + c)) ∙ each c l h
 
-    zero-part : (v * 8 + 0) ≡ v * 8
-    zero-part = omega arith
+      zero-part : (v * 8 + 0) ≡ v * 8
+      zero-part = omega arith
 
-    first-part : both (not (eqb (dueNew (attributeAt old s .name)) 255)) (belongs (codedValue old s (v * 8 + 0)) (valueTypeAt new (dueNew (attributeAt old s .name) - 1))) ≡ true
-    first-part = code-part 0 (let l : 0 < 8 = omega arith in l) (subst (λ (k : ℕ). constantKnown old k ≡ true) (sym zero-part) (first-known old v))
+      first-part : both (not (eqb (dueNew (attributeAt old s .name)) 255)) (belongs (codedValue old s (v * 8 + 0)) (valueTypeAt new (dueNew (attributeAt old s .name) - 1))) ≡ true
+      first-part = code-part 0 (let l : 0 < 8 = omega arith in l) (subst (λ (k : ℕ). constantKnown old k ≡ true) (sym zero-part) (first-known old v))
 
-    below : dueNew (attributeAt old s .name) - 1 < length (new .valueTypes)
-    below = named-due new wnew name (attributeAt old s .name) .type-known n (eqb-false _ 255 (not-true _ (both-left _ _ first-part)))
+      below : dueNew (attributeAt old s .name) - 1 < length (new .valueTypes)
+      below = named-due new wnew name (attributeAt old s .name) .type-known n (eqb-false _ 255 (not-true _ (both-left _ _ first-part)))
 
-    codes-type : dueNew (attributeAt old s .name) ≡ 1 + sameType old new v
-    codes-type =
-        let a : (v * 8 + 0) / 8 ≡ v = omega arith in
-        let e : sameType old new v ≡ dueNew (attributeAt old s .name) - 1 = ap (sameType old new) (sym a) ∙ coded-same old new wnew s (v * 8 + 0) _ below (both-right _ _ first-part) in
-        omega arith
+      codes-type : dueNew (attributeAt old s .name) ≡ 1 + sameType old new v
+      codes-type =
+          let a : (v * 8 + 0) / 8 ≡ v = omega arith in
+          let e : sameType old new v ≡ dueNew (attributeAt old s .name) - 1 = ap (sameType old new) (sym a) ∙ coded-same old new wnew s (v * 8 + 0) _ below (both-right _ _ first-part) in
+          omega arith
 
-    codes-lack : firstLacking old new v ≡ 8
-    codes-lack = lacks-none old new wnew v (λ c l h. belongs-shared old new wnew s (v * 8 + c) _ below (both-right _ _ (code-part c l h)))
+      codes-lack : firstLacking old new v ≡ 8
+      codes-lack = lacks-none old new wnew v (λ c l h. belongs-shared old new wnew s (v * 8 + c) _ below (both-right _ _ (code-part c l h)))
 
   -- ---- from slots to names and values
 
@@ -163,42 +163,42 @@ module _ (old new : Diagram) (wold : WfDiagram old) (wnew : WfDiagram new) (t : 
       (slots : (s : ℕ) → s < length (old .attributes) → slotKept old new t type s ≡ true)
       (added : (s : ℕ) → s < length (new .attributes) → slotAsked old new t type s ≡ true)
     where
-    slot-part : (s : ℕ) → s < length (old .attributes) → due old t s ≢ 0
-        → both (not (eqb (dueNew (attributeAt old s .name)) 0))
-        (either (eqb (due old t s) 255) (both (eqb (dueNew (attributeAt old s .name)) (1 + sameType old new (due old t s - 1))) (eqb (firstLacking old new (due old t s - 1)) 8)))
-        ≡ true
-    unfolding slotKept
-    slot-part s l n = sym (kept-part old new _ _ n) ∙ slots s l
+      slot-part : (s : ℕ) → s < length (old .attributes) → due old t s ≢ 0
+          → both (not (eqb (dueNew (attributeAt old s .name)) 0))
+          (either (eqb (due old t s) 255) (both (eqb (dueNew (attributeAt old s .name)) (1 + sameType old new (due old t s - 1))) (eqb (firstLacking old new (due old t s - 1)) 8)))
+          ≡ true
+      unfolding slotKept
+      slot-part s l n = sym (kept-part old new _ _ n) ∙ slots s l
 
-    alike : Alike
-    unfolding slotAsked
-    alike = record {
-      kept = λ w n.
-          let l = named-slot old wold name w n in
-          let e : due old t (attributeSlot old w) ≢ 0 = λ z. n (named-own old wold t is-type w ∙ z) in
-          subst (λ (v : Name). dueNew v ≢ 0) (attribute-name old w l) (test-some _ (both-left _ _ (slot-part (attributeSlot old w) l e)));
-      asked = λ w n.
-          let l = named-slot new wnew name w n in
-          let e : due new type (attributeSlot new w) ≢ 0 = λ z. n (named-known new wnew name there w ∙ z) in
-          subst (λ (v : Name). dueOld v ≢ 0) (attribute-name new w l) (test-some _ (imp-use _ _ (added (attributeSlot new w) l) (some-test _ e)));
-    }
+      alike : Alike
+      unfolding slotAsked
+      alike = record {
+        kept = λ w n.
+            let l = named-slot old wold name w n in
+            let e : due old t (attributeSlot old w) ≢ 0 = λ z. n (named-own old wold t is-type w ∙ z) in
+            subst (λ (v : Name). dueNew v ≢ 0) (attribute-name old w l) (test-some _ (both-left _ _ (slot-part (attributeSlot old w) l e)));
+        asked = λ w n.
+            let l = named-slot new wnew name w n in
+            let e : due new type (attributeSlot new w) ≢ 0 = λ z. n (named-known new wnew name there w ∙ z) in
+            subst (λ (v : Name). dueOld v ≢ 0) (attribute-name new w l) (test-some _ (imp-use _ _ (added (attributeSlot new w) l) (some-test _ e)));
+      }
 
-    slots-code : (s k : ℕ) → s < length (old .attributes) → k < 96 → allowed old t s k ≡ true → rule4At new (alone name) (codedValue old s k) ≡ true
-    unfolding allowed
-    slots-code s k l small a =
-        let e : due old t s ≡ 1 + k / 8 = eqb-true _ _ (both-left _ _ a) in
-        let n : due old t s ≢ 0 = λ z. omega arith in
-        let i : due old t s - 1 ≡ k / 8 = omega arith in
-        ⊎-elim (λ z. let q : due old t s ≡ 255 = eqb-true _ _ z in absurd (omega arith))
-        (λ p.
-        kept-code s k (eqb-true _ _ (both-left _ _ p) ∙ ap (λ (j : ℕ). 1 + sameType old new j) i) (ap (firstLacking old new) (sym i) ∙ eqb-true _ _ (both-right _ _ p)) (both-right _ _ a))
-        (either-cases _ _ (both-right _ _ (slot-part s l n)))
+      slots-code : (s k : ℕ) → s < length (old .attributes) → k < 96 → allowed old t s k ≡ true → rule4At new (alone name) (codedValue old s k) ≡ true
+      unfolding allowed
+      slots-code s k l small a =
+          let e : due old t s ≡ 1 + k / 8 = eqb-true _ _ (both-left _ _ a) in
+          let n : due old t s ≢ 0 = λ z. omega arith in
+          let i : due old t s - 1 ≡ k / 8 = omega arith in
+          ⊎-elim (λ z. let q : due old t s ≡ 255 = eqb-true _ _ z in absurd (omega arith))
+          (λ p.
+          kept-code s k (eqb-true _ _ (both-left _ _ p) ∙ ap (λ (j : ℕ). 1 + sameType old new j) i) (ap (firstLacking old new) (sym i) ∙ eqb-true _ _ (both-right _ _ p)) (both-right _ _ a))
+          (either-cases _ _ (both-right _ _ (slot-part s l n)))
 
-    pub slots-keep : both (namesKept old new t) (codesKept old new t) ≡ true
-    unfolding codesKept codeKept
-    slots-keep =
-        both-of _ _ (alike-names alike)
-        (all-of _ (length (old .attributes)) (λ s l. all-of _ 96 (λ k small. imp-of _ _ (slots-code s k l small))))
+      pub slots-keep : both (namesKept old new t) (codesKept old new t) ≡ true
+      unfolding codesKept codeKept
+      slots-keep =
+          both-of _ _ (alike-names alike)
+          (all-of _ (length (old .attributes)) (λ s l. all-of _ 96 (λ k small. imp-of _ _ (slots-code s k l small))))
 
   -- ---- and back
 

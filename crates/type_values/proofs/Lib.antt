@@ -5,3 +5,4 @@ pub mod LegalLaws
 pub mod GoodLaws
 pub mod SharedLaws
 pub mod KeptLaws
+pub mod WayLaws

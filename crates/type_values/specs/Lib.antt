@@ -1,3 +1,4 @@
 pub mod Bad
 pub mod Named
 pub mod Lacking
+pub mod Numbers

@@ -1,0 +1,83 @@
+use mathlib.Core.Path.{_∙_, ap}
+use native.Mathlib.Omega.{arith}
+use Prim.Native.Nat.{ℕ, _≤_, _<_, _-_}
+use mathlib.Core.Path.{_≡_}
+use borrow.Author.Count.{below-none}
+use lib.ListN.{getD, length}
+use Rattle.laws.proofs.ListLaws.{set-more}
+use Rattle.fields.specs.Slot.{slotName}
+use Rattle.resolving.specs.Lookup.{slotOf}
+use borrow.Author.Needs.{needs}
+use Rattle.type_values.proofs.places.Statement.{statement}
+use Rattle.type_values.proofs.places.Tie as tie
+use Rattle.type_values.proofs.places.Reads as reads
+use Rattle.type_values.proofs.places.Lts as lts
+use Rattle.fields.proofs.slot_name.Reads as slot-name-reads
+use Rattle.laws.proofs.wide.Reads as wide-reads
+use Rattle.resolving.proofs.slot_of.Reads as slot-of-reads
+
+abbrev Inv-loop : tie.InvT-loop
+Inv-loop names n others k r₀ i₀ r i = (i ≤ n) × (length r ≡ 32) × ((j : ℕ) → j < i → getD r j 0 ≡ slotOf others k (slotName names j))
+
+abbrev μ-loop : tie.MeasureT-loop
+μ-loop names n others k r₀ i₀ r i = n - i
+
+-- src/lib.rt:153:5
+loop-holds : tie.Need-loop-holds Inv-loop μ-loop
+loop-holds c = (search needs, search needs, below-none _)
+
+-- src/lib.rt:154:47
+slot-name-requires : tie.Need-slot-name-requires Inv-loop μ-loop
+slot-name-requires c κs = search needs
+
+-- src/lib.rt:154:13
+slot-of-requires : tie.Need-slot-of-requires Inv-loop μ-loop
+slot-of-requires c κs = search needs
+
+-- src/lib.rt:155:11
+wide-requires : tie.Need-wide-requires Inv-loop μ-loop
+wide-requires c κs = search needs
+
+-- src/lib.rt:155:9
+array-write-r : tie.Need-array-write-r Inv-loop μ-loop
+array-write-r c = search needs
+
+-- src/lib.rt:156:9
+add-i : tie.Need-add-i Inv-loop μ-loop
+add-i c = search needs
+
+-- src/lib.rt:153:5
+loop-less : tie.Need-loop-less Inv-loop μ-loop
+loop-less c = search needs
+
+-- src/lib.rt:153:5
+loop-again : tie.Need-loop-again Inv-loop μ-loop
+loop-again c =
+    let l = c .before .before .before .before .loop in
+    let a = c .before .before .before .before .before .before .before .args in (
+      search needs,
+      search needs,
+      rw (c .wide .ensures .0)
+          (set-more (λ (j v : ℕ). v ≡ slotOf (a .others .now) (a .k) (slotName (a .names .now) j)) (l .r) (l .i) (c .before .slot-of .result) (omega arith) (l .inv .2)
+          (c .before .slot-of .ensures .0 ∙ ap (slotOf (a .others .now) (a .k)) (c .before .before .slot-name .ensures))),
+    )
+
+-- src/lib.rt:147:1
+returns : tie.Need-returns Inv-loop μ-loop
+returns c = λ i h. c .before .loop .inv .2 i (omega arith)
+
+pub places-spec : {M : Type 1} → statement M
+places-spec =
+    tie.close
+    (tie.spec
+    Inv-loop
+    μ-loop
+    loop-holds
+    slot-name-requires
+    slot-of-requires
+    wide-requires
+    array-write-r
+    add-i
+    loop-less
+    loop-again
+    returns)

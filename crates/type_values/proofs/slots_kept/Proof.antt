@@ -1,0 +1,60 @@
+use Rattle.type_values.specs.Numbers.{slotKeptIn}
+use Rattle.laws.proofs.LoopLaws.{each}
+use Rattle.laws.specs.Bounded.{all}
+use mathlib.Core.Bool.{true}
+use mathlib.Core.Path.{_≡_}
+use Prim.Native.Nat.{_≤_, _-_}
+use borrow.Author.Needs.{needs}
+use Rattle.type_values.proofs.slots_kept.Statement.{statement}
+use Rattle.type_values.proofs.slots_kept.Tie as tie
+use Rattle.type_values.proofs.slots_kept.Reads as reads
+use Rattle.type_values.proofs.slots_kept.Lts as lts
+use Rattle.type_values.proofs.is_slot_kept.Reads as is-slot-kept-reads
+
+abbrev Inv-loop : tie.InvT-loop
+Inv-loop olds news slots types firsts t u n m s₀ s = (s ≤ m) × (all (slotKeptIn olds news slots types firsts t u n) s ≡ true)
+
+abbrev μ-loop : tie.MeasureT-loop
+μ-loop olds news slots types firsts t u n m s₀ s = m - s
+
+-- src/lib.rt:225:5
+loop-holds : tie.Need-loop-holds Inv-loop μ-loop
+loop-holds c = search each
+
+-- src/lib.rt:226:12
+is-slot-kept-requires : tie.Need-is-slot-kept-requires Inv-loop μ-loop
+is-slot-kept-requires c κs = search needs
+
+-- src/lib.rt:227:13
+add-s : tie.Need-add-s Inv-loop μ-loop
+add-s c = search needs
+
+-- src/lib.rt:225:5
+loop-less : tie.Need-loop-less Inv-loop μ-loop
+loop-less c = search needs
+
+-- src/lib.rt:225:5
+loop-again : tie.Need-loop-again Inv-loop μ-loop
+loop-again c = search each
+
+-- src/lib.rt:229:13
+returns : tie.Need-returns Inv-loop μ-loop
+returns c = search each
+
+-- src/lib.rt:211:1
+returns-2 : tie.Need-returns-2 Inv-loop μ-loop
+returns-2 c = search each
+
+pub slots-kept-spec : {M : Type 1} → statement M
+slots-kept-spec =
+    tie.close
+    (tie.spec
+    Inv-loop
+    μ-loop
+    loop-holds
+    is-slot-kept-requires
+    add-s
+    loop-less
+    loop-again
+    returns
+    returns-2)
