@@ -3,6 +3,11 @@
 use crate::instances::{attribute_names, is_concrete, roles_of, targets, value_types_of};
 use crate::plan::DiagramPlan;
 
+/// Fillings of the old diagram up to a bound that the product's search, which fills spot by spot,
+/// looks through in a moment; tests draw pairs with more of them again. A search that passes over
+/// most fillings can do with a higher number, or with u64::MAX for no limit.
+pub const SEARCHED_SOON: u64 = 3_000;
+
 /// The number of records with up to `objects` objects whose types, values and links fit spot by
 /// spot, and no more than `most`: what a search without foresight has to look through.
 pub fn fillings(plan: &DiagramPlan, objects: usize, most: u64) -> u64 {

@@ -3,7 +3,7 @@
 use brute::{compare_within, judge, read_diagram, read_record, Diagram};
 use generators::calls::{room, split};
 use generators::diagrams::TINY;
-use generators::fillings::fillings;
+use generators::fillings::{fillings, SEARCHED_SOON};
 use generators::hex::hex;
 use generators::rows::{any_reply_room, row, spoiled};
 use generators::{CallPlan, DiagramPlan, Random};
@@ -11,8 +11,8 @@ use generators::{CallPlan, DiagramPlan, Random};
 /// Nodes that the independent search may visit for a compare of a row.
 const BUDGET: u64 = 50_000;
 
-/// Fillings of old up to the bound that a compare of a row may have.
-const FILLINGS: u64 = 800;
+/// Fillings of old up to the bound that a compare of a row may have: a row has several compares.
+const FILLINGS: u64 = SEARCHED_SOON / 4;
 
 /// How often each status byte came, how many witnesses were checked and how many rows ended early.
 #[derive(Debug)]
