@@ -15,6 +15,7 @@ pub mod hex;
 pub mod instances;
 pub mod limits;
 pub mod names;
+pub mod notation;
 pub mod plan;
 pub mod random;
 pub mod record_limits;
