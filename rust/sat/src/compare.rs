@@ -1,6 +1,7 @@
 //! Comparing: one question for each number of objects, fewest first.
 
 use crate::cadical::{solve, Answer};
+use crate::formula::Formula;
 use crate::question::Question;
 use brute::{judge, Diagram, Record};
 use std::time::Duration;
@@ -49,4 +50,13 @@ pub fn steps(old: &Diagram, new: &Diagram, bound: usize, limit: Duration) -> Vec
         }
     }
     steps
+}
+
+/// The solver's time for a formula that asks nothing: its start and its end.
+pub fn least_time() -> Duration {
+    let mut times: Vec<Duration> = (0..9)
+        .map(|_| solve(&Formula::new(), Duration::from_secs(1)).1)
+        .collect();
+    times.sort();
+    times[times.len() / 2]
 }

@@ -14,4 +14,4 @@ mod propagation;
 mod question;
 mod site;
 
-pub use compare::{steps, Found, Step};
+pub use compare::{least_time, steps, Found, Step};
