@@ -16,6 +16,7 @@ pub fn conditions(formula: &mut Formula, site: &Site, diagram: &Diagram) -> Vec<
         formula,
         site,
         diagram,
+        counts_as: site.types.iter().map(|t| reached(diagram, t)).collect(),
         conditions: Vec::new(),
     };
     rules.rule_1();
@@ -34,6 +35,8 @@ struct Rules<'r> {
     formula: &'r mut Formula,
     site: &'r Site,
     diagram: &'r Diagram,
+    /// For each of the site's types, the types of the diagram that its objects are instances of.
+    counts_as: Vec<Vec<&'r Name>>,
     conditions: Vec<Literal>,
 }
 
@@ -44,18 +47,28 @@ impl Rules<'_> {
     }
 
     /// Whether an object is an instance of a type of the diagram.
-    fn is_instance(&mut self, object: usize, of: &[u8]) -> Literal {
-        let site = self.site;
-        let below = site.types.iter().filter(|t| reaches(self.diagram, t, of));
-        let any: Vec<Literal> = below.map(|t| site.has_type(object, t)).collect();
+    fn is_instance(&mut self, object: usize, of: &Name) -> Literal {
+        let types = self.site.types.iter().zip(&self.counts_as);
+        let below = types.filter(|(_, counts_as)| counts_as.contains(&of));
+        let any: Vec<Literal> = below.map(|(t, _)| self.site.has_type(object, t)).collect();
         self.formula.or(&any)
     }
 }
 
-/// Whether a type of the diagram is another or reaches it through parents.
-fn reaches(diagram: &Diagram, from: &Name, to: &[u8]) -> bool {
-    diagram.type_named(from).is_some_and(|found| {
-        let mut parents = found.parents.iter();
-        from == to || parents.any(|parent| reaches(diagram, parent, to))
-    })
+/// The type of this name and all that it reaches through parents; nothing where the diagram has no
+/// such type.
+fn reached<'d>(diagram: &'d Diagram, name: &Name) -> Vec<&'d Name> {
+    let mut reached: Vec<&Name> = Vec::new();
+    // A type stands behind its parents: from the last to the first, each is met after all of its
+    // children.
+    for t in diagram.types.iter().rev() {
+        let is_parent = |child: &&Name| {
+            let found = diagram.type_named(child);
+            found.is_some_and(|child| child.parents.contains(&t.name))
+        };
+        if t.name == *name || reached.iter().any(is_parent) {
+            reached.push(&t.name);
+        }
+    }
+    reached
 }
