@@ -21,6 +21,7 @@ pub mod random;
 pub mod record_limits;
 pub mod records;
 pub mod rows;
+pub mod upper_limits;
 
 pub use calls::CallPlan;
 pub use plan::{

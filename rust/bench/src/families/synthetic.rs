@@ -1,14 +1,15 @@
-//! Made-up diagrams with 5 to 24 types and as many associations, 16 at most, and small edits.
+//! Made-up diagrams with 5 to 24 types and as many associations, 16 at most, and small edits: of
+//! any kind, an upper limit lowered, and an upper limit raised.
 
 use super::pair;
 use crate::inputs::Pair;
 use generators::edits::edited;
 use generators::names::numbered;
+use generators::upper_limits::tightened;
 use generators::{Association, DiagramPlan, End, Random, Type};
 
-/// Numbers of types, and how many pairs there are of each.
+/// Numbers of types.
 const TYPES: [usize; 5] = [5, 10, 15, 20, 24];
-const PAIRS: u64 = 3;
 
 /// Limits of an end: few that demand something, so that there are legal sites.
 const LIMITS: [(u8, u8); 10] = [
@@ -28,14 +29,15 @@ const LIMITS: [(u8, u8); 10] = [
 pub fn pairs() -> Vec<Pair> {
     let mut pairs = Vec::new();
     for types in TYPES {
-        for seed in 0..PAIRS {
-            let mut random = Random::new(1_000 * types as u64 + seed);
-            let old = made_up(&mut random, types);
-            let new = edited(&mut random, &old);
-            let associations = old.associations.len();
-            let name = format!("{types} types, {associations} associations, {seed}");
-            pairs.push(pair(&name, &old, &new));
-        }
+        let mut random = Random::new(types as u64);
+        let [one, two, three] = [(); 3].map(|()| made_up(&mut random, types));
+        let any = edited(&mut random, &one);
+        let lower = tightened(&mut random, &two);
+        let higher = tightened(&mut random, &three);
+        let size = format!("{types} types, {} associations", types.min(16));
+        pairs.push(pair(&format!("{size}, edited"), &one, &any));
+        pairs.push(pair(&format!("{size}, limit lowered"), &two, &lower));
+        pairs.push(pair(&format!("{size}, limit raised"), &higher, &three));
     }
     pairs
 }

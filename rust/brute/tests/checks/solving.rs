@@ -6,6 +6,7 @@ use generators::diagrams::{diagram, loosened, Size, SMALL, TINY};
 use generators::edits::{edited, redrawn};
 use generators::fillings::{fillings, SEARCHED_SOON};
 use generators::hex::hex;
+use generators::upper_limits::{tightened, widened};
 use generators::{CallPlan, DiagramPlan, Random};
 use sat::Found;
 use std::time::Duration;
@@ -94,9 +95,13 @@ fn pair(seed: u64) -> (DiagramPlan, DiagramPlan) {
     if random.chance(1, 2) {
         one = loosened(&mut random, &one);
     }
-    let other = match random.chance(1, 3) {
-        true => redrawn(&mut random, &one),
-        false => edited(&mut random, &one),
+    if random.chance(1, 2) {
+        one = widened(&mut random, &one);
+    }
+    let other = match random.below(3) {
+        0 => redrawn(&mut random, &one),
+        1 => tightened(&mut random, &one),
+        _ => edited(&mut random, &one),
     };
     match random.chance(1, 2) {
         true => (one, other),
