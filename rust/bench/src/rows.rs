@@ -139,3 +139,47 @@ pub fn time(outcome: Outcome) -> String {
         Outcome::TimedOut => format!("> {} s", LIMIT.as_secs()),
     }
 }
+
+#[cfg(test)]
+mod tests {
+    use super::*;
+    use std::time::Duration;
+
+    /// A row with these outcomes.
+    fn row(product: Outcome, solver: Outcome) -> Row {
+        Row {
+            family: Family::Realistic,
+            name: "village".to_string(),
+            bound: 8,
+            product,
+            solver,
+            nodes: None,
+        }
+    }
+
+    /// An answer after so many milliseconds.
+    fn answered(found: Option<usize>, milliseconds: u64) -> Outcome {
+        Outcome::Answered(found, Duration::from_millis(milliseconds))
+    }
+
+    #[test]
+    fn ratios_have_a_sign_where_one_timed_out() {
+        let words = |product, solver| row(product, solver).ratio().map(Ratio::words);
+        let (short, long) = (answered(None, 5), answered(None, 100));
+        assert_eq!(words(short, long).as_deref(), Some("20"));
+        assert_eq!(words(long, short).as_deref(), Some("0.0500"));
+        assert_eq!(words(short, Outcome::TimedOut).as_deref(), Some("> 2000"));
+        assert_eq!(words(Outcome::TimedOut, short).as_deref(), Some("< 0.0005"));
+        assert_eq!(words(Outcome::TimedOut, Outcome::TimedOut), None);
+    }
+
+    #[test]
+    fn only_two_answers_can_disagree() {
+        let agree = |product, solver| row(product, solver).agrees().is_ok();
+        assert!(agree(answered(Some(3), 1), answered(Some(3), 2)));
+        assert!(agree(answered(Some(3), 1), Outcome::TimedOut));
+        assert!(agree(Outcome::TimedOut, answered(None, 1)));
+        assert!(!agree(answered(Some(3), 1), answered(Some(4), 1)));
+        assert!(!agree(answered(None, 1), answered(Some(4), 1)));
+    }
+}

@@ -4,7 +4,7 @@ use crate::product;
 use brute::{compare_within, judge, read_diagram, read_record, Diagram};
 use generators::diagrams::{diagram, loosened, Size, SMALL, TINY};
 use generators::edits::{edited, redrawn};
-use generators::fillings::{fillings, SEARCHED_SOON};
+use generators::fillings::searched_soon;
 use generators::hex::hex;
 use generators::{CallPlan, DiagramPlan, Random};
 
@@ -133,7 +133,7 @@ fn pair(seed: u64, sizes: &[SizeAndBound]) -> (DiagramPlan, DiagramPlan, usize) 
             true => (one, other),
             false => (other, one),
         };
-        if fillings(&old, bound, SEARCHED_SOON) < SEARCHED_SOON {
+        if searched_soon(&old, bound) {
             return (old, new, bound);
         }
     }

@@ -4,7 +4,7 @@ use crate::product;
 use brute::{compare_within, read_diagram};
 use generators::diagrams::{diagram, loosened, Size, SMALL, TINY};
 use generators::edits::{edited, redrawn};
-use generators::fillings::{fillings, SEARCHED_SOON};
+use generators::fillings::searched_soon;
 use generators::hex::hex;
 use generators::upper_limits::{tightened, widened};
 use generators::{CallPlan, DiagramPlan, Random};
@@ -111,7 +111,7 @@ fn pair(seed: u64) -> (DiagramPlan, DiagramPlan) {
 
 /// The largest bound, at most `most`, up to which the product ends in a moment.
 fn searchable(old: &DiagramPlan, most: usize) -> usize {
-    let soon = |bound: &usize| fillings(old, *bound, SEARCHED_SOON) < SEARCHED_SOON;
+    let soon = |bound: &usize| searched_soon(old, *bound);
     (1..=most).take_while(soon).last().unwrap_or(0)
 }
 
