@@ -32,6 +32,7 @@ soak: library
 	@SOAK_SEED=$(SOAK_SEED) cargo test --quiet --release --locked --offline --manifest-path rust/Cargo.toml \
 		--package brute --test soak -- --ignored --nocapture
 
+# 'make bench TABLE=solver' prints the table beside the solver alone.
 bench: library
 	@tools/packages cadical valgrind
-	@cargo run --quiet --release --locked --offline --manifest-path rust/Cargo.toml --package bench
+	@cargo run --quiet --release --locked --offline --manifest-path rust/Cargo.toml --package bench -- $(TABLE)

@@ -31,7 +31,10 @@ pub fn steps(old: &Diagram, new: &Diagram, bound: usize, limit: Duration) -> Vec
     let mut left = limit;
     for count in 0..=bound {
         let question = Question::new(old, new, count);
-        let (answer, time) = solve(&question.formula, left);
+        let (answer, time) = match left.is_zero() {
+            true => (Answer::TimedOut, Duration::ZERO),
+            false => solve(&question.formula, left),
+        };
         let found = match answer {
             Answer::Model(literals) => {
                 let record = question.record(|literal| literals.contains(&literal));
