@@ -2,8 +2,9 @@
 # make test: everything that must hold, from nothing. Its last line is 'N passed, M failed'.
 # make check: the proofs and programs again, only where something changed.
 # make library: what the Rust programs link to, target/staticlib/libreplay.a.
-# make soak: the proved library beside the independent comparer on ever more made-up input, for SOAK_MINUTES minutes.
-# make bench: how long both take for the same work, side by side.
+# make soak: the proved library beside the independent comparer and a solver on ever more made-up input, for SOAK_MINUTES minutes.
+# make bench: how long they take for the same work, side by side.
+# Both install the solver, the Debian package cadical, where it is missing; bench also valgrind.
 
 .PHONY: demo test check library soak bench
 
@@ -26,9 +27,12 @@ library:
 
 # A disagreement ends it and is shown with its seed; 'make soak SOAK_SEED=seed' starts with that one again.
 soak: library
-	@echo "Comparing both sides on made-up input for $(SOAK_MINUTES) minutes (SOAK_MINUTES=N for another time) ..."
+	@tools/packages cadical
+	@echo "Comparing all sides on made-up input for $(SOAK_MINUTES) minutes (SOAK_MINUTES=N for another time) ..."
 	@SOAK_SEED=$(SOAK_SEED) cargo test --quiet --release --locked --offline --manifest-path rust/Cargo.toml \
 		--package brute --test soak -- --ignored --nocapture
 
+# 'make bench TABLE=solver' prints the table beside the solver alone.
 bench: library
-	@cargo run --quiet --release --locked --offline --manifest-path rust/Cargo.toml --package bench
+	@tools/packages cadical valgrind
+	@cargo run --quiet --release --locked --offline --manifest-path rust/Cargo.toml --package bench -- $(TABLE)

@@ -25,7 +25,7 @@ pub fn line(what: &str, product: Duration, independent: Option<Duration>) {
 }
 
 /// A time in a unit that keeps it short.
-fn words(time: Duration) -> String {
+pub fn words(time: Duration) -> String {
     let seconds = time.as_secs_f64();
     if seconds < 1e-3 {
         format!("{:.2} us", seconds * 1e6)

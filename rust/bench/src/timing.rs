@@ -15,3 +15,9 @@ pub fn for_each_call(calls: usize, mut work: impl FnMut()) -> Duration {
     let runs = (0..7).map(|_| once(&mut work).1);
     runs.min().unwrap_or_default() / calls as u32
 }
+
+/// The middle one of some times.
+pub fn median(mut times: Vec<Duration>) -> Duration {
+    times.sort();
+    times[times.len() / 2]
+}

@@ -5,10 +5,13 @@ mod comparing;
 #[path = "checks/product.rs"]
 mod product;
 
-use comparing::{comparing_agrees, Tally};
+use comparing::{comparing_agrees, four_objects_agree, Tally};
 
 /// Pairs of diagrams that are compared.
 const PAIRS: usize = 4_000;
+
+/// Small pairs that are compared with up to four objects.
+const FOUR_OBJECT_PAIRS: usize = 1_500;
 
 #[test]
 fn compare_agrees_on_small_edits() {
@@ -42,4 +45,21 @@ fn compare_agrees_on_small_edits() {
             "differences by rule {rule} are too rare: {tally:?}"
         );
     }
+}
+
+#[test]
+fn compare_agrees_with_up_to_four_objects() {
+    let mut tally = Tally::default();
+    for seed in 0..FOUR_OBJECT_PAIRS as u64 {
+        four_objects_agree(seed, &mut tally);
+    }
+    println!("{tally:?}");
+    assert!(
+        tally.skipped * 10 <= FOUR_OBJECT_PAIRS,
+        "more than 1 of 10 left out: {tally:?}"
+    );
+    assert!(
+        tally.of_four >= 5,
+        "differences of four objects are too rare: {tally:?}"
+    );
 }

@@ -1,4 +1,5 @@
-//! The same checks on ever more seeds: `make soak` runs them for SOAK_MINUTES minutes.
+//! The same checks on ever more seeds, and a solver's answers beside both comparers: `make soak`
+//! runs them for SOAK_MINUTES minutes.
 
 #[path = "checks/comparing.rs"]
 mod comparing;
@@ -10,6 +11,8 @@ mod judging;
 mod product;
 #[path = "checks/rows.rs"]
 mod rows;
+#[path = "checks/solving.rs"]
+mod solving;
 
 use std::time::{Duration, Instant, SystemTime, UNIX_EPOCH};
 
@@ -36,12 +39,20 @@ fn every_check_on_many_seeds() {
     let (mut diagrams, mut records) = (files::Tally::default(), files::Tally::default());
     let (mut judged, mut compared) = (judging::Tally::default(), comparing::Tally::default());
     let mut called = rows::Tally::new();
+    let (mut solved, mut solving_time) = (solving::Tally::default(), Duration::ZERO);
     while seed == first || start.elapsed() < Duration::from_secs(60 * minutes) {
         files::diagrams_agree(seed, &files::diagram_files(seed), &mut diagrams);
         files::records_agree(seed, &files::record_files(seed), &mut records);
         judging::judging_agrees(seed, &mut judged);
         comparing::comparing_agrees(seed, &mut compared);
+        comparing::four_objects_agree(seed, &mut compared);
         rows::rows_agree(seed, &mut called);
+        // The solver takes far longer than the other checks: half of the time is its share.
+        if solving_time * 2 <= start.elapsed() {
+            let begun = Instant::now();
+            solving::solver_agrees(seed, &mut solved);
+            solving_time += begun.elapsed();
+        }
         seed += 1;
         if shown.elapsed() > Duration::from_secs(60) {
             println!("{} seeds without a disagreement.", seed - first);
@@ -53,5 +64,6 @@ fn every_check_on_many_seeds() {
     println!("record files by reply: {records:?}");
     println!("judging: {judged:?}");
     println!("comparing: {compared:?}");
+    println!("solving: {solved:?}");
     println!("rows: {called:?}");
 }

@@ -15,11 +15,13 @@ pub mod hex;
 pub mod instances;
 pub mod limits;
 pub mod names;
+pub mod notation;
 pub mod plan;
 pub mod random;
 pub mod record_limits;
 pub mod records;
 pub mod rows;
+pub mod upper_limits;
 
 pub use calls::CallPlan;
 pub use plan::{

@@ -4,6 +4,7 @@ use generators::damage::{cuts, damaged};
 use generators::diagrams::{diagram, SMALL};
 use generators::edits::edited;
 use generators::fillings::fillings;
+use generators::notation;
 use generators::{Association, DiagramPlan, End, Random, Type};
 
 /// A class without parents.
@@ -76,4 +77,34 @@ fn fillings_of_shelves_and_cards() {
     assert_eq!((count(0), count(1), count(2)), (1, 3, 9));
     assert_eq!((count(4), count(8)), (193, 2_497_305));
     assert_eq!(fillings(&shelf_and_card(), 8, 100), 100);
+}
+
+#[test]
+fn a_diagram_is_read_from_its_text() {
+    let text = "class Shelf; class Card;
+        composition [1] Shelf (shelf) -> (cards) Card [0..2];";
+    assert_eq!(notation::diagram(text), shelf_and_card());
+}
+
+#[test]
+fn every_part_of_a_diagram_has_its_text() {
+    let text = "enum State {spare, working;}
+        enum Serial;
+        interface Powered;
+        abstract class Unit implements Powered;
+        <<singleton>> class Main extends Unit implements Powered { State state; Serial serial; }
+        association [1..*] Main (main) <-> (units) Unit [*];";
+    let plan = notation::diagram(text);
+    let bytes = generators::hex::bytes(
+        "10 00 01 01
+         20 00 15 05 53 74 61 74 65 02 05 73 70 61 72 65 07 77 6F 72 6B 69 6E 67
+         20 00 08 06 53 65 72 69 61 6C 00
+         30 00 0A 02 07 50 6F 77 65 72 65 64 00
+         30 00 08 01 04 55 6E 69 74 01 00
+         30 00 09 03 04 4D 61 69 6E 02 00 01
+         40 00 08 02 05 73 74 61 74 65 00
+         40 00 09 02 06 73 65 72 69 61 6C 01
+         50 00 13 00 03 02 01 FF 04 6D 61 69 6E 01 00 FF 05 75 6E 69 74 73",
+    );
+    assert_eq!(plan.file(), bytes);
 }

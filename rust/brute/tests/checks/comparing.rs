@@ -4,7 +4,7 @@ use crate::product;
 use brute::{compare_within, judge, read_diagram, read_record, Diagram};
 use generators::diagrams::{diagram, loosened, Size, SMALL, TINY};
 use generators::edits::{edited, redrawn};
-use generators::fillings::fillings;
+use generators::fillings::searched_soon;
 use generators::hex::hex;
 use generators::{CallPlan, DiagramPlan, Random};
 
@@ -13,9 +13,6 @@ const BOUND: usize = 3;
 
 /// Nodes that the independent search may visit for a pair.
 const BUDGET: u64 = 400_000;
-
-/// Fillings of old up to the bound that make a pair worth trying at all.
-const FILLINGS: u64 = 3_000;
 
 /// Few types and many links, where the rules on links are all that differs.
 const LINKED: Size = Size {
@@ -41,8 +38,11 @@ const LARGE: Size = Size {
     associations: 16,
 };
 
-/// Sizes of pairs, and the bound up to which pairs of that size are compared.
-const SIZES: [(Size, usize); 6] = [
+/// A size of pairs, and the bound up to which pairs of that size are compared.
+type SizeAndBound = (Size, usize);
+
+/// Pairs of every size.
+const SIZES: [SizeAndBound; 6] = [
     (TINY, BOUND),
     (SMALL, BOUND),
     (LINKED, BOUND),
@@ -51,19 +51,34 @@ const SIZES: [(Size, usize); 6] = [
     (LARGE, 1),
 ];
 
+/// Small pairs, with one object more.
+const FOUR_OBJECTS: [SizeAndBound; 2] = [(TINY, 4), (LINKED, 4)];
+
 /// How many pairs had a difference (by its object count, and by the rule that new breaks), had
 /// none, or were left out.
 #[derive(Default, Debug)]
 pub struct Tally {
     pub differences: [usize; BOUND + 1],
+    /// Differences of one object more.
+    pub of_four: usize,
     pub rules: [usize; 10],
     pub no_difference: usize,
     pub skipped: usize,
 }
 
-/// Compares the pair of a seed at every bound.
+/// Compares the pair of a seed at every bound up to that of its size.
 pub fn comparing_agrees(seed: u64, tally: &mut Tally) {
-    let (old, new, most) = pair(seed);
+    agrees(seed, &SIZES, tally);
+}
+
+/// Compares a small pair at every bound up to 4.
+pub fn four_objects_agree(seed: u64, tally: &mut Tally) {
+    agrees(seed, &FOUR_OBJECTS, tally);
+}
+
+/// Compares the pair of a seed, of one of these sizes, at every bound.
+fn agrees(seed: u64, sizes: &[SizeAndBound], tally: &mut Tally) {
+    let (old, new, most) = pair(seed, sizes);
     let (old_file, new_file) = (old.file(), new.file());
     let old = read_diagram(&old_file).expect("generated diagrams are accepted");
     let new = read_diagram(&new_file).expect("edited diagrams are accepted");
@@ -74,7 +89,10 @@ pub fn comparing_agrees(seed: u64, tally: &mut Tally) {
     let least = found.as_ref().map(|record| record.objects.len());
     match &found {
         Some(record) => {
-            tally.differences[record.objects.len()] += 1;
+            match tally.differences.get_mut(record.objects.len()) {
+                Some(times) => *times += 1,
+                None => tally.of_four += 1,
+            }
             tally.rules[usize::from(judge(&new, record))] += 1;
         }
         None => tally.no_difference += 1,
@@ -99,10 +117,10 @@ pub fn comparing_agrees(seed: u64, tally: &mut Tally) {
 
 /// A diagram and a small edit of it, in either order, that can be searched up to the bound beside
 /// them.
-fn pair(seed: u64) -> (DiagramPlan, DiagramPlan, usize) {
+fn pair(seed: u64, sizes: &[SizeAndBound]) -> (DiagramPlan, DiagramPlan, usize) {
     let mut random = Random::new(seed);
     loop {
-        let (size, bound) = *random.pick(&SIZES);
+        let (size, bound) = *random.pick(sizes);
         let mut one = diagram(&mut random, size);
         if random.chance(1, 2) {
             one = loosened(&mut random, &one);
@@ -115,7 +133,7 @@ fn pair(seed: u64) -> (DiagramPlan, DiagramPlan, usize) {
             true => (one, other),
             false => (other, one),
         };
-        if fillings(&old, bound, FILLINGS) < FILLINGS {
+        if searched_soon(&old, bound) {
             return (old, new, bound);
         }
     }

@@ -3,16 +3,13 @@
 use brute::{compare_within, judge, read_diagram, read_record, Diagram};
 use generators::calls::{room, split};
 use generators::diagrams::TINY;
-use generators::fillings::fillings;
+use generators::fillings::searched_soon;
 use generators::hex::hex;
 use generators::rows::{any_reply_room, row, spoiled};
 use generators::{CallPlan, DiagramPlan, Random};
 
 /// Nodes that the independent search may visit for a compare of a row.
 const BUDGET: u64 = 50_000;
-
-/// Fillings of old up to the bound that a compare of a row may have.
-const FILLINGS: u64 = 800;
 
 /// How often each status byte came, how many witnesses were checked and how many rows ended early.
 #[derive(Debug)]
@@ -105,8 +102,7 @@ pub fn replies_agree(calls: &[CallPlan], both: &Both, shown: &str, tally: &mut T
 fn ends_soon(old: &DiagramPlan, new: &DiagramPlan, bound: u8) -> bool {
     let bound = usize::from(bound);
     let read = |plan: &DiagramPlan| read_diagram(&plan.file()).expect("it is accepted");
-    fillings(old, bound, FILLINGS) < FILLINGS
-        && compare_within(&read(old), &read(new), bound, BUDGET).is_ok()
+    searched_soon(old, bound) && compare_within(&read(old), &read(new), bound, BUDGET).is_ok()
 }
 
 /// Keeps up with what the places hold and with the last difference's object count.

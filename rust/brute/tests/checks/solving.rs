@@ -1,0 +1,126 @@
+//! Does the solver cadical find the same difference as the product, and as brute force?
+
+use crate::product;
+use brute::{compare_within, read_diagram};
+use generators::diagrams::{diagram, loosened, Size, SMALL, TINY};
+use generators::edits::{edited, redrawn};
+use generators::fillings::searched_soon;
+use generators::hex::hex;
+use generators::upper_limits::{tightened, widened};
+use generators::{CallPlan, DiagramPlan, Random};
+use sat::Found;
+use std::time::Duration;
+
+/// Objects up to which the solver looks.
+const BOUND: usize = 8;
+
+/// Objects up to which brute force looks, and nodes that it may visit.
+const BRUTE_BOUND: usize = 3;
+const BRUTE_BUDGET: u64 = 400_000;
+
+/// The solver's time for a pair.
+const LIMIT: Duration = Duration::from_secs(20);
+
+/// Sizes of pairs.
+const SIZES: [Size; 4] = [
+    TINY,
+    SMALL,
+    Size {
+        value_types: 0,
+        types: 3,
+        attributes: 0,
+        associations: 4,
+    },
+    Size {
+        value_types: 3,
+        types: 12,
+        attributes: 8,
+        associations: 8,
+    },
+];
+
+/// How many pairs had a difference, by its object count, or none; at how many the solver ran out
+/// of time; how many brute force answered too, and up to which bound the product did.
+#[derive(Default, Debug)]
+pub struct Tally {
+    pub differences: [usize; BOUND + 1],
+    pub no_difference: usize,
+    pub timed_out: usize,
+    pub by_brute_force: usize,
+    pub by_product: [usize; BOUND + 1],
+}
+
+/// Compares the pair of a seed in all three ways.
+pub fn solver_agrees(seed: u64, tally: &mut Tally) {
+    let (old_plan, new_plan) = pair(seed);
+    let (old_file, new_file) = (old_plan.file(), new_plan.file());
+    let shown = format!(
+        "seed {seed}\nold: {}\nnew: {}",
+        hex(&old_file),
+        hex(&new_file)
+    );
+    let old = read_diagram(&old_file).expect("generated diagrams are accepted");
+    let new = read_diagram(&new_file).expect("edited diagrams are accepted");
+    let steps = sat::steps(&old, &new, BOUND, LIMIT);
+    let last = steps.len() - 1;
+    let (least, known) = match steps[last].found {
+        Found::Difference(_) => (Some(last), BOUND),
+        Found::NoDifference => (None, BOUND),
+        Found::TimedOut => (None, last.saturating_sub(1)),
+    };
+    match (least, known) {
+        (Some(count), _) => tally.differences[count] += 1,
+        (None, BOUND) => tally.no_difference += 1,
+        (None, _) => tally.timed_out += 1,
+    }
+    let bound = known.min(BRUTE_BOUND);
+    if let Ok(found) = compare_within(&old, &new, bound, BRUTE_BUDGET) {
+        let count = found.map(|record| record.objects.len());
+        let expected = least.filter(|count| *count <= bound);
+        assert_eq!(count, expected, "brute force, bound {bound}\n{shown}");
+        tally.by_brute_force += 1;
+    }
+    let bound = searchable(&old_plan, known);
+    let expected = least.filter(|count| *count <= bound);
+    let reply = compared([old_file, new_file], bound);
+    assert_eq!(reply, expected, "the product, bound {bound}\n{shown}");
+    tally.by_product[bound] += 1;
+}
+
+/// A diagram and a small edit of it, in either order.
+fn pair(seed: u64) -> (DiagramPlan, DiagramPlan) {
+    let mut random = Random::new(seed);
+    let size = *random.pick(&SIZES);
+    let mut one = diagram(&mut random, size);
+    if random.chance(1, 2) {
+        one = loosened(&mut random, &one);
+    }
+    if random.chance(1, 2) {
+        one = widened(&mut random, &one);
+    }
+    let other = match random.below(3) {
+        0 => redrawn(&mut random, &one),
+        1 => tightened(&mut random, &one),
+        _ => edited(&mut random, &one),
+    };
+    match random.chance(1, 2) {
+        true => (one, other),
+        false => (other, one),
+    }
+}
+
+/// The largest bound, at most `most`, up to which the product ends in a moment.
+fn searchable(old: &DiagramPlan, most: usize) -> usize {
+    let soon = |bound: &usize| searched_soon(old, *bound);
+    (1..=most).take_while(soon).last().unwrap_or(0)
+}
+
+/// The object count of the product's difference, if it finds one.
+fn compared([old, new]: [Vec<u8>; 2], bound: usize) -> Option<usize> {
+    let load = |place, file| CallPlan::Load { place, file };
+    let bound = bound as u8;
+    let calls = [load(0, old), load(1, new), CallPlan::Compare { bound }];
+    let reply = product::replies(&calls).pop().expect("a reply to compare");
+    assert_eq!(reply[0], 0, "compare is not refused");
+    (reply[1] == 1).then(|| usize::from(reply[2]))
+}
