@@ -6,3 +6,5 @@ pub mod GoodLaws
 pub mod SharedLaws
 pub mod KeptLaws
 pub mod WayLaws
+pub mod StoredLaws
+pub mod TranslatedLaws

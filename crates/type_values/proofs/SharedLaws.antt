@@ -49,7 +49,7 @@ module _ (old new : Diagram) (wf : WfDiagram new) where
       (sym (differ-same (λ n. valueTypeAt new n .name) (length (new .valueTypes)) (wf .value-types-differ) i j l h)
       ∙ ap (sameName (valueTypeAt new i .name)) (sym e) ∙ same-self (valueTypeAt new i .name))
 
-  same-name : (v : ℕ) → sameType old new v < length (new .valueTypes) → valueTypeAt new (sameType old new v) .name ≡ valueTypeAt old v .name
+  pub same-name : (v : ℕ) → sameType old new v < length (new .valueTypes) → valueTypeAt new (sameType old new v) .name ≡ valueTypeAt old v .name
   unfolding sameType
   same-name v l = same-equal _ _ (first-holds (λ j. sameName (valueTypeAt new j .name) (valueTypeAt old v .name)) (length (new .valueTypes)) l)
 

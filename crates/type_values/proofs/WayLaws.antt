@@ -4,15 +4,16 @@ use Prim.Native.Nat.{_%_, _*_, _+_, _-_, _<_, _≤_, ℕ}
 use mathlib.Core.Bool.{Bool, _&&_, _||_, cond, false, not, true}
 use mathlib.Core.List.{List, []}
 use mathlib.Core.Logic.{_≢_}
-use mathlib.Core.Path.{_∙_, _≡_, ap, refl, sym}
+use mathlib.Core.Path.{_∙_, _≡_, ap, ap₂, refl, sym}
 use lib.Dec.{eqb, ltb}
 use lib.ListN.{getD, length, take}
 use borrow.Author.Tests.{le-ltb, lt-ltb, ne-eqb}
+use Rattle.laws.specs.Bounded.{all}
 use Rattle.laws.specs.Connective.{both, either}
 use Rattle.laws.proofs.SearchLaws.{both-no, both-yes}
 use Rattle.fields.specs.Slot.{slotName}
 use Rattle.files.specs.Name.{Name}
-use Rattle.type_values.specs.Numbers.{constantIn, constantName, dueBy, keptIn, knownIn, lackingIn, sharedIn}
+use Rattle.type_values.specs.Numbers.{constantIn, constantName, dueBy, goodIn, keptIn, knownIn, lackingIn, sharedIn, slotAskedIn, slotKeptIn}
 
 or-either : (a b : Bool) → a || b ≡ either a b
 unfolding either
@@ -81,3 +82,22 @@ module _ (types firsts : List ℕ) (e f : ℕ) where
       let z : eqb e 0 ≡ false = ne-eqb e 0 n in
       let at : i ≡ e - 1 = iw ∙ ap (λ (k : ℕ). k - 1) we in
       cc
+
+-- ---- types
+
+module _ (kinds : List ℕ) (count : ℕ) (index olds news slots back types firsts : List ℕ) (m n t : ℕ) where
+  -- the same, of type u
+  good-at : ℕ → Bool
+  good-at u =
+      both (ltb u count)
+      (both (either (eqb (getD kinds u 0) 0) (eqb (getD kinds u 0) 3))
+      (both (all (slotKeptIn olds news slots types firsts t u n) m) (all (slotAskedIn olds news back t u m) n)))
+
+  pub good-made : {i u j kind : ℕ} {a b : Bool} → i ≡ t → u ≡ getD index i 0 → j ≡ u → kind ≡ getD kinds j 0 → a ≡ all (slotKeptIn olds news slots types firsts t u n) m
+      → b ≡ all (slotAskedIn olds news back t u m) n
+      → ltb u count && ((eqb kind 0 || eqb kind 3) && (a && b)) ≡ goodIn kinds count index olds news slots back types firsts m n t
+  unfolding goodIn good-at
+  good-made {i} {u} {j} {kind} {a} {b} it ui ju kj p q =
+      and-both (ltb u count) _ ∙ ap (both (ltb u count)) (and-both (eqb kind 0 || eqb kind 3) _)
+      ∙ ap₂ (λ (x y : Bool). both (ltb u count) (both x y)) (or-either (eqb kind 0) _ ∙ ap (λ (k : ℕ). either (eqb k 0) (eqb k 3)) (kj ∙ ap (λ (k : ℕ). getD kinds k 0) ju)) (and-both a b ∙ ap₂ both p q)
+      ∙ ap good-at (ui ∙ ap (λ (k : ℕ). getD index k 0) it)

@@ -1,11 +1,9 @@
 -- Values of old that new does not have, by value type: they decide which values an object can have that new forbids.
 -- Assumes nothing.
-use Prim.Native.Nat.{_*_, _+_, _-_, _<_, ℕ}
+use Prim.Native.Nat.{_*_, _+_, _-_, ℕ}
 use mathlib.Core.Bool.{Bool, cond, not, true}
-use mathlib.Core.List.{List}
-use mathlib.Core.Path.{_≡_}
 use lib.Dec.{eqb}
-use lib.ListN.{getD, length}
+use lib.ListN.{length}
 use Rattle.laws.specs.Bounded.{any, first}
 use Rattle.laws.specs.Connective.{both, either, imp}
 use Rattle.files.specs.Diagram.{Diagram, attributeAt, typeAt, valueTypeAt}
@@ -38,14 +36,6 @@ module _ (old new : Diagram) where
   dueKept e f =
       cond (eqb e 0) true
       (both (not (eqb f 0)) (either (eqb e 255) (both (eqb f (1 + sameType (e - 1))) (eqb (firstLacking (e - 1)) 8))))
-
--- ---- as tables, by value type of old
-
-pub record SameTypes (old new : Diagram) (types : List ℕ) : Type 0 where
-  pub exact : (v : ℕ) → v < length (old .valueTypes) → getD types v 0 ≡ sameType old new v
-
-pub record Lackings (old new : Diagram) (firsts : List ℕ) : Type 0 where
-  pub exact : (v : ℕ) → v < length (old .valueTypes) → getD firsts v 0 ≡ firstLacking old new v
 
 -- ---- rules 3 and 4 by slots, for an object of old's type t, which has the name of new's type u
 

@@ -1,4 +1,5 @@
 pub mod Bad
 pub mod Named
 pub mod Lacking
+pub mod Tables
 pub mod Numbers

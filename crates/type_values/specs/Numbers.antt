@@ -5,7 +5,7 @@ use mathlib.Core.Bool.{Bool, cond, not, true}
 use mathlib.Core.List.{List, []}
 use lib.Dec.{eqb, ltb}
 use lib.ListN.{getD, length}
-use Rattle.laws.specs.Bounded.{any}
+use Rattle.laws.specs.Bounded.{all, any}
 use Rattle.laws.specs.Connective.{both, either}
 use Rattle.fields.specs.Slot.{slotName}
 use Rattle.files.specs.Name.{Name, sameName}
@@ -51,3 +51,13 @@ slotKeptIn olds news slots types firsts t u n s = keptIn types firsts (getD olds
 
 unfoldable pub slotAskedIn : List ℕ → List ℕ → List ℕ → ℕ → ℕ → ℕ → ℕ → Bool
 slotAskedIn olds news slots t u n s = either (eqb (getD news (u * 32 + s) 0) 0) (not (eqb (dueBy olds t n (getD slots s 0)) 0))
+
+-- ---- types
+
+-- type t, which is `index` t of `count` types, is a class or singleton class by its kind, and each slot is kept
+unfoldable pub goodIn : List ℕ → ℕ → List ℕ → List ℕ → List ℕ → List ℕ → List ℕ → List ℕ → List ℕ → ℕ → ℕ → ℕ → Bool
+goodIn kinds count index olds news slots back types firsts m n t =
+    let u = getD index t 0 in
+    both (ltb u count)
+    (both (either (eqb (getD kinds u 0) 0) (eqb (getD kinds u 0) 3))
+    (both (all (slotKeptIn olds news slots types firsts t u n) m) (all (slotAskedIn olds news back t u m) n)))

@@ -3,6 +3,7 @@ ghost use mathlib.Core.Path.{_≡_};
 ghost use mathlib.Core.Bool.{not};
 ghost use Prim.Native.Nat.{ℕ, _+_, _*_, _<_, _≤_};
 ghost use lib.ListN.{getD};
+ghost use Rattle.laws.specs.Bits.{Marks};
 ghost use Rattle.laws.specs.Bounded.{all, first};
 ghost use Rattle.files.specs.Name.{sameName};
 ghost use Rattle.fields.specs.Slot.{slotName};
@@ -11,8 +12,8 @@ ghost use Rattle.diagrams.specs.View.{diagramOf};
 ghost use Rattle.diagrams.specs.Held.{Held};
 ghost use Rattle.type_tables.specs.TypeTables.{Dues};
 ghost use Rattle.type_values.specs.Bad.{BadTypes};
-ghost use Rattle.type_values.specs.Lacking.{Lackings, SameTypes};
-ghost use Rattle.type_values.specs.Numbers.{constantIn, constantName, dueBy, keptIn, knownIn, lackingIn, sharedIn, slotAskedIn, slotKeptIn};
+ghost use Rattle.type_values.specs.Tables.{AttributePlaces, Lackings, SameTypes, Translated, TypePlaces};
+ghost use Rattle.type_values.specs.Numbers.{constantIn, constantName, dueBy, goodIn, keptIn, knownIn, lackingIn, sharedIn, slotAskedIn, slotKeptIn};
 
 // ---- values
 
@@ -268,4 +269,188 @@ fn slots_asked<'a>(
         }
     }
     true
+}
+
+// ---- types
+
+// Type t of the one diagram, with the name of type index[t] of the other, which has `count`, keeps rules 1, 3 and 4 of the other.
+fn is_good<'a>(
+    kinds: &'a [u8; 24],
+    count: u8,
+    index: &'a [u8; 32],
+    olds: &'a [u8; 768],
+    news: &'a [u8; 768],
+    slots: &'a [u8; 32],
+    back: &'a [u8; 32],
+    types: &'a [u8; 32],
+    firsts: &'a [u8; 12],
+    m: u8,
+    n: u8,
+    t: u8,
+) -> bool
+    ensures { λ r. ⌜ r ≡ goodIn (now (kinds .entry)) count (now (index .entry)) (now (olds .entry)) (now (news .entry)) (now (slots .entry)) (now (back .entry)) (now (types .entry)) (now (firsts .entry)) m n t ⌝ }
+{
+    let u = laws::byte(index, laws::wide(t));
+    let kind = laws::byte(kinds, laws::wide(u));
+    (u < count)
+        & (((kind == 0) | (kind == 3))
+            & (slots_kept(olds, news, slots, types, firsts, t, u, n, m)
+                & slots_asked(olds, news, back, t, u, m, n)))
+}
+
+// The types that do not, of the first `end`.
+fn bad_mask<'a>(
+    kinds: &'a [u8; 24],
+    count: u8,
+    index: &'a [u8; 32],
+    olds: &'a [u8; 768],
+    news: &'a [u8; 768],
+    slots: &'a [u8; 32],
+    back: &'a [u8; 32],
+    types: &'a [u8; 32],
+    firsts: &'a [u8; 12],
+    m: u8,
+    n: u8,
+    end: u8,
+) -> u32
+    requires { ⌜ end ≤ 24 ⌝ }
+    ensures { λ r. ⌜ Marks (λ t. not (goodIn (now (kinds .entry)) count (now (index .entry)) (now (olds .entry)) (now (news .entry)) (now (slots .entry)) (now (back .entry)) (now (types .entry)) (now (firsts .entry)) m n t)) end r ⌝ }
+{
+    let mut mask: u32 = 0;
+    let mut t: u8 = 0;
+    while t < end {
+        if !is_good(
+            kinds,
+            count,
+            index,
+            olds,
+            news,
+            slots,
+            back,
+            types,
+            firsts,
+            m,
+            n,
+            t,
+        ) {
+            mask = laws::with32(mask, t as u32);
+        }
+        t += 1;
+    }
+    mask
+}
+
+// For each value type of old new's value type of the same name, or their number.
+fn same_types(old: diagrams::StoredDiagram, new: diagrams::StoredDiagram) -> [u8; 32]
+    requires { ⌜ Held old × Held new ⌝ }
+    ensures { λ r. ⌜ SameTypes (diagramOf old) (diagramOf new) r ⌝ }
+{
+    let v = old.values;
+    let w = new.values;
+    places(&v.names, v.count as u8, &w.names, w.count as u8)
+}
+
+// For each value type of old the first of its values that new does not have, or 8.
+fn lacking_values(
+    old: diagrams::StoredDiagram,
+    new: diagrams::StoredDiagram,
+    types: &[u8; 32],
+) -> [u8; 12]
+    requires { ⌜ (Held old × Held new) × SameTypes (diagramOf old) (diagramOf new) (now types) ⌝ }
+    ensures { λ r. ⌜ Lackings (diagramOf old) (diagramOf new) r ⌝ }
+{
+    let v = old.values;
+    let w = new.values;
+    all_lacking(
+        &v.constants,
+        &v.sizes,
+        v.count as u8,
+        &w.sizes,
+        &w.constants,
+        w.count as u8,
+        types,
+    )
+}
+
+// For each type of old new's type of the same name, or their number.
+fn type_places(old: diagrams::StoredDiagram, new: diagrams::StoredDiagram) -> [u8; 32]
+    requires { ⌜ Held old × Held new ⌝ }
+    ensures { λ r. ⌜ TypePlaces (diagramOf old) (diagramOf new) r ⌝ }
+{
+    let v = old.types;
+    let w = new.types;
+    places(&v.names, v.count as u8, &w.names, w.count as u8)
+}
+
+// For each attribute of old new's slot of the same name, or the number of its attributes.
+fn attribute_places(old: diagrams::StoredDiagram, new: diagrams::StoredDiagram) -> [u8; 32]
+    requires { ⌜ Held old × Held new ⌝ }
+    ensures { λ r. ⌜ AttributePlaces (diagramOf old) (diagramOf new) r ⌝ }
+{
+    let v = old.attributes;
+    let w = new.attributes;
+    places(&v.names, v.count as u8, &w.names, w.count as u8)
+}
+
+// The bad types, by the tables.
+fn bad_by<'a>(
+    old: diagrams::StoredDiagram,
+    new: diagrams::StoredDiagram,
+    olds: &'a [u8; 768],
+    news: &'a [u8; 768],
+    index: &'a [u8; 32],
+    slots: &'a [u8; 32],
+    back: &'a [u8; 32],
+    types: &'a [u8; 32],
+    firsts: &'a [u8; 12],
+) -> u32
+    requires { ⌜ (Held old × Held new) × Translated (diagramOf old) (diagramOf new) (now olds) (now news) (now index) (now slots) (now back) (now types) (now firsts) ⌝ }
+    ensures { λ r. ⌜ BadTypes (diagramOf old) (diagramOf new) r ⌝ }
+{
+    let t = old.types.count as u8;
+    let m = old.attributes.count as u8;
+    let n = new.attributes.count as u8;
+    let u = new.types;
+    bad_mask(
+        &u.kinds,
+        u.count as u8,
+        index,
+        olds,
+        news,
+        slots,
+        back,
+        types,
+        firsts,
+        m,
+        n,
+        t,
+    )
+}
+
+// The types of old whose objects break rule 1 or rule 3 of new, or can break rule 4. `olds` has what is due by types of old.
+pub fn bad_types(
+    old: diagrams::StoredDiagram,
+    new: diagrams::StoredDiagram,
+    olds: &[u8; 768],
+) -> u32
+    requires { ⌜ (Held old × Held new) × Dues (diagramOf old) (now olds) ⌝ }
+    ensures { λ r. ⌜ BadTypes (diagramOf old) (diagramOf new) r ⌝ }
+{
+    let news = type_tables::due_values(new);
+    let types = same_types(old, new);
+    let firsts = lacking_values(old, new, &types);
+    let index = type_places(old, new);
+    let slots = attribute_places(old, new);
+    let back = attribute_places(new, old);
+    bad_by(
+        old,
+        new,
+        olds,
+        &news,
+        &index,
+        &slots,
+        &back,
+        &types,
+        &firsts,
+    )
 }
