@@ -1,0 +1,2 @@
+pub mod SetLaws
+pub mod StartLaws
