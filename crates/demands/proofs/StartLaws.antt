@@ -21,6 +21,7 @@ use Rattle.growing.proofs.DemandLaws.{available-of}
 use Rattle.worlds.specs.declared.Query.{Query}
 use Rattle.worlds.specs.Asked.{Solution}
 use Rattle.worlds.specs.Kept.{Sheet}
+use Rattle.demands.specs.declared.Start.{Start}
 use Rattle.demands.specs.declared.Wish.{Wish}
 use Rattle.demands.specs.Wishes.{Right, Started, available, present}
 
@@ -50,14 +51,14 @@ module _ (x : Sheet) (q : Query) (n : ℕ) (types : List ℕ) (k forb free : ℕ
             f (and-left (bit t (x .singles)) (present types k t) e) (v .0) (v .1) (sym (eqb-true t (getD types (v .0) 0) (v .2)))))
             (λ e. ap not e) (known (bit t (x .singles) && present types k t))
 
-    pub started : (w : World) → Extends types k forb n w → Solution x q n w → Started types k (n - k) free w
+    pub started : (w : World) → Extends types k forb n w → Solution x q n w → Started (record { types = types; k = k; spare = n - k; free = free }) w
     started w e s = record {
       many = e .many;
       few = omega (arith, e .few);
       eight = s .allowed .few;
       known = s .allowed .known;
       kept = e .kept;
-      avoids = all-free w e s;
+      extra = all-free w e s;
     }
 
   pub demanded : (r : Wish) → ((w : World) → Extends types k forb n w → Solution x q n w → Right k r w)
@@ -68,9 +69,9 @@ module _ (x : Sheet) (q : Query) (n : ℕ) (types : List ℕ) (k forb free : ℕ
     extra = λ w e s. right w e s .extra;
   }
 
-  -- nothing is known but the available types
-  pub right-free : (w : World) → Started types k (n - k) free w → Right k (record { dead = false; g = free }) w
-  right-free w a = record {
-    alive = refl;
-    extra = λ l. record { at = k; past = omega arith; below = l; small = a .known k l; typed = a .avoids k (omega arith) l };
-  }
+-- nothing is known but the available types
+pub right-free : (s : Start) (w : World) → Started s w → Right (s .k) (record { dead = false; g = s .free }) w
+right-free s w a = record {
+  alive = refl;
+  extra = λ l. record { at = s .k; past = omega arith; below = l; small = a .known (s .k) l; typed = a .extra (s .k) (omega arith) l };
+}

@@ -8,12 +8,22 @@ ghost use Rattle.growing.specs.Growth.{Demanded, Nowhere};
 ghost use Rattle.worlds.specs.Kept.{Slotted, Turned, sheet};
 ghost use Rattle.worlds.specs.Asked.{Sane, Solution};
 
+mod needs;
+mod rows;
 mod sets;
 
 // dead: no world that is looked for starts with the given types. Else one more object has a type of the mask g.
 pub struct Wish {
     pub dead: bool,
     pub g: u32,
+}
+
+// The types of the first k objects, how many more there can be, and the types that these can have.
+struct Start {
+    types: [u8; 8],
+    k: u8,
+    spare: u8,
+    free: u32,
 }
 
 // What the first k objects, whose types are given, demand of one more object in a world of n objects.

@@ -26,7 +26,7 @@ returns c =
     let free = c .types-free .result in
     let is = c .types-free .ensures (a .t9) (a .k) (c .before .types-present .ensures) in
     demanded x (a .q) (a .n) (a .t9) (a .k) (a .forb) free (record { dead = false; g = free })
-    (λ w e s. right-free x (a .q) (a .n) (a .t9) (a .k) (a .forb) free w (started x (a .q) (a .n) (a .t9) (a .k) (a .forb) free is w e s))
+    (λ w e s. right-free (record { types = a .t9; k = a .k; spare = a .n - a .k; free = free }) w (started x (a .q) (a .n) (a .t9) (a .k) (a .forb) free is w e s))
 
 pub demand-spec : {M : Type 1} → statement M
 demand-spec = tie.close (tie.spec types-present-requires types-free-requires returns)
