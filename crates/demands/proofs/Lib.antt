@@ -1,0 +1,4 @@
+pub mod SetLaws
+pub mod NeedLaws
+pub mod RowLaws
+pub mod StartLaws
