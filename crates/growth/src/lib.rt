@@ -10,7 +10,6 @@ ghost use Rattle.growing.specs.Growth.{Demanded, Ended, Grown, Nowhere};
 ghost use Rattle.worlds.specs.Asked.{Answers, Sane, Solution, worldBuilt};
 ghost use Rattle.worlds.specs.Kept.{Slotted, Turned, sheet};
 
-mod demands;
 mod leaves;
 
 // No world.
