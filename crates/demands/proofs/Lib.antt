@@ -1,4 +1,7 @@
 pub mod SetLaws
 pub mod NeedLaws
 pub mod RowLaws
+pub mod ColumnLaws
+pub mod SingleLaws
 pub mod StartLaws
+pub mod SolutionLaws
