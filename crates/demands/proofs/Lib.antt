@@ -5,3 +5,4 @@ pub mod ColumnLaws
 pub mod SingleLaws
 pub mod StartLaws
 pub mod SolutionLaws
+pub mod BitsLaws

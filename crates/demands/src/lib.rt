@@ -8,6 +8,7 @@ ghost use Rattle.growing.specs.Growth.{Demanded, Nowhere};
 ghost use Rattle.worlds.specs.Kept.{Slotted, Turned, sheet};
 ghost use Rattle.worlds.specs.Asked.{Sane, Solution};
 
+mod bits;
 mod columns;
 mod needs;
 mod rows;
