@@ -23,7 +23,14 @@ use Rattle.worlds.specs.Asked.{Solution}
 use Rattle.worlds.specs.Kept.{Sheet}
 use Rattle.demands.specs.declared.Start.{Start}
 use Rattle.demands.specs.declared.Wish.{Wish}
-use Rattle.demands.specs.Wishes.{Right, Started, available, present}
+use Rattle.demands.specs.Wishes.{Right, Sharpens, Started, available, present}
+
+-- nothing is known but the available types
+right-free : (s : Start) (w : World) → Started s w → Right (s .k) (record { dead = false; g = s .free }) w
+right-free s w a = record {
+  alive = refl;
+  extra = λ l. record { at = s .k; past = omega arith; below = l; small = a .known (s .k) l; typed = a .extra (s .k) (omega arith) l };
+}
 
 module _ (x : Sheet) (q : Query) (n : ℕ) (types : List ℕ) (k forb free : ℕ) where
   -- a singleton has at most one object
@@ -35,7 +42,7 @@ module _ (x : Sheet) (q : Query) (n : ℕ) (types : List ℕ) (k forb free : ℕ
       go false e =
           let far : 24 ≤ t = ltb-false t 24 e in
           let z : tally (λ o. eqb (w .kind o) t) (w .size) ≡ 0
-              = tally-none (λ o. eqb (w .kind o) t) (w .size) (λ o l. ne-eqb (w .kind o) t (λ y. omega (arith, s .allowed .known o l))) in
+          = tally-none (λ o. eqb (w .kind o) t) (w .size) (λ o l. ne-eqb (w .kind o) t (λ y. omega (arith, s .allowed .known o l))) in
           omega arith
 
   module _ (is : (t : ℕ) → bit t free ≡ available (x .usable) (x .singles) forb types k t) where
@@ -51,7 +58,7 @@ module _ (x : Sheet) (q : Query) (n : ℕ) (types : List ℕ) (k forb free : ℕ
             f (and-left (bit t (x .singles)) (present types k t) e) (v .0) (v .1) (sym (eqb-true t (getD types (v .0) 0) (v .2)))))
             (λ e. ap not e) (known (bit t (x .singles) && present types k t))
 
-    pub started : (w : World) → Extends types k forb n w → Solution x q n w → Started (record { types = types; k = k; spare = n - k; free = free }) w
+    started : (w : World) → Extends types k forb n w → Solution x q n w → Started (record { types = types; k = k; spare = n - k; free = free }) w
     started w e s = record {
       many = e .many;
       few = omega (arith, e .few);
@@ -61,17 +68,15 @@ module _ (x : Sheet) (q : Query) (n : ℕ) (types : List ℕ) (k forb free : ℕ
       extra = all-free w e s;
     }
 
-  pub demanded : (r : Wish) → ((w : World) → Extends types k forb n w → Solution x q n w → Right k r w)
-      → Demanded (Solution x q n) 24 types k forb n (r .dead) (ltb k n) (r .g)
-  demanded r right = record {
-    nowhere = λ d w e s. true-false d (right w e s .alive);
-    beyond = λ h w e s. omega (arith, ltb-true k n h, s .size);
-    extra = λ w e s. right w e s .extra;
-  }
-
--- nothing is known but the available types
-pub right-free : (s : Start) (w : World) → Started s w → Right (s .k) (record { dead = false; g = s .free }) w
-right-free s w a = record {
-  alive = refl;
-  extra = λ l. record { at = s .k; past = omega arith; below = l; small = a .known (s .k) l; typed = a .extra (s .k) (omega arith) l };
-}
+    -- from what is known with no count to a wish that a solution sharpens
+    pub demanded : (r : Wish)
+        → Sharpens (Solution x q n) (record { types = types; k = k; spare = n - k; free = free }) (record { dead = false; g = free }) r
+        → Demanded (Solution x q n) 24 types k forb n (r .dead) (ltb k n) (r .g)
+    demanded r sharp = record {
+      nowhere = λ d w e s. true-false d (right w e s .alive);
+      beyond = λ h w e s. omega (arith, ltb-true k n h, s .size);
+      extra = λ w e s. right w e s .extra;
+    }
+      where
+        right : (w : World) → Extends types k forb n w → Solution x q n w → Right k r w
+        right w e s = let a = started w e s in sharp .at w a s (right-free (record { types = types; k = k; spare = n - k; free = free }) w a)

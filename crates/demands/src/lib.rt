@@ -8,9 +8,12 @@ ghost use Rattle.growing.specs.Growth.{Demanded, Nowhere};
 ghost use Rattle.worlds.specs.Kept.{Slotted, Turned, sheet};
 ghost use Rattle.worlds.specs.Asked.{Sane, Solution};
 
+mod bits;
+mod columns;
 mod needs;
 mod rows;
 mod sets;
+mod singles;
 
 // dead: no world that is looked for starts with the given types. Else one more object has a type of the mask g.
 pub struct Wish {
@@ -46,10 +49,31 @@ pub fn demand<'a>(
 {
     let here = sets::types_present(&types, k);
     let free = sets::types_free(usable, singles, forb, here);
-    Wish {
+    let s = Start {
+        types,
+        k,
+        spare: n - k,
+        free,
+    };
+    let any = Wish {
         dead: false,
         g: free,
+    };
+    let single = singles::with_singles(any, s, singles, here);
+    if single.dead {
+        return single;
     }
+    let shut = q.shut;
+    let row = rows::with_rows(single, s, targets, lows, highs, &shut);
+    if row.dead {
+        return row;
+    }
+    let column = columns::with_columns(row, s, sources, lines);
+    if column.dead | (q.seeds == 0) {
+        return column;
+    }
+    let own = rows::with_first_row(column, s, targets, lows, highs, &shut, q.row, q.low, q.high);
+    columns::with_sources(own, s, sources, q.column, q.from, q.least, q.most, 0)
 }
 
 // Whether the query contradicts the tables, where its seeds have the given types.

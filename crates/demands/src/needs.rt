@@ -2,7 +2,6 @@
 ghost use mathlib.Core.Path.{_≡_};
 ghost use mathlib.Core.Bool.{Bool, true};
 ghost use Prim.Native.Nat.{ℕ, _<_, _≤_};
-
 ghost use Rattle.laws.specs.Bits.{bit};
 ghost use Rattle.growing.specs.World.{World};
 ghost use Rattle.growing.specs.Demand.{candidates, extras};
@@ -14,10 +13,7 @@ use crate::Wish;
 pub fn nothing() -> Wish
     ensures { λ r. ⌜ r .dead ≡ true ⌝ }
 {
-    Wish {
-        dead: true,
-        g: 0,
-    }
+    Wish { dead: true, g: 0 }
 }
 
 // At least c more objects have types of the mask g.
@@ -32,10 +28,7 @@ pub fn with_need(best: Wish, s: Start, g: u32, c: u8) -> Wish
         return nothing();
     }
     if u32::count_ones(g) < u32::count_ones(best.g) {
-        return Wish {
-            dead: best.dead,
-            g,
-        };
+        return Wish { dead: best.dead, g };
     }
     best
 }

@@ -38,7 +38,14 @@ fn with_rows_of<'a>(
     while i < 32 {
         let low = lows[x + i];
         if 0 < low {
-            wish = crate::needs::with_limits(wish, s, targets[x + i], shut[y + i], low, highs[x + i]);
+            wish = crate::needs::with_limits(
+                wish,
+                s,
+                targets[x + i],
+                shut[y + i],
+                low,
+                highs[x + i],
+            );
         }
         i += 1;
     }

@@ -66,7 +66,7 @@ loop-again c =
     let a = l .before .before .args in
     let q = isCandidate (a .s .types) (a .mask) (a .shut) in
     let is : h .has32 .result && not (e .has8 .result) ≡ q (l .loop .o)
-        = ap₂ (λ (x y : Bool). x && not y) (h .has32 .ensures ∙ ap (λ (y : ℕ). bit y (a .mask)) (t .type-of .ensures .0)) (e .has8 .ensures) in (
+    = ap₂ (λ (x y : Bool). x && not y) (h .has32 .ensures ∙ ap (λ (y : ℕ). bit y (a .mask)) (t .type-of .ensures .0)) (e .has8 .ensures) in (
       omega arith,
       (
         ⊎-elim (λ w. omega arith) (λ w. omega arith) (c .if1 .came),

@@ -46,9 +46,11 @@ loop-less c = search needs
 loop-again : tie.Need-loop-again Inv-loop μ-loop
 loop-again c =
     let l = c .before .before .before in
-    let a = l .before .args in
-    (omega arith, present-more (a .types .now) (l .loop .o) (l .loop .mask) (c .with32 .result) (l .loop .inv .1)
-    (λ t. c .with32 .ensures t ∙ ap (λ (y : ℕ). bit t (l .loop .mask) || eqb t y) (c .before .type-of .ensures .0)))
+    let a = l .before .args in (
+      omega arith,
+      present-more (a .types .now) (l .loop .o) (l .loop .mask) (c .with32 .result) (l .loop .inv .1)
+          (λ t. c .with32 .ensures t ∙ ap (λ (y : ℕ). bit t (l .loop .mask) || eqb t y) (c .before .type-of .ensures .0)),
+    )
 
 -- src/sets.rt:25:1
 returns : tie.Need-returns Inv-loop μ-loop
