@@ -1,2 +1,3 @@
 pub mod FilledLaws
 pub mod MaskLaws
+pub mod ArrayLaws

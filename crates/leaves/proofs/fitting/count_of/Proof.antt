@@ -1,3 +1,5 @@
+use borrow.Author.Tests.{eq-eqb, ne-eqb}
+use mathlib.Core.Bool.{Bool}
 use lib.Dec.{eqb}
 use lib.ListN.{getD}
 use Prim.Native.Nat.{ℕ, _+_, _*_, _-_, _<_, _≤_}
@@ -44,10 +46,11 @@ loop-again c =
     let k = c .before in
     let h = k .before .before .before in
     let a = h .before .args in
-    let p = λ (o : ℕ). eqb (getD (a .types .now) o 0) (a .t) in (
+    let p : ℕ → Bool = λ o. eqb (getD (a .types .now) o 0) (a .t) in
+    let z : getD (a .types .now) (h .loop .o) 0 ≡ getD (a .types .now) (k .before .wide .result) 0 = ap (λ (x : ℕ). getD (a .types .now) x 0) (sym (k .before .wide .ensures .0)) in (
       omega arith,
-      ⊎-elim (λ w. w .1 ∙ tally-hit p (h .loop .o) {r = p (h .loop .o)} (h .loop .inv .1) refl ?)
-          (λ w. w .1 ∙ tally-miss p (h .loop .o) {r = p (h .loop .o)} (h .loop .inv .1) refl ?) (c .if1 .came),
+      ⊎-elim (λ w. w .1 ∙ tally-hit p (h .loop .o) {r = p (h .loop .o)} (h .loop .inv .1) refl (eq-eqb _ _ (z ∙ w .0 .taken)))
+          (λ w. w .1 ∙ tally-miss p (h .loop .o) {r = p (h .loop .o)} (h .loop .inv .1) refl (ne-eqb _ _ (λ e. w .0 .left (sym z ∙ e)))) (c .if1 .came),
       ⊎-elim (λ w. omega (arith, w .1, h .loop .inv .2)) (λ w. omega (arith, w .1, h .loop .inv .2)) (c .if1 .came),
     )
 

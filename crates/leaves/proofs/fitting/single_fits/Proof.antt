@@ -1,3 +1,7 @@
+use Prim.Native.Nat.{ℕ}
+use mathlib.Core.Path.{ap}
+use lib.Dec.{eqb}
+use Rattle.laws.proofs.SearchLaws.{imp-yes}
 use Rattle.laws.proofs.SearchLaws.{tests}
 use Rattle.leaves.specs.Fitting.{singleFits}
 use borrow.Author.Needs.{needs}
@@ -20,7 +24,7 @@ count-of-requires c κs = search needs
 
 returns-2 : tie.Need-returns-2
 unfolding singleFits
-returns-2 c = ?
+returns-2 c = imp-yes (search tests) (ap (λ (x : ℕ). eqb x 1) (c .count-of .ensures))
 
 pub single-fits-spec : {M : Type 1} → statement M
 single-fits-spec = tie.close (tie.spec is-in-requires returns count-of-requires returns-2)
