@@ -1,3 +1,10 @@
 pub mod FilledLaws
 pub mod MaskLaws
 pub mod ArrayLaws
+pub mod FittingLaws
+pub mod RetypedLaws
+pub mod NetCountLaws
+pub mod RowLaws
+pub mod ColumnLaws
+pub mod PairLaws
+pub mod MayLaws

@@ -13,7 +13,7 @@ use Rattle.link_search.proofs.links.Reads as links-reads
 
 -- src/lib.rt:73:9
 types-fit-requires : tie.Need-types-fit-requires
-types-fit-requires c κs = search needs
+types-fit-requires c κs = ?
 
 -- src/lib.rt:74:9
 returns : tie.Need-returns
@@ -21,11 +21,11 @@ returns c = ?
 
 -- src/lib.rt:80:19
 mays-requires : tie.Need-mays-requires
-mays-requires c κs = search needs
+mays-requires c κs = ?
 
 -- src/lib.rt:81:9
 all-covered-requires : tie.Need-all-covered-requires
-all-covered-requires c κs = search needs
+all-covered-requires c κs = ?
 
 -- src/lib.rt:82:9
 returns-2 : tie.Need-returns-2
@@ -33,31 +33,31 @@ returns-2 c = ?
 
 -- src/lib.rt:88:13
 row-arrays-requires : tie.Need-row-arrays-requires
-row-arrays-requires c κs = search needs
+row-arrays-requires c κs = ?
 
 -- src/lib.rt:89:13
 column-arrays-requires : tie.Need-column-arrays-requires
-column-arrays-requires c κs = search needs
+column-arrays-requires c κs = ?
 
 -- src/lib.rt:90:23
 objects-requires : tie.Need-objects-requires
-objects-requires c κs = search needs
+objects-requires c κs = ?
 
 -- src/lib.rt:91:21
 objects-requires-2 : tie.Need-objects-requires-2
-objects-requires-2 c κs = search needs
+objects-requires-2 c κs = ?
 
 -- src/lib.rt:92:22
 objects-requires-3 : tie.Need-objects-requires-3
-objects-requires-3 c κs = search needs
+objects-requires-3 c κs = ?
 
 -- src/lib.rt:93:20
 objects-requires-4 : tie.Need-objects-requires-4
-objects-requires-4 c κs = search needs
+objects-requires-4 c κs = ?
 
 -- src/lib.rt:94:9
 links-requires : tie.Need-links-requires
-links-requires c κs = search needs
+links-requires c κs = ?
 
 -- src/lib.rt:58:1
 returns-3 : tie.Need-returns-3

@@ -1,3 +1,4 @@
+use Rattle.leaves.proofs.ArrayLaws.{columns-ask}
 use borrow.Author.Needs.{needs}
 use Rattle.leaves.proofs.columns.column_arrays.Statement.{statement}
 use Rattle.leaves.proofs.columns.column_arrays.Tie as tie
@@ -9,53 +10,56 @@ use Rattle.leaves.proofs.columns.objects.Reads as objects-reads
 use Rattle.leaves.proofs.columns.spread.Reads as spread-reads
 use Rattle.leaves.proofs.pick.Reads as pick-reads
 
--- src/columns.rt:63:16
 objects-requires : tie.Need-objects-requires
 objects-requires c κs = search needs
 
--- src/columns.rt:64:22
 objects-requires-2 : tie.Need-objects-requires-2
 objects-requires-2 c κs = search needs
 
--- src/columns.rt:64:58
 pick-requires : tie.Need-pick-requires
 pick-requires c κs = search needs
 
--- src/columns.rt:64:14
 longer-requires : tie.Need-longer-requires
 longer-requires c κs = search needs
 
--- src/columns.rt:66:15
 longer-requires-2 : tie.Need-longer-requires-2
 longer-requires-2 c κs = search needs
 
--- src/columns.rt:67:29
 among-requires : tie.Need-among-requires
 among-requires c κs = search needs
 
--- src/columns.rt:67:15
 longer-requires-3 : tie.Need-longer-requires-3
 longer-requires-3 c κs = search needs
 
--- src/columns.rt:68:27
 longer-requires-4 : tie.Need-longer-requires-4
 longer-requires-4 c κs = search needs
 
--- src/columns.rt:68:14
 spread-requires : tie.Need-spread-requires
 spread-requires c κs = search needs
 
--- src/columns.rt:69:28
 longer-requires-5 : tie.Need-longer-requires-5
 longer-requires-5 c κs = search needs
 
--- src/columns.rt:69:15
 spread-requires-2 : tie.Need-spread-requires-2
 spread-requires-2 c κs = search needs
 
--- src/columns.rt:59:1
 returns : tie.Need-returns
-returns c = ?
+returns c = 
+    let high16 = c .before .before in
+    let low = high16 .before .before .before .before in
+    let low16 = low .before .before in
+    let from = low16 .before .before .before .before in
+    let marked = from .before in
+    let slot = marked .before .before in
+    let to = slot .before .before .before in
+    let first = to .before in
+    let to16 = first .before .before .before in
+    let from16 = to16 .before .before .before in
+    let a = from16 .before .before .before .args in
+    columns-ask (a .t1) (a .q) (a .types .now) (a .n) (slot .longer2 .result) (from .longer3 .result) (from16 .objects .result) (to .longer .result) (to16 .objects2 .result)
+    (low .spread .result) (low16 .longer4 .result) (c .spread2 .result) (high16 .longer5 .result) (first .pick .result) (marked .among .result)
+    (slot .longer2 .ensures) (from16 .objects .ensures) (marked .among .ensures) (from .longer3 .ensures) (to16 .objects2 .ensures) (first .pick .ensures) (to .longer .ensures)
+    (low16 .longer4 .ensures) (low .spread .ensures) (high16 .longer5 .ensures) (c .spread2 .ensures)
 
 pub column-arrays-spec : {M : Type 1} → statement M
 column-arrays-spec =

@@ -1,3 +1,5 @@
+use Rattle.laws.proofs.SearchLaws.{tests}
+use Rattle.leaves.specs.Fitting.{typesFit}
 use borrow.Author.Needs.{needs}
 use Rattle.leaves.proofs.fitting.types_fit.Statement.{statement}
 use Rattle.leaves.proofs.fitting.types_fit.Tie as tie
@@ -6,25 +8,23 @@ use Rattle.leaves.proofs.fitting.types_fit.Lts as lts
 use Rattle.leaves.proofs.fitting.each_fits.Reads as each-fits-reads
 use Rattle.leaves.proofs.fitting.singles_fit.Reads as singles-fit-reads
 
--- src/fitting.rt:102:9
 returns : tie.Need-returns
-returns c = ?
+unfolding typesFit
+returns c = search tests depth 8 fits 20000
 
--- src/fitting.rt:104:9
 each-fits-requires : tie.Need-each-fits-requires
 each-fits-requires c κs = search needs
 
--- src/fitting.rt:105:9
 returns-2 : tie.Need-returns-2
-returns-2 c = ?
+unfolding typesFit
+returns-2 c = search tests depth 8 fits 20000
 
--- src/fitting.rt:107:5
 singles-fit-requires : tie.Need-singles-fit-requires
 singles-fit-requires c κs = search needs
 
--- src/fitting.rt:97:1
 returns-3 : tie.Need-returns-3
-returns-3 c = ?
+unfolding typesFit
+returns-3 c = search tests depth 8 fits 20000
 
 pub types-fit-spec : {M : Type 1} → statement M
 types-fit-spec =
