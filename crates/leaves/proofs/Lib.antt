@@ -8,3 +8,4 @@ pub mod RowLaws
 pub mod ColumnLaws
 pub mod PairLaws
 pub mod MayLaws
+pub mod EndLaws
