@@ -109,7 +109,7 @@ module _ (usable singles : ℕ) (targets lows highs : List ℕ) (x : Lines) (q :
     module _ (may : List ℕ) (r : RowArrays) (c : ColumnArrays) (mf mt wf wt : List ℕ) (a : Set may r c mf mt wf wt) where
       net-fits : Fits (r .low) (r .high) (c .slot) (c .from) (c .low) (c .high) (x .mirrorright) (x .mirrorleft) mf mt (x .wholeslot) wf wt (netIn link)
       net-fits = record {
-        rows = rows-of lows highs types n q r (a .rows) link (netIn link) agree (a .sane .row) (s .allowed .rows .limited) (s .asked .row);
+        rows = rows-of lows highs types n q r (a .rows) (a .sane .row) link (netIn link) agree (s .allowed .rows .limited) (s .asked .row);
         columns = columns-of x q types n c (a .columns) (a .slotted) (a .sane .column) link (netIn link) agree (s .allowed .columns) (s .asked .column);
         mirrors = mirrors-of x types n mf mt (a .slotted) link (netIn link) agree (a .mirror-from) (a .mirror-to) (s .allowed .mirrors);
         wholes = wholes-of x types n wf wt (a .slotted) link (netIn link) agree (a .whole-from) (a .whole-to) (s .allowed .wholes);
@@ -163,7 +163,7 @@ module _ (usable singles : ℕ) (targets lows highs : List ℕ) (x : Lines) (q :
             let d : (o * 32 + s) / 32 ≡ o = omega arith in
             let m : (o * 32 + s) % 32 ≡ s = omega arith in
             ap₂ (λ (y z : ℕ). typed types (getD targets (getD types y 0 * 32 + z) 0) p) (sym d) (sym m) ∙ standing s o p e .allowed .allowed;
-          limited = limited-of lows highs types n q r (a .rows) (linksIn rows) (netOf rows) found-agrees (f .rows);
+          limited = limited-of lows highs types n q r (a .rows) (a .sane .row) (linksIn rows) (netOf rows) found-agrees (f .rows);
         };
         columns = columns-kept x q types n c (a .columns) (a .slotted) (a .sane .column) (linksIn rows) (netOf rows) found-agrees (f .columns);
         mirrors = mirrors-kept x types n mf mt (a .slotted) (linksIn rows) (netOf rows) found-agrees (a .mirror-from) (a .mirror-to) (f .mirrors);
@@ -175,7 +175,7 @@ module _ (usable singles : ℕ) (targets lows highs : List ℕ) (x : Lines) (q :
         avoids = fit .never;
         must = λ o s p ho hs hp e. sym (stands s o p hs ho hp) ∙ b .least (o * 32 + s) p (omega arith) hp e;
         shut = λ o s p ho hs hp e. ⊎-elim (λ z. absurd (true-false e (standing s o p z .allowed .free))) (λ z. z) (known (linksIn rows s o p));
-        row = row-asked-of lows highs types n q r (a .rows) (linksIn rows) (netOf rows) found-agrees (f .rows) (a .sane .row);
+        row = row-asked-of lows highs types n q r (a .rows) (a .sane .row) (linksIn rows) (netOf rows) found-agrees (f .rows);
         column = column-asked-of x q types n c (a .columns) (a .slotted) (a .sane .column) (linksIn rows) (netOf rows) found-agrees (f .columns);
       };
       size = refl;

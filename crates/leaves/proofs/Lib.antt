@@ -2,6 +2,7 @@ pub mod FilledLaws
 pub mod MaskLaws
 pub mod ArrayLaws
 pub mod FittingLaws
+pub mod WithinLaws
 pub mod RetypedLaws
 pub mod NetCountLaws
 pub mod RowLaws

@@ -12,10 +12,10 @@ use Rattle.laws.specs.Bounded.{any, tally}
 use Rattle.laws.proofs.BoundedLaws.{any-ext}
 use Rattle.laws.proofs.CountLaws.{tally-ext}
 use Rattle.growing.specs.World.{World}
-use Rattle.link_search.specs.Nets.{Within}
 use Rattle.worlds.specs.declared.Query.{Query}
 use Rattle.worlds.specs.Kept.{Allowed, Sheet, sourceBy, wholeBy, wholeOf}
 use Rattle.worlds.specs.Asked.{Asked, Solution, sourceAsked}
+use Rattle.leaves.proofs.WithinLaws.{within-same}
 
 -- the world of n objects with types in an array
 abbrev pub made : ℕ → List ℕ → (ℕ → ℕ → ℕ → Bool) → World
@@ -52,13 +52,12 @@ module _ (x : Sheet) (q : Query) (n : ℕ) (types : List ℕ) (w : World) (size 
       allowed = λ s o p hs ho hp e.
         ap₂ (λ (k l : ℕ). bit k (getD (x .targets) (l * 32 + s) 0)) (sym (kept p hp)) (sym (kept o ho)) ∙ a .rows .allowed s o p hs (up o ho) (up p hp) e;
       limited = λ s o hs ho.
-        subst (λ (k : ℕ). Within (getD (x .lows) (k * 32 + s) 0) (getD (x .highs) (k * 32 + s) 0) (tally (λ p. w .link s o p) n)) (kept o ho)
-        (subst (λ (m : ℕ). Within (getD (x .lows) (w .kind o * 32 + s) 0) (getD (x .highs) (w .kind o * 32 + s) 0) (tally (λ p. w .link s o p) m)) size
-        (a .rows .limited s o hs (up o ho)));
+        within-same (ap (λ (k : ℕ). getD (x .lows) (k * 32 + s) 0) (kept o ho)) (ap (λ (k : ℕ). getD (x .highs) (k * 32 + s) 0) (kept o ho)) (ap (tally (λ p. w .link s o p)) size)
+        (a .rows .limited s o hs (up o ho));
     };
     columns = record {
       at = λ j p hj hp e.
-        subst (Within (getD (x .lines .columnlow) j 0) (getD (x .lines .columnhigh) j 0)) (count (sourceBy (x .lines) w j p) (sourceBy (x .lines) v j p) (λ o h.
+        within-same refl refl (count (sourceBy (x .lines) w j p) (sourceBy (x .lines) v j p) (λ o h.
         ap (λ (b : Bool). b && w .link (getD (x .lines .columnslot) j 0) o p) (in-set o (getD (x .lines .columnfrom) j 0) h)))
         (a .columns .at j p hj (up p hp) (in-set p (getD (x .lines .columnto) j 0) hp ∙ e));
     };
@@ -77,8 +76,8 @@ module _ (x : Sheet) (q : Query) (n : ℕ) (types : List ℕ) (w : World) (size 
     avoids = λ o h l. sym (in-set o (q .never) l) ∙ a .avoids o h (up o l);
     must = a .must;
     shut = a .shut;
-    row = λ h. subst (λ (m : ℕ). Within (q .low) (q .high) (tally (λ p. w .link (q .row) 0 p) m)) size (a .row h);
-    column = λ h. subst (Within (q .least) (q .most)) (count (sourceAsked q w) (sourceAsked q v) (λ o l. ap (λ (b : Bool). b && w .link (q .column) o 0) (in-set o (q .from) l))) (a .column h);
+    row = λ h. within-same refl refl (ap (tally (λ p. w .link (q .row) 0 p)) size) (a .row h);
+    column = λ h. within-same refl refl (count (sourceAsked q w) (sourceAsked q v) (λ o l. ap (λ (b : Bool). b && w .link (q .column) o 0) (in-set o (q .from) l))) (a .column h);
   }
 
   pub retyped : Solution x q n w → Solution x q n v
