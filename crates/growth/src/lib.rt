@@ -1,17 +1,13 @@
 // The search for a world that a query asks for: first the types of the seeds, then one extra object after the other, of the types that
 // a demand names, and at n objects the search for links.
 ghost use mathlib.Core.Path.{_≡_};
-ghost use mathlib.Core.Bool.{Bool, true, false, not, _&&_};
+ghost use mathlib.Core.Bool.{false, not, _&&_};
 ghost use Prim.Native.Nat.{ℕ, _<_, _≤_};
-ghost use lib.Dec.{ltb};
 ghost use lib.ListN.{getD, set};
 ghost use Rattle.laws.specs.Bits.{bit};
-ghost use Rattle.growing.specs.Growth.{Demanded, Ended, Grown, Nowhere};
+ghost use Rattle.growing.specs.Growth.{Grown};
 ghost use Rattle.worlds.specs.Asked.{Answers, Sane, Solution, worldBuilt};
 ghost use Rattle.worlds.specs.Kept.{Slotted, Turned, sheet};
-
-mod demands;
-mod leaves;
 
 // No world.
 fn nothing() -> worlds::Built

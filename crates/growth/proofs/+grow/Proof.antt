@@ -24,9 +24,9 @@ use borrow.Fn.PlainCycle.{Measures, is, falls, and}
 use Rattle.growth.proofs.grow.Reads as grow
 use Rattle.growth.proofs.grow.Kinds as grow-kinds
 use Rattle.growth.proofs.+grow.Lts-grow as grow-lts
-use Rattle.growth.proofs.demands.demand.Reads as demand-reads
+use Rattle.demands.proofs.demand.Reads as demand-reads
 use Rattle.growth.proofs.is_fresh.Reads as is-fresh-reads
-use Rattle.growth.proofs.leaves.ends.Reads as ends-reads
+use Rattle.leaves.proofs.ends.Reads as ends-reads
 use Rattle.growth.proofs.nothing.Reads as nothing-reads
 use Rattle.growth.proofs.put.Reads as put-reads
 use Rattle.laws.proofs.with32.Reads as with32-reads
