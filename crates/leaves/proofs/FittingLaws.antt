@@ -2,7 +2,7 @@
 -- Assumes nothing.
 use Prim.Native.Nat.{_<_, _≤_, ℕ}
 use native.Mathlib.Omega.{arith}
-use mathlib.Core.Bool.{Bool, _&&_, cond, false, not, true}
+use mathlib.Core.Bool.{Bool, cond, false, not, true}
 use mathlib.Core.List.{List}
 use mathlib.Core.Path.{_≡_, _∙_, ap, refl, sym}
 use borrow.Author.Tests.{eq-eqb, eqb-true, le-leb, le-ltb, leb-true, lt-ltb, ltb-false, ltb-true, not-true}
@@ -10,7 +10,7 @@ use lib.Dec.{eqb, leb, ltb}
 use lib.ListN.{getD}
 use Rattle.laws.specs.Bits.{bit}
 use Rattle.laws.specs.Bounded.{all, tally}
-use Rattle.laws.specs.Connective.{both, imp}
+use Rattle.laws.specs.Connective.{both}
 use Rattle.laws.proofs.BoundedLaws.{all-at, all-of}
 use Rattle.laws.proofs.ConnectiveLaws.{and-both, and-left, and-right, both-left, both-of, both-right, imp-of, imp-use}
 use Rattle.worlds.specs.declared.Query.{Query}

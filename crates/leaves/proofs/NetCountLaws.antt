@@ -5,12 +5,12 @@ use native.Mathlib.Omega.{arith}
 use mathlib.Core.Bool.{Bool, _&&_, and-assoc, and-false, false, true}
 use mathlib.Core.List.{List}
 use mathlib.Core.Logic.{⊎-elim}
-use mathlib.Core.Path.{_≡_, _∙_, ap, ap₂, refl, subst, sym}
+use mathlib.Core.Path.{_≡_, _∙_, ap, ap₂, refl, sym}
 use borrow.Author.Tests.{lt-ltb}
 use lib.Dec.{ltb}
 use lib.ListN.{getD}
-use Rattle.laws.specs.Bits.{Marks, bit}
-use Rattle.laws.specs.Bounded.{any, tally}
+use Rattle.laws.specs.Bits.{Marks}
+use Rattle.laws.specs.Bounded.{tally}
 use Rattle.laws.proofs.BoundedLaws.{any-ext, any-none, tally-none}
 use Rattle.laws.proofs.ConnectiveLaws.{and-right, known}
 use Rattle.laws.proofs.CountLaws.{tally-ext}

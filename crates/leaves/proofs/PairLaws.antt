@@ -1,8 +1,8 @@
 -- A net keeps mirrors and wholes exactly when the links do.
 -- Assumes nothing.
-use Prim.Native.Nat.{_*_, _+_, _<_, _≤_, ℕ}
+use Prim.Native.Nat.{_<_, _≤_, ℕ}
 use native.Mathlib.Omega.{arith}
-use mathlib.Core.Bool.{Bool, _&&_, false, true}
+use mathlib.Core.Bool.{Bool, false, true}
 use mathlib.Core.List.{List}
 use mathlib.Core.Path.{_≡_, _∙_, refl, subst, sym}
 use borrow.Author.Tests.{lt-ltb, ltb-false, ltb-true}
@@ -11,7 +11,7 @@ use lib.ListN.{getD}
 use Rattle.laws.specs.Bounded.{tally}
 use Rattle.laws.proofs.ConnectiveLaws.{and-both, and-left, and-right}
 use Rattle.link_search.specs.Nets.{Net}
-use Rattle.link_search.specs.Families.{Mirrors, Slots, Wholes, whole}
+use Rattle.link_search.specs.Families.{Mirrors, Wholes, whole}
 use Rattle.worlds.specs.declared.Lines.{Lines}
 use Rattle.worlds.specs.Kept.{MirrorsKept, Slotted, WholesKept, wholeOf}
 use Rattle.leaves.specs.Fitting.{typed}

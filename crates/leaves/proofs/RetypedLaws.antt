@@ -2,13 +2,13 @@
 -- Assumes nothing.
 use Prim.Native.Nat.{_*_, _+_, _<_, _≤_, ℕ}
 use native.Mathlib.Omega.{arith}
-use mathlib.Core.Bool.{Bool, _&&_, true}
+use mathlib.Core.Bool.{Bool, _&&_}
 use mathlib.Core.List.{List}
 use mathlib.Core.Path.{_≡_, _∙_, ap, ap₂, refl, subst, sym}
 use lib.Dec.{eqb}
 use lib.ListN.{getD}
 use Rattle.laws.specs.Bits.{bit}
-use Rattle.laws.specs.Bounded.{any, tally}
+use Rattle.laws.specs.Bounded.{tally}
 use Rattle.laws.proofs.BoundedLaws.{any-ext}
 use Rattle.laws.proofs.CountLaws.{tally-ext}
 use Rattle.growing.specs.World.{World}

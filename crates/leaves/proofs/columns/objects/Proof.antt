@@ -1,17 +1,15 @@
-use Prim.Native.Nat.{ℕ, _+_, _*_, _-_, _<_, _≤_}
-use mathlib.Core.Path.{_≡_, _∙_, ap, sym, refl}
+-- `objects` meets its contract: set by set.
+-- Assumes nothing.
+use Prim.Native.Nat.{_-_, _≤_}
 use native.Mathlib.Omega.{arith}
+use borrow.Author.Needs.{needs}
 use lib.ListN.{getD}
 use Rattle.laws.specs.Bits.{Marks}
-use Rattle.leaves.specs.Filled.{Filled}
 use Rattle.leaves.proofs.FilledLaws.{filled-begin, filled-next, filled-done}
+use Rattle.leaves.specs.Filled.{Filled}
 use Rattle.leaves.specs.Fitting.{typed}
-use borrow.Author.Needs.{needs}
 use Rattle.leaves.proofs.columns.objects.Statement.{statement}
 use Rattle.leaves.proofs.columns.objects.Tie as tie
-use Rattle.leaves.proofs.columns.objects.Reads as reads
-use Rattle.leaves.proofs.columns.objects.Lts as lts
-use Rattle.leaves.proofs.among.Reads as among-reads
 
 abbrev Inv-loop : tie.InvT-loop
 Inv-loop types n sets r₀ j₀ r j = (j ≤ 16) × Filled (λ k v. Marks (typed types (getD sets k 0)) n v) 0 16 j r

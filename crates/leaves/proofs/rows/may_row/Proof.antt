@@ -1,18 +1,15 @@
+-- `may_row` meets its contract: the objects of the types that the row may go to, without those that are shut.
+-- Assumes nothing.
 use Prim.Native.Nat.{ℕ}
 use mathlib.Core.Path.{subst}
+use borrow.Author.Needs.{needs}
 use lib.ListN.{getD}
 use Rattle.laws.specs.Bits.{Marks}
+use Rattle.leaves.proofs.MaskLaws.{marks-without}
 use Rattle.leaves.specs.Arrays.{spotOf}
 use Rattle.leaves.specs.Fitting.{typed}
-use Rattle.leaves.proofs.MaskLaws.{marks-without}
-use borrow.Author.Needs.{needs}
 use Rattle.leaves.proofs.rows.may_row.Statement.{statement}
 use Rattle.leaves.proofs.rows.may_row.Tie as tie
-use Rattle.leaves.proofs.rows.may_row.Reads as reads
-use Rattle.leaves.proofs.rows.may_row.Lts as lts
-use Rattle.leaves.proofs.among.Reads as among-reads
-use Rattle.leaves.proofs.rows.spot.Reads as spot-reads
-use Rattle.leaves.proofs.rows.without.Reads as without-reads
 
 spot-requires : tie.Need-spot-requires
 spot-requires c κs = search needs

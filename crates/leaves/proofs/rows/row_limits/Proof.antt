@@ -1,17 +1,15 @@
-use Prim.Native.Nat.{ℕ, _+_, _*_, _-_, _<_, _≤_}
-use mathlib.Core.Path.{_≡_, _∙_, ap, ap₂, sym, subst, refl}
+-- `row_limits` meets its contract: row by row.
+-- Assumes nothing.
+use Prim.Native.Nat.{ℕ, _*_, _-_, _≤_}
 use native.Mathlib.Omega.{arith}
-use Rattle.leaves.proofs.FilledLaws.{filled-begin, filled-next, filled-done}
-use Rattle.leaves.specs.Filled.{Filled}
-use lib.ListN.{getD}
-use Rattle.leaves.specs.Arrays.{spotOf}
+use mathlib.Core.Path.{_≡_, ap}
 use borrow.Author.Needs.{needs}
+use lib.ListN.{getD}
+use Rattle.leaves.proofs.FilledLaws.{filled-begin, filled-next, filled-done}
+use Rattle.leaves.specs.Arrays.{spotOf}
+use Rattle.leaves.specs.Filled.{Filled}
 use Rattle.leaves.proofs.rows.row_limits.Statement.{statement}
 use Rattle.leaves.proofs.rows.row_limits.Tie as tie
-use Rattle.leaves.proofs.rows.row_limits.Reads as reads
-use Rattle.leaves.proofs.rows.row_limits.Lts as lts
-use Rattle.laws.proofs.wide.Reads as wide-reads
-use Rattle.leaves.proofs.rows.spot.Reads as spot-reads
 
 abbrev Inv-loop : tie.InvT-loop
 Inv-loop table types n d end r₀ i₀ r i = (i ≤ n * 32) × Filled (λ k v. v ≡ getD table (spotOf types k) 0) d 256 i r
