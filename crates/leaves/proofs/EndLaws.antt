@@ -51,6 +51,6 @@ module _ (usable singles : ℕ) (targets lows highs : List ℕ) (x : Lines) (q :
     kept = λ _ o h. refl;
     sound = λ e. found-wanted usable singles targets lows highs x q types n slotted sane few small (fit-at usable singles q types n fit) may r c mf mt wf wt a all-may rows (z .between e) (z .sound e);
     complete = λ e _ w size kept s.
-      let t = retyped (sheet usable singles targets lows highs x) q n types w size kept s in
-      z .complete e (netIn (w .link)) (world-between usable singles targets lows highs x q types n (w .link) t may (a .mays)) (net-fits usable singles targets lows highs x q types n (w .link) t slotted sane may r c mf mt wf wt a);
+        let t = retyped (sheet usable singles targets lows highs x) q n types w size kept s in
+        z .complete e (netIn (w .link)) (world-between usable singles targets lows highs x q types n (w .link) t may (a .mays)) (net-fits usable singles targets lows highs x q types n (w .link) t slotted sane may r c mf mt wf wt a);
   }

@@ -66,7 +66,7 @@ module _ (n : ℕ) (types : List ℕ) (link : ℕ → ℕ → ℕ → Bool) (v :
         let s = getD (x .wholeslot) j 0 in
         ap₂ (λ (a b : Bool). a && b && v (o * 32 + s) p) (f .done j h o) (t .done j h p) ∙ ap (λ (b : Bool). ltb o n && typed types (getD (x .wholefrom) j 0) o && (ltb p n && typed types (getD (x .wholeto) j 0) p) && b) (g .at s o p (slots j h) ho hp)
         ∙ guarded-two (ltb o n) (typed types (getD (x .wholefrom) j 0) o) (ltb p n) (typed types (getD (x .wholeto) j 0) p) (link s o p)
-          (λ l. let r = g .inside s o p l in (lt-ltb o n (r .0), lt-ltb p n (r .1))))
+        (λ l. let r = g .inside s o p l in (lt-ltb o n (r .0), lt-ltb p n (r .1))))
 
     no-whole : (p o : ℕ) → (o < n → p < n → ⊥) → wholeOf x (made n types link) p o ≡ false
     unfolding wholeOf

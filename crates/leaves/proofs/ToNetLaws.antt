@@ -45,9 +45,9 @@ module _ (usable singles : ℕ) (targets lows highs : List ℕ) (x : Lines) (q :
   agree = record {
     few = s .allowed .few;
     at = λ t o p ht ho hp.
-      let d : (o * 32 + t) / 32 ≡ o = omega arith in
-      let m : (o * 32 + t) % 32 ≡ t = omega arith in
-      ap₂ (λ (a b : ℕ). link a b p) m d;
+        let d : (o * 32 + t) / 32 ≡ o = omega arith in
+        let m : (o * 32 + t) % 32 ≡ t = omega arith in
+        ap₂ (λ (a b : ℕ). link a b p) m d;
     inside = s .allowed .inside;
   }
 
@@ -66,8 +66,8 @@ module _ (usable singles : ℕ) (targets lows highs : List ℕ) (x : Lines) (q :
         target = r .1;
         allowed = s .allowed .rows .allowed (i % 32) (i / 32) p (omega arith) (r .0) (r .1) e;
         free = ⊎-elim
-          (λ z. absurd (true-false e (s .asked .shut (i / 32) (i % 32) p (omega arith) (omega arith) l (ap (λ (k : ℕ). netOf (q .shut) k p) (parts i) ∙ z))))
-          (λ z. z) (known (netOf (q .shut) i p));
+            (λ z. absurd (true-false e (s .asked .shut (i / 32) (i % 32) p (omega arith) (omega arith) l (ap (λ (k : ℕ). netOf (q .shut) k p) (parts i) ∙ z))))
+            (λ z. z) (known (netOf (q .shut) i p));
       }
 
   module _ (may : List ℕ) (m : Mays targets types n (q .shut) may) where

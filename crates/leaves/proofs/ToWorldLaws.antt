@@ -77,9 +77,9 @@ module _ (usable singles : ℕ) (targets lows highs : List ℕ) (x : Lines) (q :
       singles = record { at = fit .single };
       rows = record {
         allowed = λ s o p hs ho hp e.
-          let d : (o * 32 + s) / 32 ≡ o = omega arith in
-          let m : (o * 32 + s) % 32 ≡ s = omega arith in
-          ap₂ (λ (y z : ℕ). typed types (getD targets (getD types y 0 * 32 + z) 0) p) (sym d) (sym m) ∙ standing s o p e .allowed .allowed;
+            let d : (o * 32 + s) / 32 ≡ o = omega arith in
+            let m : (o * 32 + s) % 32 ≡ s = omega arith in
+            ap₂ (λ (y z : ℕ). typed types (getD targets (getD types y 0 * 32 + z) 0) p) (sym d) (sym m) ∙ standing s o p e .allowed .allowed;
         limited = limited-of lows highs types n q r (a .rows) (sane .row) (linksIn rows) (netOf rows) found-agrees (f .rows);
       };
       columns = columns-kept x q types n c (a .columns) slotted (sane .column) (linksIn rows) (netOf rows) found-agrees (f .columns);

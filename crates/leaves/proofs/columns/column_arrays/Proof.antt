@@ -39,7 +39,7 @@ spread-requires-2 : tie.Need-spread-requires-2
 spread-requires-2 c κs = search needs
 
 returns : tie.Need-returns
-returns c = 
+returns c =
     let high16 = c .before .before in
     let low = high16 .before .before .before .before in
     let low16 = low .before .before in

@@ -39,13 +39,13 @@ loop-less : tie.Need-loop-less Inv-loop μ-loop
 loop-less c = search needs
 
 loop-again : tie.Need-loop-again Inv-loop μ-loop
-loop-again c = 
+loop-again c =
     let h = c .before .before .before in
     let a = h .before .args in
     (omega arith, filled-next (λ k v. Marks (typed (a .types .now) (getD (a .sets .now) k 0)) (a .n) v) 0 16 (h .loop .j) _ (h .loop .r) (omega arith) (h .loop .inv .1) (c .among .ensures))
 
 returns : tie.Need-returns Inv-loop μ-loop
-returns c = 
+returns c =
     let h = c .before in
     let a = h .before .args in
     filled-done (λ k v. Marks (typed (a .types .now) (getD (a .sets .now) k 0)) (a .n) v) 0 16 (h .loop .j) 16 (h .loop .r) (h .loop .inv .0) (c .loop-test .left) (h .loop .inv .1)

@@ -41,7 +41,7 @@ loop-less c = search needs
 
 loop-again : tie.Need-loop-again Inv-loop μ-loop
 unfolding countOf
-loop-again c = 
+loop-again c =
     let k = c .before in
     let h = k .before .before .before in
     let a = h .before .args in

@@ -30,7 +30,7 @@ without-requires : tie.Need-without-requires
 without-requires c κs = search needs
 
 returns : tie.Need-returns
-returns c = 
+returns c =
     let s = c .before .before .before .before in
     let a = s .before .args in
     let m : Marks (typed (a .types .now) (getD (a .targets .now) (spotOf (a .types .now) (a .i)) 0)) (a .n) (c .before .before .among .result) = subst (λ (x : ℕ). Marks (typed (a .types .now) (getD (a .targets .now) x 0)) (a .n) (c .before .before .among .result)) (s .spot .ensures .0) (c .before .before .among .ensures) in

@@ -38,13 +38,13 @@ loop-less : tie.Need-loop-less Inv-loop μ-loop
 loop-less c = search needs
 
 loop-again : tie.Need-loop-again Inv-loop μ-loop
-loop-again c = 
+loop-again c =
     let h = c .before .before in
     let a = h .before .before .args in
     (omega arith, filled-next (λ k v. Marks (mayGo (a .targets .now) (a .types .now) (a .shut .now) k) (a .n) v) 0 256 (h .loop .i) _ (h .loop .r) (omega arith) (h .loop .inv .1) (c .may-row .ensures))
 
 returns : tie.Need-returns Inv-loop μ-loop
-returns c = 
+returns c =
     let h = c .before in
     let a = h .before .before .args in
     filled-done (λ k v. Marks (mayGo (a .targets .now) (a .types .now) (a .shut .now) k) (a .n) v) 0 256 (h .loop .i) (a .n * 32) (h .loop .r) (h .loop .inv .0) (omega arith) (h .loop .inv .1)

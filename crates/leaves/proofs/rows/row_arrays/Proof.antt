@@ -39,7 +39,7 @@ array-write-h : tie.Need-array-write-h
 array-write-h c = search needs
 
 returns : tie.Need-returns
-returns c = 
+returns c =
     let r = c .before .before .before in
     let h = r .before .before .before in
     let l = h .before in

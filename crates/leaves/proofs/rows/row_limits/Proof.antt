@@ -42,7 +42,7 @@ loop-less : tie.Need-loop-less Inv-loop μ-loop
 loop-less c = search needs
 
 loop-again : tie.Need-loop-again Inv-loop μ-loop
-loop-again c = 
+loop-again c =
     let s = c .before in
     let h = s .before .before in
     let a = h .before .before .args in
@@ -50,7 +50,7 @@ loop-again c =
     (omega arith, filled-next P (a .d) 256 (h .loop .i) _ (h .loop .r) (omega arith) (h .loop .inv .1) (ap (λ (x : ℕ). getD (a .table .now) x 0) (s .spot .ensures .0)))
 
 returns : tie.Need-returns Inv-loop μ-loop
-returns c = 
+returns c =
     let h = c .before in
     let a = h .before .before .args in
     filled-done (λ k v. v ≡ getD (a .table .now) (spotOf (a .types .now) k) 0) (a .d) 256 (h .loop .i) (a .n * 32) (h .loop .r) (h .loop .inv .0) (omega arith) (h .loop .inv .1)
