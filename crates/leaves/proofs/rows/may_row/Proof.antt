@@ -31,10 +31,12 @@ without-requires c κs = search needs
 
 returns : tie.Need-returns
 returns c =
-    let s = c .before .before .before .before in
+    let m = c .before .before in
+    let s = m .before .before in
     let a = s .before .args in
-    let m : Marks (typed (a .types .now) (getD (a .targets .now) (spotOf (a .types .now) (a .i)) 0)) (a .n) (c .before .before .among .result) = subst (λ (x : ℕ). Marks (typed (a .types .now) (getD (a .targets .now) x 0)) (a .n) (c .before .before .among .result)) (s .spot .ensures .0) (c .before .before .among .ensures) in
-    marks-without (typed (a .types .now) (getD (a .targets .now) (spotOf (a .types .now) (a .i)) 0)) (a .n) _ (getD (a .shut .now) (a .i) 0) _ m (c .without .ensures)
+    let t : ℕ → ℕ → Type 0 = λ x r. Marks (typed (a .types .now) (getD (a .targets .now) x 0)) (a .n) r in
+    marks-without (typed (a .types .now) (getD (a .targets .now) (spotOf (a .types .now) (a .i)) 0)) (a .n) (m .among .result) (getD (a .shut .now) (a .i) 0) (c .without .result)
+    (subst (λ (x : ℕ). t x (m .among .result)) (s .spot .ensures .0) (m .among .ensures)) (c .without .ensures)
 
 pub may-row-spec : {M : Type 1} → statement M
 may-row-spec =
