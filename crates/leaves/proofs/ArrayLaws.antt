@@ -11,7 +11,6 @@ use lib.ListN.{getD, set}
 use Rattle.laws.specs.Bits.{Marks, bit}
 use Rattle.worlds.specs.declared.Lines.{Lines}
 use Rattle.worlds.specs.declared.Query.{Query}
-use Rattle.leaves.specs.Filled.{Filled}
 use Rattle.leaves.specs.Fitting.{typed}
 use Rattle.leaves.specs.Arrays.{ColumnsAsk, Longer, Objects, RowLimits, RowsAsk, Spread, columnBy, ifSeeded, isAsked, limitAt, rowBy, rowHigh, rowLow, spotOf}
 use Rattle.leaves.proofs.FilledLaws.{filled-at, set-with}

@@ -1,10 +1,10 @@
 -- The columns of a net are within their limits exactly when the sources of each target are within the associations' and the query's.
 -- Assumes nothing.
-use Prim.Native.Nat.{_*_, _+_, _<_, ℕ}
+use Prim.Native.Nat.{_<_, ℕ}
 use native.Mathlib.Omega.{arith}
 use mathlib.Core.Bool.{Bool, _&&_, cond, false, false≢true, true}
 use mathlib.Core.List.{List}
-use mathlib.Core.Path.{_≡_, _∙_, ap, refl, subst, sym}
+use mathlib.Core.Path.{_≡_, ap, refl, subst, sym}
 use borrow.Author.Tests.{eqb-true, lt-ltb, ltb-true}
 use lib.Dec.{eqb, ltb}
 use lib.ListN.{getD}
@@ -55,10 +55,12 @@ module _ (x : Lines) (q : Query) (types : List ℕ) (n : ℕ) (r : ColumnArrays)
         column-count n types link v g (r .slot) (r .from) j p (slotBy j) (fromBy j) (a .slot j hj) (subst (λ (k : ℕ). k < 32) (a .slot j hj) (slots j hj)) hp (a .from j hj)
 
     columns-each : Each → Columns (r .slot) (r .from) (r .low) (r .high) v
-    columns-each f = record { at = λ j p hj hp.
-      let m = tally (source (r .slot) (r .from) v j p) 8 in
-      within-same (sym (a .low j p hj hp)) (sym (a .high j p hj hp)) refl
-      (asked-of (isAsked x q types n j p) (lowBy j) (highBy j) m (tally-le (source (r .slot) (r .from) v j p) 8) (λ e. within-same refl refl (sym (count j p hj hp)) (f j p hj hp e))) }
+    columns-each f = record {
+      at = λ j p hj hp.
+          let m = tally (source (r .slot) (r .from) v j p) 8 in
+          within-same (sym (a .low j p hj hp)) (sym (a .high j p hj hp)) refl
+          (asked-of (isAsked x q types n j p) (lowBy j) (highBy j) m (tally-le (source (r .slot) (r .from) v j p) 8) (λ e. within-same refl refl (sym (count j p hj hp)) (f j p hj hp e)));
+    }
 
     each-column : Columns (r .slot) (r .from) (r .low) (r .high) v → Each
     each-column w j p hj hp e =
@@ -75,7 +77,7 @@ module _ (x : Lines) (q : Query) (types : List ℕ) (n : ℕ) (r : ColumnArrays)
       where
         go : (j p : ℕ) → (b : Bool) → ltb j 16 ≡ b → cond b (ltb p n && typed types (getD (x .columnto) j 0) p) (ltb 0 (q .seeds) && eqb p 0) ≡ true
             → Within (cond b (getD (x .columnlow) j 0) (q .least)) (cond b (getD (x .columnhigh) j 0) (q .most))
-              (tally (λ o. typed types (cond b (getD (x .columnfrom) j 0) (q .from)) o && link (cond b (getD (x .columnslot) j 0) (q .column)) o p) n)
+            (tally (λ o. typed types (cond b (getD (x .columnfrom) j 0) (q .from)) o && link (cond b (getD (x .columnslot) j 0) (q .column)) o p) n)
         go j p true z e = k .at j p (ltb-true j 16 z) (ltb-true p n (and-left (ltb p n) _ e)) (and-right (ltb p n) (typed types (getD (x .columnto) j 0) p) e)
         go j p false z e =
             let first : p ≡ 0 = eqb-true p 0 (and-right (ltb 0 (q .seeds)) (eqb p 0) e) in
@@ -88,8 +90,8 @@ module _ (x : Lines) (q : Query) (types : List ℕ) (n : ℕ) (r : ColumnArrays)
         where
           go : (j p : ℕ) → p < n → typed types (getD (x .columnto) j 0) p ≡ true → (b : Bool) → b ≡ true
               → (cond b (ltb p n && typed types (getD (x .columnto) j 0) p) (ltb 0 (q .seeds) && eqb p 0) ≡ true
-                → Within (cond b (getD (x .columnlow) j 0) (q .least)) (cond b (getD (x .columnhigh) j 0) (q .most))
-                  (tally (λ o. typed types (cond b (getD (x .columnfrom) j 0) (q .from)) o && link (cond b (getD (x .columnslot) j 0) (q .column)) o p) n))
+              → Within (cond b (getD (x .columnlow) j 0) (q .least)) (cond b (getD (x .columnhigh) j 0) (q .most))
+              (tally (λ o. typed types (cond b (getD (x .columnfrom) j 0) (q .from)) o && link (cond b (getD (x .columnslot) j 0) (q .column)) o p) n))
               → Within (getD (x .columnlow) j 0) (getD (x .columnhigh) j 0) (tally (sourceBy x (made n types link) j p) n)
           go j p hp e true z f = f (and-both (ltb p n) _ (lt-ltb p n hp) e)
           go j p hp e false z f = absurd (false≢true z)

@@ -1,7 +1,6 @@
 -- An array filled in order, element by element.
 -- Assumes nothing.
 use Prim.Native.Nat.{_+_, _<_, _≤_, ℕ}
-use native.Mathlib.Nat.{le-antisymm}
 use native.Mathlib.Omega.{arith}
 use mathlib.Core.List.{List}
 use mathlib.Core.Path.{_≡_, _∙_, ap, refl, subst, sym}

@@ -9,4 +9,6 @@ pub mod RowLaws
 pub mod ColumnLaws
 pub mod PairLaws
 pub mod MayLaws
+pub mod ToNetLaws
+pub mod ToWorldLaws
 pub mod EndLaws

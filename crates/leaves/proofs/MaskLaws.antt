@@ -2,7 +2,7 @@
 -- Assumes nothing.
 use Prim.Native.Nat.{ℕ}
 use mathlib.Core.Bool.{Bool, _&&_, _||_, and-assoc, and-false, cond, false, not, true}
-use mathlib.Core.Path.{_≡_, _∙_, ap, ap₂, refl, sym}
+use mathlib.Core.Path.{_≡_, _∙_, ap, refl, sym}
 use lib.Bits.{bitOr, bitXor}
 use lib.Dec.{eqb, ltb}
 use Rattle.laws.specs.Bits.{Marks, bit}

@@ -1,15 +1,13 @@
 -- Where a row may go, and rows all of whose bits may stand.
 -- Assumes nothing.
-use Prim.Native.Nat.{_*_, _<_, _≤_, ℕ}
-use native.Mathlib.Omega.{arith}
-use mathlib.Core.Bool.{Bool, _&&_, false, not, true}
+use Prim.Native.Nat.{_*_, _<_, ℕ}
+use mathlib.Core.Bool.{Bool, false, not, true}
 use mathlib.Core.List.{List}
 use mathlib.Core.Path.{_≡_, _∙_, ap, refl, sym}
 use borrow.Author.Tests.{lt-ltb, ltb-false, ltb-true, not-true}
 use lib.Dec.{ltb}
 use lib.ListN.{getD}
 use Rattle.laws.specs.Bits.{bit}
-use Rattle.laws.specs.Bounded.{all}
 use Rattle.laws.specs.Connective.{imp}
 use Rattle.laws.proofs.BitLaws.{bit-zero}
 use Rattle.laws.proofs.BoundedLaws.{all-at, all-of}

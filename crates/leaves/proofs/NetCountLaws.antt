@@ -5,12 +5,12 @@ use native.Mathlib.Omega.{arith}
 use mathlib.Core.Bool.{Bool, _&&_, and-assoc, and-false, false, true}
 use mathlib.Core.List.{List}
 use mathlib.Core.Logic.{⊎-elim}
-use mathlib.Core.Path.{_≡_, _∙_, ap, ap₂, refl, subst, sym}
+use mathlib.Core.Path.{_≡_, _∙_, ap, ap₂, refl, sym}
 use borrow.Author.Tests.{lt-ltb}
 use lib.Dec.{ltb}
 use lib.ListN.{getD}
-use Rattle.laws.specs.Bits.{Marks, bit}
-use Rattle.laws.specs.Bounded.{any, tally}
+use Rattle.laws.specs.Bits.{Marks}
+use Rattle.laws.specs.Bounded.{tally}
 use Rattle.laws.proofs.BoundedLaws.{any-ext, any-none, tally-none}
 use Rattle.laws.proofs.ConnectiveLaws.{and-right, known}
 use Rattle.laws.proofs.CountLaws.{tally-ext}
@@ -64,9 +64,11 @@ module _ (n : ℕ) (types : List ℕ) (link : ℕ → ℕ → ℕ → Bool) (v :
     unfolding whole wholeOf
     whole-at p o hp ho = any-ext (part (x .wholeslot) from to v p o) (wholeBy x (made n types link) p o) 16 (λ j h.
         let s = getD (x .wholeslot) j 0 in
-        ap₂ (λ (a b : Bool). a && b && v (o * 32 + s) p) (f .done j h o) (t .done j h p) ∙ ap (λ (b : Bool). ltb o n && typed types (getD (x .wholefrom) j 0) o && (ltb p n && typed types (getD (x .wholeto) j 0) p) && b) (g .at s o p (slots j h) ho hp)
-        ∙ guarded-two (ltb o n) (typed types (getD (x .wholefrom) j 0) o) (ltb p n) (typed types (getD (x .wholeto) j 0) p) (link s o p)
-          (λ l. let r = g .inside s o p l in (lt-ltb o n (r .0), lt-ltb p n (r .1))))
+        let a = typed types (getD (x .wholefrom) j 0) o in
+        let b = typed types (getD (x .wholeto) j 0) p in
+        ap₂ (λ (a b : Bool). a && b && v (o * 32 + s) p) (f .done j h o) (t .done j h p)
+        ∙ ap (λ (l : Bool). ltb o n && a && (ltb p n && b) && l) (g .at s o p (slots j h) ho hp)
+        ∙ guarded-two (ltb o n) a (ltb p n) b (link s o p) (λ l. let r = g .inside s o p l in (lt-ltb o n (r .0), lt-ltb p n (r .1))))
 
     no-whole : (p o : ℕ) → (o < n → p < n → ⊥) → wholeOf x (made n types link) p o ≡ false
     unfolding wholeOf

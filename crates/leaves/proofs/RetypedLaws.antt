@@ -2,13 +2,13 @@
 -- Assumes nothing.
 use Prim.Native.Nat.{_*_, _+_, _<_, _≤_, ℕ}
 use native.Mathlib.Omega.{arith}
-use mathlib.Core.Bool.{Bool, _&&_, true}
+use mathlib.Core.Bool.{Bool, _&&_}
 use mathlib.Core.List.{List}
 use mathlib.Core.Path.{_≡_, _∙_, ap, ap₂, refl, subst, sym}
 use lib.Dec.{eqb}
 use lib.ListN.{getD}
 use Rattle.laws.specs.Bits.{bit}
-use Rattle.laws.specs.Bounded.{any, tally}
+use Rattle.laws.specs.Bounded.{tally}
 use Rattle.laws.proofs.BoundedLaws.{any-ext}
 use Rattle.laws.proofs.CountLaws.{tally-ext}
 use Rattle.growing.specs.World.{World}
@@ -50,16 +50,16 @@ module _ (x : Sheet) (q : Query) (n : ℕ) (types : List ℕ) (w : World) (size 
     singles = record { at = λ t h e. sym (count (λ o. eqb (w .kind o) t) (λ o. eqb (getD types o 0) t) (λ o l. ap (λ (k : ℕ). eqb k t) (kept o l))) ∙ a .singles .at t h e };
     rows = record {
       allowed = λ s o p hs ho hp e.
-        ap₂ (λ (k l : ℕ). bit k (getD (x .targets) (l * 32 + s) 0)) (sym (kept p hp)) (sym (kept o ho)) ∙ a .rows .allowed s o p hs (up o ho) (up p hp) e;
+          ap₂ (λ (k l : ℕ). bit k (getD (x .targets) (l * 32 + s) 0)) (sym (kept p hp)) (sym (kept o ho)) ∙ a .rows .allowed s o p hs (up o ho) (up p hp) e;
       limited = λ s o hs ho.
-        within-same (ap (λ (k : ℕ). getD (x .lows) (k * 32 + s) 0) (kept o ho)) (ap (λ (k : ℕ). getD (x .highs) (k * 32 + s) 0) (kept o ho)) (ap (tally (λ p. w .link s o p)) size)
-        (a .rows .limited s o hs (up o ho));
+          within-same (ap (λ (k : ℕ). getD (x .lows) (k * 32 + s) 0) (kept o ho)) (ap (λ (k : ℕ). getD (x .highs) (k * 32 + s) 0) (kept o ho)) (ap (tally (λ p. w .link s o p)) size)
+          (a .rows .limited s o hs (up o ho));
     };
     columns = record {
       at = λ j p hj hp e.
-        within-same refl refl (count (sourceBy (x .lines) w j p) (sourceBy (x .lines) v j p) (λ o h.
-        ap (λ (b : Bool). b && w .link (getD (x .lines .columnslot) j 0) o p) (in-set o (getD (x .lines .columnfrom) j 0) h)))
-        (a .columns .at j p hj (up p hp) (in-set p (getD (x .lines .columnto) j 0) hp ∙ e));
+          within-same refl refl (count (sourceBy (x .lines) w j p) (sourceBy (x .lines) v j p) (λ o h.
+          ap (λ (b : Bool). b && w .link (getD (x .lines .columnslot) j 0) o p) (in-set o (getD (x .lines .columnfrom) j 0) h)))
+          (a .columns .at j p hj (up p hp) (in-set p (getD (x .lines .columnto) j 0) hp ∙ e));
     };
     mirrors = record {
       at = λ j o p hj ho hp e f. a .mirrors .at j o p hj (up o ho) (up p hp) (in-set o (getD (x .lines .mirrorfrom) j 0) ho ∙ e) (in-set p (getD (x .lines .mirrorto) j 0) hp ∙ f);

@@ -90,3 +90,14 @@ pub record ColumnsAsk (x : Lines) (q : Query) (types : List ℕ) (n : ℕ) (r : 
   pub from : (j : ℕ) → j < 17 → Marks (typed types (columnBy (x .columnfrom) (q .from) j)) n (getD (r .from) j 0)
   pub low : (j p : ℕ) → j < 17 → p < 8 → getD (r .low) (j * 8 + p) 0 ≡ cond (isAsked x q types n j p) (columnBy (x .columnlow) (q .least) j) 0
   pub high : (j p : ℕ) → j < 17 → p < 8 → getD (r .high) (j * 8 + p) 0 ≡ cond (isAsked x q types n j p) (columnBy (x .columnhigh) (q .most) j) 8
+
+-- ---- all arrays of a search for links
+
+pub record Prepared (targets lows highs : List ℕ) (x : Lines) (q : Query) (types : List ℕ) (n : ℕ) (may : List ℕ) (r : RowArrays) (c : ColumnArrays) (mirrorFrom mirrorTo wholeFrom wholeTo : List ℕ) : Type 0 where
+  pub mays : Mays targets types n (q .shut) may
+  pub rows : RowsAsk lows highs types n q r
+  pub columns : ColumnsAsk x q types n c
+  pub mirror-from : Objects types n (x .mirrorfrom) mirrorFrom
+  pub mirror-to : Objects types n (x .mirrorto) mirrorTo
+  pub whole-from : Objects types n (x .wholefrom) wholeFrom
+  pub whole-to : Objects types n (x .wholeto) wholeTo

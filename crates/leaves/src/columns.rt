@@ -1,6 +1,6 @@
 // What is asked by associations: limits of columns, and the objects that count.
 ghost use mathlib.Core.Path.{_≡_};
-ghost use Prim.Native.Nat.{ℕ, _<_, _≤_};
+ghost use Prim.Native.Nat.{_<_, _≤_};
 ghost use Rattle.leaves.specs.Arrays.{ColumnsAsk, Longer, Objects, Spread, limitAt};
 use crate::ColumnArrays;
 use crate::among;

@@ -1,7 +1,7 @@
 // What is asked of the types of the objects.
 ghost use mathlib.Core.Path.{_≡_};
 ghost use mathlib.Core.Bool.{cond};
-ghost use Prim.Native.Nat.{ℕ, _<_, _≤_};
+ghost use Prim.Native.Nat.{_<_, _≤_};
 ghost use Rattle.laws.specs.Bounded.{all};
 ghost use Rattle.leaves.specs.Fitting.{countOf, singleFits, typeFits, typesFit};
 
@@ -26,7 +26,12 @@ fn type_fits<'a>(
 {
     let i = laws::wide(o);
     let t = types[i];
-    type_tables::is_in(usable, t) & pick_test(o < seeds, type_tables::is_in(wanted[i], t), !type_tables::is_in(never, t))
+    type_tables::is_in(usable, t)
+        & pick_test(
+            o < seeds,
+            type_tables::is_in(wanted[i], t),
+            !type_tables::is_in(never, t),
+        )
 }
 
 // The types of the first n objects fit.

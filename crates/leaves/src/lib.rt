@@ -15,13 +15,13 @@ mod fitting;
 mod rows;
 
 // The limits of all rows.
-pub struct RowArrays {
+struct RowArrays {
     pub low: [u8; 256],
     pub high: [u8; 256],
 }
 
 // The 16 columns of associations, and the query's.
-pub struct ColumnArrays {
+struct ColumnArrays {
     pub slot: [u8; 17],
     pub from: [u8; 17],
     pub low: [u8; 136],

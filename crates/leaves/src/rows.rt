@@ -1,8 +1,7 @@
 // What is asked of rows: their limits, and the objects that they may go to.
 ghost use mathlib.Core.Path.{_≡_};
 ghost use mathlib.Core.Bool.{_&&_, not};
-ghost use Prim.Native.Nat.{ℕ, _<_, _≤_, _+_, _*_, _/_, _%_, max, min};
-ghost use lib.ListN.{getD};
+ghost use Prim.Native.Nat.{ℕ, _<_, _≤_, max, min};
 ghost use Rattle.laws.specs.Bits.{bit, Marks};
 ghost use Rattle.leaves.specs.Fitting.{Small};
 ghost use Rattle.leaves.specs.Arrays.{Mays, RowLimits, RowsAsk, allCovered, covered, mayGo, spotOf};
@@ -62,10 +61,7 @@ pub fn row_arrays<'a>(
     let mut h = row_limits(highs, types, n, 8);
     l[at] = larger(l[at], pick(0 < q.seeds, q.low, 0));
     h[at] = smaller(h[at], pick(0 < q.seeds, q.high, 8));
-    RowArrays {
-        low: l,
-        high: h,
-    }
+    RowArrays { low: l, high: h }
 }
 
 // m without the bits of s.
@@ -90,7 +86,12 @@ fn may_row<'a>(
 }
 
 // The objects that each row may go to.
-pub fn mays<'a>(targets: &'a [u32; 768], types: &'a [u8; 8], n: u8, shut: &'a [u8; 256]) -> [u8; 256]
+pub fn mays<'a>(
+    targets: &'a [u32; 768],
+    types: &'a [u8; 8],
+    n: u8,
+    shut: &'a [u8; 256],
+) -> [u8; 256]
     requires { ⌜ (n ≤ 8) × Small (now types) ⌝ }
     ensures { λ r. ⌜ Mays (now (targets .entry)) (now (types .entry)) n (now (shut .entry)) r ⌝ }
 {

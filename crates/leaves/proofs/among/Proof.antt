@@ -1,20 +1,17 @@
-use lib.ListN.{getD}
-use Prim.Native.Nat.{ℕ, _+_, _*_, _-_, _<_, _≤_}
-use mathlib.Core.Path.{_≡_, _∙_, ap, ap₂, sym, subst, refl}
+-- `among` meets its contract: object by object, and nothing is in the empty set.
+-- Assumes nothing.
+use Prim.Native.Nat.{_+_, _-_, _≤_}
 use native.Mathlib.Omega.{arith}
 use mathlib.Core.Logic.{⊎-elim}
-use Rattle.laws.specs.Bits.{bit, Marks}
-use Rattle.laws.proofs.MaskLaws.{mask-begin, mask-with, mask-miss, mask-done}
-use Rattle.leaves.specs.Fitting.{typed}
-use Rattle.leaves.proofs.MaskLaws.{none-marked}
+use mathlib.Core.Path.{_≡_, sym, subst}
 use borrow.Author.Needs.{needs}
+use lib.ListN.{getD}
+use Rattle.laws.proofs.MaskLaws.{mask-begin, mask-with, mask-miss, mask-done}
+use Rattle.laws.specs.Bits.{Marks}
+use Rattle.leaves.proofs.MaskLaws.{none-marked}
+use Rattle.leaves.specs.Fitting.{typed}
 use Rattle.leaves.proofs.among.Statement.{statement}
 use Rattle.leaves.proofs.among.Tie as tie
-use Rattle.leaves.proofs.among.Reads as reads
-use Rattle.leaves.proofs.among.Lts as lts
-use Rattle.laws.proofs.wide.Reads as wide-reads
-use Rattle.laws.proofs.with8.Reads as with8-reads
-use Rattle.type_tables.proofs.is_in.Reads as is-in-reads
 
 abbrev Inv-loop : tie.InvT-loop
 Inv-loop types n set m₀ o₀ m o = (o ≤ n) × Marks (typed types set) o m
@@ -47,7 +44,7 @@ loop-less : tie.Need-loop-less Inv-loop μ-loop
 loop-less c = search needs
 
 loop-again : tie.Need-loop-again Inv-loop μ-loop
-loop-again c = 
+loop-again c =
     let k = c .before in
     let h = k .before .before .before .before in
     let a = h .before .before .args in

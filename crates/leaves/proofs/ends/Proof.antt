@@ -1,19 +1,17 @@
 -- `ends` meets its contract: no world where the types do not fit or a link that must stand may not, else what the search for links says.
 -- Assumes nothing.
-use Prim.Native.Nat.{ℕ}
-use mathlib.Core.Path.{_≡_, _∙_, sym}
-use lib.ListN.{length}
+use mathlib.Core.Path.{_≡_}
 use borrow.Author.Needs.{needs}
-use borrow.Author.Tests.{not-false, not-true}
+use lib.ListN.{length}
 use Rattle.laws.proofs.SearchLaws.{by-no, by-yes}
 use Rattle.leaves.proofs.ColumnLaws.{slots}
 use Rattle.leaves.proofs.EndLaws.{ended-links, ended-must, ended-types}
 use Rattle.leaves.proofs.ends.Statement.{statement}
 use Rattle.leaves.proofs.ends.Tie as tie
-use Rattle.leaves.proofs.ends.Reads as reads
-use Rattle.leaves.proofs.ends.Lts as lts
 use Rattle.leaves.proofs.columns.column_arrays.Reads as column-arrays-reads
 use Rattle.leaves.proofs.columns.objects.Reads as objects-reads
+use Rattle.leaves.proofs.ends.Lts as lts
+use Rattle.leaves.proofs.ends.Reads as reads
 use Rattle.leaves.proofs.fitting.types_fit.Reads as types-fit-reads
 use Rattle.leaves.proofs.rows.all_covered.Reads as all-covered-reads
 use Rattle.leaves.proofs.rows.mays.Reads as mays-reads
@@ -92,8 +90,6 @@ returns-3 c =
     ended-links (a .usable) (a .singles) (a .targets .now) (a .lows .now) (a .highs .now) (a .t4) (a .t7) (a .t8) (a .n) (m .mays .result) (r .row-arrays .result) (k .column-arrays .result)
     (z .objects .result) (y .objects2 .result) (x .objects3 .result) (w .objects4 .result)
     (record {
-      slotted = p .0;
-      sane = p .1;
       mays = m .mays .ensures;
       rows = r .row-arrays .ensures;
       columns = k .column-arrays .ensures;
@@ -101,7 +97,7 @@ returns-3 c =
       mirror-to = y .objects2 .ensures;
       whole-from = x .objects3 .ensures;
       whole-to = w .objects4 .ensures;
-    }) (p .2) (p .3) (by-yes (f .types-fit .ensures) (m .before .before .before .before .if1 .left)) (by-yes (v .all-covered .ensures) (e .if2 .left)) _ _ (c .links .result) (c .links .ensures)
+    }) (p .0) (p .1) (p .2) (p .3) (by-yes (f .types-fit .ensures) (m .before .before .before .before .if1 .left)) (by-yes (v .all-covered .ensures) (e .if2 .left)) _ _ (c .links .result) (c .links .ensures)
 
 pub ends-spec : {M : Type 1} → statement M
 ends-spec =

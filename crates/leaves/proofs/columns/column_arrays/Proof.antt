@@ -1,14 +1,9 @@
-use Rattle.leaves.proofs.ArrayLaws.{columns-ask}
+-- `column_arrays` meets its contract: each array is as its builder says, one element longer by the query.
+-- Assumes nothing.
 use borrow.Author.Needs.{needs}
+use Rattle.leaves.proofs.ArrayLaws.{columns-ask}
 use Rattle.leaves.proofs.columns.column_arrays.Statement.{statement}
 use Rattle.leaves.proofs.columns.column_arrays.Tie as tie
-use Rattle.leaves.proofs.columns.column_arrays.Reads as reads
-use Rattle.leaves.proofs.columns.column_arrays.Lts as lts
-use Rattle.leaves.proofs.among.Reads as among-reads
-use Rattle.leaves.proofs.columns.longer.Reads as longer-reads
-use Rattle.leaves.proofs.columns.objects.Reads as objects-reads
-use Rattle.leaves.proofs.columns.spread.Reads as spread-reads
-use Rattle.leaves.proofs.pick.Reads as pick-reads
 
 objects-requires : tie.Need-objects-requires
 objects-requires c κs = search needs
@@ -44,7 +39,7 @@ spread-requires-2 : tie.Need-spread-requires-2
 spread-requires-2 c κs = search needs
 
 returns : tie.Need-returns
-returns c = 
+returns c =
     let high16 = c .before .before in
     let low = high16 .before .before .before .before in
     let low16 = low .before .before in

@@ -1,11 +1,9 @@
-use Rattle.leaves.specs.Arrays.{limitAt}
+-- `limit_at` meets its contract: one choice.
+-- Assumes nothing.
 use borrow.Author.Needs.{needs}
+use Rattle.leaves.specs.Arrays.{limitAt}
 use Rattle.leaves.proofs.columns.limit_at.Statement.{statement}
 use Rattle.leaves.proofs.columns.limit_at.Tie as tie
-use Rattle.leaves.proofs.columns.limit_at.Reads as reads
-use Rattle.leaves.proofs.columns.limit_at.Lts as lts
-use Rattle.laws.proofs.has8.Reads as has8-reads
-use Rattle.leaves.proofs.pick.Reads as pick-reads
 
 element-copy-out-has8 : tie.Need-element-copy-out-has8
 element-copy-out-has8 c = search needs

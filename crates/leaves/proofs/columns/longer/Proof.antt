@@ -1,14 +1,14 @@
-use Prim.Native.Nat.{ℕ, _+_, _*_, _-_, _<_, _≤_}
-use mathlib.Core.Path.{_≡_, _∙_, ap, ap₂, sym, subst, refl}
+-- `longer` meets its contract: element by element; the last one stands from the start.
+-- Assumes nothing.
+use Prim.Native.Nat.{_-_, _≤_}
 use native.Mathlib.Omega.{arith}
+use mathlib.Core.Path.{_≡_, refl}
+use borrow.Author.Needs.{needs}
+use lib.ListN.{getD}
 use Rattle.leaves.proofs.FilledLaws.{filled-begin, filled-next, filled-done}
 use Rattle.leaves.specs.Filled.{Filled}
-use lib.ListN.{getD}
-use borrow.Author.Needs.{needs}
 use Rattle.leaves.proofs.columns.longer.Statement.{statement}
 use Rattle.leaves.proofs.columns.longer.Tie as tie
-use Rattle.leaves.proofs.columns.longer.Reads as reads
-use Rattle.leaves.proofs.columns.longer.Lts as lts
 
 abbrev Inv-loop : tie.InvT-loop
 Inv-loop l x r₀ j₀ r j = (j ≤ 16) × Filled (λ k v. v ≡ getD l k 0) x 17 j r

@@ -1,17 +1,15 @@
-use Prim.Native.Nat.{ℕ, _+_, _*_, _-_, _<_, _≤_}
-use mathlib.Core.Path.{_≡_, _∙_, ap, sym, refl}
+-- `objects` meets its contract: set by set.
+-- Assumes nothing.
+use Prim.Native.Nat.{_-_, _≤_}
 use native.Mathlib.Omega.{arith}
+use borrow.Author.Needs.{needs}
 use lib.ListN.{getD}
 use Rattle.laws.specs.Bits.{Marks}
-use Rattle.leaves.specs.Filled.{Filled}
 use Rattle.leaves.proofs.FilledLaws.{filled-begin, filled-next, filled-done}
+use Rattle.leaves.specs.Filled.{Filled}
 use Rattle.leaves.specs.Fitting.{typed}
-use borrow.Author.Needs.{needs}
 use Rattle.leaves.proofs.columns.objects.Statement.{statement}
 use Rattle.leaves.proofs.columns.objects.Tie as tie
-use Rattle.leaves.proofs.columns.objects.Reads as reads
-use Rattle.leaves.proofs.columns.objects.Lts as lts
-use Rattle.leaves.proofs.among.Reads as among-reads
 
 abbrev Inv-loop : tie.InvT-loop
 Inv-loop types n sets r₀ j₀ r j = (j ≤ 16) × Filled (λ k v. Marks (typed types (getD sets k 0)) n v) 0 16 j r
@@ -41,13 +39,13 @@ loop-less : tie.Need-loop-less Inv-loop μ-loop
 loop-less c = search needs
 
 loop-again : tie.Need-loop-again Inv-loop μ-loop
-loop-again c = 
+loop-again c =
     let h = c .before .before .before in
     let a = h .before .args in
     (omega arith, filled-next (λ k v. Marks (typed (a .types .now) (getD (a .sets .now) k 0)) (a .n) v) 0 16 (h .loop .j) _ (h .loop .r) (omega arith) (h .loop .inv .1) (c .among .ensures))
 
 returns : tie.Need-returns Inv-loop μ-loop
-returns c = 
+returns c =
     let h = c .before in
     let a = h .before .args in
     filled-done (λ k v. Marks (typed (a .types .now) (getD (a .sets .now) k 0)) (a .n) v) 0 16 (h .loop .j) 16 (h .loop .r) (h .loop .inv .0) (c .loop-test .left) (h .loop .inv .1)

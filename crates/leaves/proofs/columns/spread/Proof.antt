@@ -1,16 +1,14 @@
-use Prim.Native.Nat.{ℕ, _+_, _*_, _-_, _<_, _≤_}
-use mathlib.Core.Path.{_≡_, _∙_, ap, ap₂, sym, subst, refl}
+-- `spread` meets its contract: target by target.
+-- Assumes nothing.
+use Prim.Native.Nat.{_-_, _≤_}
 use native.Mathlib.Omega.{arith}
-use Rattle.leaves.proofs.FilledLaws.{filled-begin, filled-next, filled-done}
-use Rattle.leaves.specs.Filled.{Filled}
-use lib.ListN.{getD}
-use Rattle.leaves.specs.Arrays.{limitAt}
+use mathlib.Core.Path.{_≡_}
 use borrow.Author.Needs.{needs}
+use Rattle.leaves.proofs.FilledLaws.{filled-begin, filled-next, filled-done}
+use Rattle.leaves.specs.Arrays.{limitAt}
+use Rattle.leaves.specs.Filled.{Filled}
 use Rattle.leaves.proofs.columns.spread.Statement.{statement}
 use Rattle.leaves.proofs.columns.spread.Tie as tie
-use Rattle.leaves.proofs.columns.spread.Reads as reads
-use Rattle.leaves.proofs.columns.spread.Lts as lts
-use Rattle.leaves.proofs.columns.limit_at.Reads as limit-at-reads
 
 abbrev Inv-loop : tie.InvT-loop
 Inv-loop to limit d r₀ x₀ r x = (x ≤ 136) × Filled (λ k v. v ≡ limitAt to limit d k) d 136 x r

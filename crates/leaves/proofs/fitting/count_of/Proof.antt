@@ -1,19 +1,18 @@
-use borrow.Author.Tests.{eq-eqb, ne-eqb}
+-- `count_of` meets its contract: object by object.
+-- Assumes nothing.
+use Prim.Native.Nat.{ℕ, _-_, _≤_}
+use native.Mathlib.Omega.{arith}
 use mathlib.Core.Bool.{Bool}
+use mathlib.Core.Logic.{⊎-elim}
+use mathlib.Core.Path.{_≡_, _∙_, ap, sym, refl}
+use borrow.Author.Needs.{needs}
+use borrow.Author.Tests.{eq-eqb, ne-eqb}
 use lib.Dec.{eqb}
 use lib.ListN.{getD}
-use Prim.Native.Nat.{ℕ, _+_, _*_, _-_, _<_, _≤_}
-use mathlib.Core.Path.{_≡_, _∙_, ap, ap₂, sym, subst, refl}
-use native.Mathlib.Omega.{arith}
-use mathlib.Core.Logic.{⊎-elim}
 use Rattle.laws.proofs.LoopLaws.{tally-begin, tally-hit, tally-miss, tally-done}
 use Rattle.leaves.specs.Fitting.{countOf}
-use borrow.Author.Needs.{needs}
 use Rattle.leaves.proofs.fitting.count_of.Statement.{statement}
 use Rattle.leaves.proofs.fitting.count_of.Tie as tie
-use Rattle.leaves.proofs.fitting.count_of.Reads as reads
-use Rattle.leaves.proofs.fitting.count_of.Lts as lts
-use Rattle.laws.proofs.wide.Reads as wide-reads
 
 abbrev Inv-loop : tie.InvT-loop
 Inv-loop types n t c₀ o₀ c o = (o ≤ n) × (c ≡ countOf types o t) × (c ≤ o)
@@ -42,7 +41,7 @@ loop-less c = search needs
 
 loop-again : tie.Need-loop-again Inv-loop μ-loop
 unfolding countOf
-loop-again c = 
+loop-again c =
     let k = c .before in
     let h = k .before .before .before in
     let a = h .before .args in

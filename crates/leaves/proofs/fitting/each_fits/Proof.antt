@@ -1,15 +1,14 @@
-use Prim.Native.Nat.{ℕ, _+_, _*_, _-_, _<_, _≤_}
-use mathlib.Core.Path.{_≡_, _∙_, ap, ap₂, sym, subst, refl}
+-- `each_fits` meets its contract: object by object, up to the first that does not fit.
+-- Assumes nothing.
+use Prim.Native.Nat.{_-_, _≤_}
 use mathlib.Core.Bool.{true}
-use Rattle.laws.specs.Bounded.{all}
-use Rattle.laws.proofs.LoopLaws.{each}
-use Rattle.leaves.specs.Fitting.{typeFits}
+use mathlib.Core.Path.{_≡_}
 use borrow.Author.Needs.{needs}
+use Rattle.laws.proofs.LoopLaws.{each}
+use Rattle.laws.specs.Bounded.{all}
+use Rattle.leaves.specs.Fitting.{typeFits}
 use Rattle.leaves.proofs.fitting.each_fits.Statement.{statement}
 use Rattle.leaves.proofs.fitting.each_fits.Tie as tie
-use Rattle.leaves.proofs.fitting.each_fits.Reads as reads
-use Rattle.leaves.proofs.fitting.each_fits.Lts as lts
-use Rattle.leaves.proofs.fitting.type_fits.Reads as type-fits-reads
 
 abbrev Inv-loop : tie.InvT-loop
 Inv-loop usable seeds wanted never types n o₀ o = (o ≤ n) × (all (typeFits usable seeds wanted never types) o ≡ true)

@@ -1,16 +1,13 @@
+-- `single_fits` meets its contract: in the order of the definition.
+-- Assumes nothing.
 use Prim.Native.Nat.{ℕ}
 use mathlib.Core.Path.{ap}
-use lib.Dec.{eqb}
-use Rattle.laws.proofs.SearchLaws.{imp-yes}
-use Rattle.laws.proofs.SearchLaws.{tests}
-use Rattle.leaves.specs.Fitting.{singleFits}
 use borrow.Author.Needs.{needs}
+use lib.Dec.{eqb}
+use Rattle.laws.proofs.SearchLaws.{imp-yes, tests}
+use Rattle.leaves.specs.Fitting.{singleFits}
 use Rattle.leaves.proofs.fitting.single_fits.Statement.{statement}
 use Rattle.leaves.proofs.fitting.single_fits.Tie as tie
-use Rattle.leaves.proofs.fitting.single_fits.Reads as reads
-use Rattle.leaves.proofs.fitting.single_fits.Lts as lts
-use Rattle.leaves.proofs.fitting.count_of.Reads as count-of-reads
-use Rattle.type_tables.proofs.is_in.Reads as is-in-reads
 
 is-in-requires : tie.Need-is-in-requires
 is-in-requires c κs = search needs

@@ -1,15 +1,14 @@
+-- `singles_fit` meets its contract: type by type, up to the first that does not fit.
+-- Assumes nothing.
 use Prim.Native.Nat.{_-_, _≤_}
-use mathlib.Core.Path.{_≡_}
 use mathlib.Core.Bool.{true}
-use Rattle.laws.specs.Bounded.{all}
-use Rattle.laws.proofs.LoopLaws.{each}
-use Rattle.leaves.specs.Fitting.{singleFits}
+use mathlib.Core.Path.{_≡_}
 use borrow.Author.Needs.{needs}
+use Rattle.laws.proofs.LoopLaws.{each}
+use Rattle.laws.specs.Bounded.{all}
+use Rattle.leaves.specs.Fitting.{singleFits}
 use Rattle.leaves.proofs.fitting.singles_fit.Statement.{statement}
 use Rattle.leaves.proofs.fitting.singles_fit.Tie as tie
-use Rattle.leaves.proofs.fitting.singles_fit.Reads as reads
-use Rattle.leaves.proofs.fitting.singles_fit.Lts as lts
-use Rattle.leaves.proofs.fitting.single_fits.Reads as single-fits-reads
 
 abbrev Inv-loop : tie.InvT-loop
 Inv-loop singles types n t₀ t = (t ≤ 24) × (all (singleFits singles types n) t ≡ true)

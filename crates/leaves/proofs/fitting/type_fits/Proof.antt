@@ -1,12 +1,9 @@
-use Rattle.leaves.specs.Fitting.{typeFits}
+-- `type_fits` meets its contract: one test.
+-- Assumes nothing.
 use borrow.Author.Needs.{needs}
+use Rattle.leaves.specs.Fitting.{typeFits}
 use Rattle.leaves.proofs.fitting.type_fits.Statement.{statement}
 use Rattle.leaves.proofs.fitting.type_fits.Tie as tie
-use Rattle.leaves.proofs.fitting.type_fits.Reads as reads
-use Rattle.leaves.proofs.fitting.type_fits.Lts as lts
-use Rattle.laws.proofs.wide.Reads as wide-reads
-use Rattle.leaves.proofs.fitting.pick_test.Reads as pick-test-reads
-use Rattle.type_tables.proofs.is_in.Reads as is-in-reads
 
 wide-requires : tie.Need-wide-requires
 wide-requires c κs = search needs

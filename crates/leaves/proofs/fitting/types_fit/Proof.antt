@@ -1,12 +1,10 @@
+-- `types_fit` meets its contract: in the order of the definition.
+-- Assumes nothing.
+use borrow.Author.Needs.{needs}
 use Rattle.laws.proofs.SearchLaws.{tests}
 use Rattle.leaves.specs.Fitting.{typesFit}
-use borrow.Author.Needs.{needs}
 use Rattle.leaves.proofs.fitting.types_fit.Statement.{statement}
 use Rattle.leaves.proofs.fitting.types_fit.Tie as tie
-use Rattle.leaves.proofs.fitting.types_fit.Reads as reads
-use Rattle.leaves.proofs.fitting.types_fit.Lts as lts
-use Rattle.leaves.proofs.fitting.each_fits.Reads as each-fits-reads
-use Rattle.leaves.proofs.fitting.singles_fit.Reads as singles-fit-reads
 
 returns : tie.Need-returns
 unfolding typesFit

@@ -1,16 +1,15 @@
-use Prim.Native.Nat.{ℕ, _+_, _*_, _-_, _<_, _≤_}
-use mathlib.Core.Path.{_≡_, _∙_, ap, ap₂, sym, subst, refl}
+-- `all_covered` meets its contract: row by row, up to the first that is not.
+-- Assumes nothing.
+use Prim.Native.Nat.{_-_, _≤_}
 use mathlib.Core.Bool.{true}
-use lib.ListN.{getD}
-use Rattle.laws.specs.Bounded.{all}
-use Rattle.laws.proofs.LoopLaws.{each}
-use Rattle.leaves.specs.Arrays.{allCovered, covered}
+use mathlib.Core.Path.{_≡_}
 use borrow.Author.Needs.{needs}
+use lib.ListN.{getD}
+use Rattle.laws.proofs.LoopLaws.{each}
+use Rattle.laws.specs.Bounded.{all}
+use Rattle.leaves.specs.Arrays.{allCovered, covered}
 use Rattle.leaves.proofs.rows.all_covered.Statement.{statement}
 use Rattle.leaves.proofs.rows.all_covered.Tie as tie
-use Rattle.leaves.proofs.rows.all_covered.Reads as reads
-use Rattle.leaves.proofs.rows.all_covered.Lts as lts
-use Rattle.leaves.proofs.rows.is_covered.Reads as is-covered-reads
 
 abbrev Inv-loop : tie.InvT-loop
 Inv-loop must may i₀ i = (i ≤ 256) × (all (λ k. covered (getD must k 0) (getD may k 0)) i ≡ true)

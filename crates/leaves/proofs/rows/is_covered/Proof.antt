@@ -1,10 +1,9 @@
+-- `is_covered` meets its contract: a mask that stays as it is by `&` is a subset.
+-- Assumes nothing.
 use Rattle.laws.proofs.BitLaws.{subset-test}
 use Rattle.leaves.specs.Arrays.{covered}
-use borrow.Author.Needs.{needs}
 use Rattle.leaves.proofs.rows.is_covered.Statement.{statement}
 use Rattle.leaves.proofs.rows.is_covered.Tie as tie
-use Rattle.leaves.proofs.rows.is_covered.Reads as reads
-use Rattle.leaves.proofs.rows.is_covered.Lts as lts
 
 returns : tie.Need-returns
 unfolding covered

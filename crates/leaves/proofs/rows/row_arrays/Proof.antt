@@ -1,14 +1,9 @@
-use Rattle.leaves.proofs.ArrayLaws.{rows-ask}
+-- `row_arrays` meets its contract: two arrays by the tables, each with one element made tighter.
+-- Assumes nothing.
 use borrow.Author.Needs.{needs}
+use Rattle.leaves.proofs.ArrayLaws.{rows-ask}
 use Rattle.leaves.proofs.rows.row_arrays.Statement.{statement}
 use Rattle.leaves.proofs.rows.row_arrays.Tie as tie
-use Rattle.leaves.proofs.rows.row_arrays.Reads as reads
-use Rattle.leaves.proofs.rows.row_arrays.Lts as lts
-use Rattle.laws.proofs.wide.Reads as wide-reads
-use Rattle.leaves.proofs.pick.Reads as pick-reads
-use Rattle.leaves.proofs.rows.larger.Reads as larger-reads
-use Rattle.leaves.proofs.rows.row_limits.Reads as row-limits-reads
-use Rattle.leaves.proofs.rows.smaller.Reads as smaller-reads
 
 wide-requires : tie.Need-wide-requires
 wide-requires c κs = search needs
@@ -44,7 +39,7 @@ array-write-h : tie.Need-array-write-h
 array-write-h c = search needs
 
 returns : tie.Need-returns
-returns c = 
+returns c =
     let r = c .before .before .before in
     let h = r .before .before .before in
     let l = h .before in

@@ -1,17 +1,15 @@
-use Prim.Native.Nat.{ℕ, _+_, _*_, _-_, _<_, _≤_}
-use mathlib.Core.Path.{_≡_, _∙_, ap, ap₂, sym, subst, refl}
+-- `row_limits` meets its contract: row by row.
+-- Assumes nothing.
+use Prim.Native.Nat.{ℕ, _*_, _-_, _≤_}
 use native.Mathlib.Omega.{arith}
-use Rattle.leaves.proofs.FilledLaws.{filled-begin, filled-next, filled-done}
-use Rattle.leaves.specs.Filled.{Filled}
-use lib.ListN.{getD}
-use Rattle.leaves.specs.Arrays.{spotOf}
+use mathlib.Core.Path.{_≡_, ap}
 use borrow.Author.Needs.{needs}
+use lib.ListN.{getD}
+use Rattle.leaves.proofs.FilledLaws.{filled-begin, filled-next, filled-done}
+use Rattle.leaves.specs.Arrays.{spotOf}
+use Rattle.leaves.specs.Filled.{Filled}
 use Rattle.leaves.proofs.rows.row_limits.Statement.{statement}
 use Rattle.leaves.proofs.rows.row_limits.Tie as tie
-use Rattle.leaves.proofs.rows.row_limits.Reads as reads
-use Rattle.leaves.proofs.rows.row_limits.Lts as lts
-use Rattle.laws.proofs.wide.Reads as wide-reads
-use Rattle.leaves.proofs.rows.spot.Reads as spot-reads
 
 abbrev Inv-loop : tie.InvT-loop
 Inv-loop table types n d end r₀ i₀ r i = (i ≤ n * 32) × Filled (λ k v. v ≡ getD table (spotOf types k) 0) d 256 i r
@@ -44,7 +42,7 @@ loop-less : tie.Need-loop-less Inv-loop μ-loop
 loop-less c = search needs
 
 loop-again : tie.Need-loop-again Inv-loop μ-loop
-loop-again c = 
+loop-again c =
     let s = c .before in
     let h = s .before .before in
     let a = h .before .before .args in
@@ -52,7 +50,7 @@ loop-again c =
     (omega arith, filled-next P (a .d) 256 (h .loop .i) _ (h .loop .r) (omega arith) (h .loop .inv .1) (ap (λ (x : ℕ). getD (a .table .now) x 0) (s .spot .ensures .0)))
 
 returns : tie.Need-returns Inv-loop μ-loop
-returns c = 
+returns c =
     let h = c .before in
     let a = h .before .before .args in
     filled-done (λ k v. v ≡ getD (a .table .now) (spotOf (a .types .now) k) 0) (a .d) 256 (h .loop .i) (a .n * 32) (h .loop .r) (h .loop .inv .0) (omega arith) (h .loop .inv .1)

@@ -1,11 +1,10 @@
+-- `spot` meets its contract: the type of the row's object, and its slot.
+-- Assumes nothing.
 use Prim.Native.Nat.{_/_}
 use native.Mathlib.Omega.{arith}
 use borrow.Author.Needs.{needs}
 use Rattle.leaves.proofs.rows.spot.Statement.{statement}
 use Rattle.leaves.proofs.rows.spot.Tie as tie
-use Rattle.leaves.proofs.rows.spot.Reads as reads
-use Rattle.leaves.proofs.rows.spot.Lts as lts
-use Rattle.laws.proofs.wide.Reads as wide-reads
 
 element-copy-out-wide : tie.Need-element-copy-out-wide
 element-copy-out-wide c = search needs
