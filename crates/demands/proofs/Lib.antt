@@ -6,3 +6,4 @@ pub mod SingleLaws
 pub mod StartLaws
 pub mod SolutionLaws
 pub mod BitsLaws
+pub mod ClashLaws

@@ -1,3 +1,4 @@
 pub mod Wishes
 pub mod Families
 pub mod Refuted
+pub mod Clashes

@@ -10,6 +10,7 @@ ghost use Rattle.worlds.specs.Asked.{Sane, Solution};
 
 mod bits;
 mod columns;
+mod counts;
 mod needs;
 mod rows;
 mod sets;
