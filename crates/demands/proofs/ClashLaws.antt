@@ -1,7 +1,7 @@
 -- Limits that exclude each other: where all that one counts the other counts too, it counts no more.
 -- Assumes nothing.
 use Prim.Native.Nat.{_*_, _+_, _<_, _≤_, ℕ}
-use mathlib.Core.Bool.{Bool, _&&_, true}
+use mathlib.Core.Bool.{_&&_, true}
 use mathlib.Core.List.{List}
 use mathlib.Core.Path.{_∙_, _≡_, ap, subst, sym}
 use native.Mathlib.Omega.{arith}

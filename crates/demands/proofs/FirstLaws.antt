@@ -1,7 +1,7 @@
 -- Limits that a query has for the first object, against the tables.
 -- Assumes nothing.
 use Prim.Native.Nat.{_*_, _+_, _<_, max, min, ℕ}
-use mathlib.Core.Bool.{Bool, _&&_, false, true}
+use mathlib.Core.Bool.{Bool, _&&_, true}
 use mathlib.Core.List.{List}
 use mathlib.Core.Path.{_∙_, _≡_, ap, subst, sym}
 use native.Mathlib.Omega.{arith}

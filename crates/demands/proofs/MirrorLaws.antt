@@ -1,14 +1,13 @@
 -- Two links of which a mirror says that they stand together, where one must stand and the other must not, refute a query.
 -- Assumes nothing.
-use Prim.Native.Nat.{_*_, _+_, _<_, _≤_, ℕ}
-use mathlib.Core.Bool.{false, true}
+use Prim.Native.Nat.{_*_, _+_, _<_, ℕ}
+use mathlib.Core.Bool.{true}
 use mathlib.Core.List.{List}
 use mathlib.Core.Path.{_∙_, _≡_, ap, sym}
 use native.Mathlib.Omega.{arith}
 use lib.ListN.{getD}
 use Rattle.laws.specs.Bits.{bit}
 use Rattle.laws.proofs.ConnectiveLaws.{true-false}
-use Rattle.growing.specs.World.{World}
 use Rattle.link_search.specs.Nets.{netOf}
 use Rattle.worlds.specs.declared.Lines.{Lines}
 use Rattle.worlds.specs.Kept.{MirrorsKept}

@@ -1,7 +1,7 @@
 -- Two links that must stand and make two objects wholes of one refute a query.
 -- Assumes nothing.
 use Prim.Native.Nat.{_*_, _+_, _<_, _≤_, ℕ}
-use mathlib.Core.Bool.{Bool, _&&_, true}
+use mathlib.Core.Bool.{_&&_, true}
 use mathlib.Core.List.{List}
 use mathlib.Core.Path.{_∙_, _≡_, ap}
 use native.Mathlib.Omega.{arith}

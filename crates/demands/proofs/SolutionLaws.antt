@@ -2,7 +2,7 @@
 -- Assumes nothing.
 use Prim.Native.Nat.{_<_, ℕ}
 use mathlib.Core.List.{List}
-use mathlib.Core.Path.{_∙_, _≡_}
+use mathlib.Core.Path.{_∙_}
 use Rattle.growing.specs.World.{World}
 use Rattle.growing.specs.Growth.{Extends, Nowhere}
 use Rattle.link_search.specs.Nets.{Within}
@@ -11,7 +11,7 @@ use Rattle.worlds.specs.Asked.{Solution}
 use Rattle.worlds.specs.Kept.{ColumnsKept, Sheet, SinglesKept, Turned}
 use Rattle.demands.specs.declared.Start.{Start}
 use Rattle.demands.specs.declared.Wish.{Wish}
-use Rattle.demands.specs.Wishes.{Sharpens, Started}
+use Rattle.demands.specs.Wishes.{Sharpens}
 use Rattle.demands.specs.Families.{RowsOpen, SourcesKept, sourceCount, targetCount}
 use Rattle.demands.specs.Refuted.{Begun, BitsKept, Refuted}
 use Rattle.demands.specs.Clashes.{FirstColumn}

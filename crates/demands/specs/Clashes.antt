@@ -1,10 +1,9 @@
 -- Limits that exclude each other: what is known of the sources of the first object, and which properties no world has together.
 -- Assumes nothing.
-use Prim.Native.Nat.{_*_, _+_, _<_, _≤_, ℕ}
-use mathlib.Core.Bool.{Bool, true}
+use Prim.Native.Nat.{_<_, ℕ}
+use mathlib.Core.Bool.{true}
 use mathlib.Core.List.{List}
 use mathlib.Core.Path.{_≡_}
-use lib.ListN.{getD}
 use Rattle.laws.specs.Bits.{bit}
 use Rattle.growing.specs.World.{World}
 use Rattle.link_search.specs.Nets.{Within}

@@ -1,6 +1,6 @@
 -- `is_implied` meets its contract: each test refutes by a property that all solutions have.
 -- Assumes nothing.
-use Prim.Native.Nat.{_<_, ℕ}
+use Prim.Native.Nat.{_<_}
 use mathlib.Core.Bool.{false≢true}
 use mathlib.Core.Path.{_≡_}
 use native.Mathlib.Omega.{arith}
@@ -35,16 +35,13 @@ by : (b : tie.Start) (P : World → Type 0) → let a = b .args in ((w : World) 
     → Nowhere (Solution (sheetOf b) (a .q) (a .n)) (a .t9) (a .q .seeds) (a .q .never) (a .n)
 by b P f r = let a = b .args in nowhere-by (sheetOf b) (a .q) (a .n) (a .t9) (a .q .never) P f r
 
--- src/lib.rt:100:9
 returns : tie.Need-returns
 returns c =
     λ e. absurd (false≢true e)
 
--- src/lib.rt:104:8
 is-bad-bit-requires : tie.Need-is-bad-bit-requires
 is-bad-bit-requires c κs = search needs
 
--- src/lib.rt:105:9
 returns-2 : tie.Need-returns-2
 returns-2 c =
     let e = c .before .before .before .before .before .before .before in
@@ -54,11 +51,9 @@ returns-2 c =
     λ _. by b (λ w. BitsKept (a .q .must) (a .q .shut) w × TargetsKept (a .targets .now) w)
     (λ w s. (bits-kept x (a .q) (a .n) w s, record { at = s .allowed .rows .allowed })) (c .before .is-bad-bit .ensures (c .if2 .taken))
 
--- src/lib.rt:107:8
 is-bad-turn-requires : tie.Need-is-bad-turn-requires
 is-bad-turn-requires c κs = search needs
 
--- src/lib.rt:108:9
 returns-3 : tie.Need-returns-3
 returns-3 c =
     let e = c .before .before .before .before .before .before .before .before .before .before .before .before in
@@ -68,11 +63,9 @@ returns-3 c =
     λ _. by b (λ w. BitsKept (a .q .must) (a .q .shut) w × MirrorsKept (a .lines) w)
     (λ w s. (bits-kept x (a .q) (a .n) w s, s .allowed .mirrors)) (c .before .is-bad-turn .ensures (c .if3 .taken))
 
--- src/lib.rt:110:8
 is-bad-part-requires : tie.Need-is-bad-part-requires
 is-bad-part-requires c κs = search needs
 
--- src/lib.rt:111:9
 returns-4 : tie.Need-returns-4
 returns-4 c =
     let e = c .before .before .before .before .before .before .before .before .before .before .before .before .before .before .before .before in
@@ -82,11 +75,9 @@ returns-4 c =
     λ _. by b (λ w. BitsKept (a .q .must) (a .q .shut) w × WholesKept (a .lines) w)
     (λ w s. (bits-kept x (a .q) (a .n) w s, s .allowed .wholes)) (c .before .is-bad-part .ensures (c .if4 .taken) (a .q .shut))
 
--- src/lib.rt:113:8
 is-bad-first-row-requires : tie.Need-is-bad-first-row-requires
 is-bad-first-row-requires c κs = search needs
 
--- src/lib.rt:114:9
 returns-5 : tie.Need-returns-5
 returns-5 c =
     let e = c .before .before .before .before .before .before .before .before .before .before .before .before .before .before .before .before .before .before .before in
@@ -96,11 +87,9 @@ returns-5 c =
     λ _. by b (λ w. RowsKept (a .targets .now) (a .lows .now) (a .highs .now) w × Within (a .q .low) (a .q .high) (targetCount w (a .q .row) 0))
     (λ w s. (s .allowed .rows, s .asked .row (seeded e))) (c .before .is-bad-first-row .ensures (c .if5 .taken) (a .targets .now) (a .q .seeds) (seeded e))
 
--- src/lib.rt:116:5
 is-bad-first-column-requires : tie.Need-is-bad-first-column-requires
 is-bad-first-column-requires c κs = search needs
 
--- src/lib.rt:83:1
 returns-6 : tie.Need-returns-6
 returns-6 c =
     let e = c .before .before .before .before .before .before .before .before .before .before .before .before .before .before .before .before .before .before .before .before .before in

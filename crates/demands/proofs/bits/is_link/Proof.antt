@@ -12,31 +12,24 @@ use Rattle.demands.proofs.bits.is_link.Lts as lts
 use Rattle.laws.proofs.has8.Reads as has8-reads
 use Rattle.laws.proofs.wide.Reads as wide-reads
 
--- src/bits.rt:16:22
 wide-requires : tie.Need-wide-requires
 wide-requires c κs = search needs
 
--- src/bits.rt:16:22
 mul-has8 : tie.Need-mul-has8
 mul-has8 c = search needs
 
--- src/bits.rt:16:43
 wide-requires-2 : tie.Need-wide-requires-2
 wide-requires-2 c κs = search needs
 
--- src/bits.rt:16:22
 add-has8 : tie.Need-add-has8
 add-has8 c = search needs
 
--- src/bits.rt:16:16
 element-copy-out-has8 : tie.Need-element-copy-out-has8
 element-copy-out-has8 c = search needs
 
--- src/bits.rt:16:5
 has8-requires : tie.Need-has8-requires
 has8-requires c κs = search needs
 
--- src/bits.rt:12:1
 returns : tie.Need-returns
 returns c =
     let w = c .before .before in

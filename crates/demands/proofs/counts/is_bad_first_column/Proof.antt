@@ -1,7 +1,6 @@
 -- `counts::is_bad_first_column` meets its contract.
 -- Assumes nothing.
-use Prim.Native.Nat.{_*_, _+_, _<_, ℕ}
-use mathlib.Core.Bool.{Bool, _&&_}
+use Prim.Native.Nat.{_*_, _+_, ℕ}
 use mathlib.Core.Path.{_≡_}
 use native.Mathlib.Omega.{arith}
 use lib.Bits.{bitAnd}
@@ -9,8 +8,6 @@ use lib.Dec.{eqb, ltb}
 use lib.ListN.{getD}
 use borrow.Author.Tests.{eqb-true, ltb-true}
 use Rattle.laws.proofs.ConnectiveLaws.{and-left, and-right}
-use Rattle.demands.specs.Clashes.{FirstColumn, FirstSources, Never}
-use Rattle.demands.specs.Refuted.{Refuted}
 use Rattle.demands.proofs.FirstLaws.{never-any, refuted-any, refuted-columns, refuted-mirrors, refuted-wholes}
 use borrow.Author.Needs.{needs}
 use Rattle.demands.proofs.counts.is_bad_first_column.Statement.{statement}
@@ -35,31 +32,24 @@ placed d =
     let x = t .before in
     omega (arith, y .wide .ensures .0, t .type-of .ensures .0, x .rows-at .ensures .0)
 
--- src/counts.rt:225:9
 rows-at-requires : tie.Need-rows-at-requires
 rows-at-requires c κs = search needs
 
--- src/counts.rt:226:9
 type-of-requires : tie.Need-type-of-requires
 type-of-requires c κs = search needs
 
--- src/counts.rt:227:28
 wide-requires : tie.Need-wide-requires
 wide-requires c κs = search needs
 
--- src/counts.rt:227:24
 add-here : tie.Need-add-here
 add-here c = search needs
 
--- src/counts.rt:227:16
 mul-here : tie.Need-mul-here
 mul-here c = search needs
 
--- src/counts.rt:227:16
 element-copy-out-here : tie.Need-element-copy-out-here
 element-copy-out-here c = search needs
 
--- src/counts.rt:229:9
 returns : tie.Need-returns
 returns c =
     let d = c .before in
@@ -72,11 +62,9 @@ returns c =
     (never-any (t .type-of .result) (getD (a .sources .now) (place d) 0) (a .slot) (a .mask) (a .least) (a .most) (ltb-true 0 (a .least) (and-left e f (c .if1 .taken)))
     (eqb-true (bitAnd (a .mask) (getD (a .sources .now) (place d) 0)) 0 (and-right e f (c .if1 .taken))))
 
--- src/counts.rt:231:8
 is-apart-from-columns-requires : tie.Need-is-apart-from-columns-requires
 is-apart-from-columns-requires c κs = search needs
 
--- src/counts.rt:232:9
 returns-2 : tie.Need-returns-2
 returns-2 c =
     let d = c .before .before .before in
@@ -85,11 +73,9 @@ returns-2 c =
     let a = b .args in
     λ _ seeds some. refuted-columns (a .targets .now) (a .sources .now) (a .lows .now) (a .highs .now) (a .lines) (a .slot) (a .mask) (a .least) (a .most) (a .types .now) (t .type-of .result) (place d) seeds (b .pre .1) (t .type-of .ensures .0) (placed d) some (c .before .is-apart-from-columns .ensures (c .if2 .taken))
 
--- src/counts.rt:234:8
 is-apart-from-wholes-requires : tie.Need-is-apart-from-wholes-requires
 is-apart-from-wholes-requires c κs = search needs
 
--- src/counts.rt:235:9
 returns-3 : tie.Need-returns-3
 returns-3 c =
     let d = c .before .before .before .before .before in
@@ -98,11 +84,9 @@ returns-3 c =
     let a = b .args in
     λ _ seeds some. refuted-wholes (a .targets .now) (a .sources .now) (a .lows .now) (a .highs .now) (a .lines) (a .slot) (a .mask) (a .least) (a .most) (a .types .now) (t .type-of .result) (place d) seeds (b .pre .1) (t .type-of .ensures .0) (placed d) some (c .before .is-apart-from-wholes .ensures (c .if3 .taken))
 
--- src/counts.rt:237:5
 is-apart-from-mirrors-requires : tie.Need-is-apart-from-mirrors-requires
 is-apart-from-mirrors-requires c κs = search needs
 
--- src/counts.rt:210:1
 returns-4 : tie.Need-returns-4
 returns-4 c =
     let d = c .before .before .before .before .before .before in

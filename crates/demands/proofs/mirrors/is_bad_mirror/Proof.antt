@@ -24,31 +24,24 @@ Inv-loop from to right left must shut types seeds y₀ y = y ≤ 64
 abbrev μ-loop : tie.MeasureT-loop
 μ-loop from to right left must shut types seeds y₀ y = 64 - y
 
--- src/mirrors.rt:44:5
 loop-holds : tie.Need-loop-holds Inv-loop μ-loop
 loop-holds c = omega arith
 
--- src/mirrors.rt:48:34
 type-of-requires : tie.Need-type-of-requires Inv-loop μ-loop
 type-of-requires c κs = search needs
 
--- src/mirrors.rt:48:16
 has32-requires : tie.Need-has32-requires Inv-loop μ-loop
 has32-requires c κs = search needs
 
--- src/mirrors.rt:48:84
 type-of-requires-2 : tie.Need-type-of-requires-2 Inv-loop μ-loop
 type-of-requires-2 c κs = search needs
 
--- src/mirrors.rt:48:68
 has32-requires-2 : tie.Need-has32-requires-2 Inv-loop μ-loop
 has32-requires-2 c κs = search needs
 
--- src/mirrors.rt:49:20
 is-bad-pair-requires : tie.Need-is-bad-pair-requires Inv-loop μ-loop
 is-bad-pair-requires c κs = search needs
 
--- src/mirrors.rt:50:21
 returns : tie.Need-returns Inv-loop μ-loop
 returns c =
     let d = c .before in
@@ -68,19 +61,15 @@ returns c =
     (ap (λ (z : ℕ). bit z (a .to)) (sym (u .type-of2 .ensures .0)) ∙ sym (g .has322 .ensures) ∙ and-right (f .has32 .result) (g .has322 .result) (t .if2 .taken))
     (d .is-bad-pair .ensures (c .if3 .taken))
 
--- src/mirrors.rt:54:9
 add-y : tie.Need-add-y Inv-loop μ-loop
 add-y c = search needs
 
--- src/mirrors.rt:44:5
 loop-less : tie.Need-loop-less Inv-loop μ-loop
 loop-less c = search needs
 
--- src/mirrors.rt:44:5
 loop-again : tie.Need-loop-again Inv-loop μ-loop
 loop-again c = omega arith
 
--- src/mirrors.rt:30:1
 returns-2 : tie.Need-returns-2 Inv-loop μ-loop
 returns-2 c = λ e. absurd (false≢true e)
 

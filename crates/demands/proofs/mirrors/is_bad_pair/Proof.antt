@@ -10,15 +10,12 @@ use Rattle.demands.proofs.mirrors.is_bad_pair.Reads as reads
 use Rattle.demands.proofs.mirrors.is_bad_pair.Lts as lts
 use Rattle.demands.proofs.bits.is_link.Reads as is-link-reads
 
--- src/mirrors.rt:23:8
 is-link-requires : tie.Need-is-link-requires
 is-link-requires c κs = search needs
 
--- src/mirrors.rt:24:9
 is-link-requires-2 : tie.Need-is-link-requires-2
 is-link-requires-2 c κs = search needs
 
--- src/mirrors.rt:24:9
 returns : tie.Need-returns
 returns c =
     let d = c .before .before in
@@ -27,15 +24,12 @@ returns c =
     λ e. pair-first (a .must .now) (a .shut .now) (a .o) (a .right) (a .p) (a .left) (b .pre .0) (b .pre .1) (b .pre .2) (b .pre .3)
     (sym (d .is-link .ensures) ∙ c .before .if1 .taken) (sym (c .is-link2 .ensures) ∙ e)
 
--- src/mirrors.rt:26:5
 is-link-requires-3 : tie.Need-is-link-requires-3
 is-link-requires-3 c κs = search needs
 
--- src/mirrors.rt:26:46
 is-link-requires-4 : tie.Need-is-link-requires-4
 is-link-requires-4 c κs = search needs
 
--- src/mirrors.rt:12:1
 returns-2 : tie.Need-returns-2
 returns-2 c =
     let d = c .before in

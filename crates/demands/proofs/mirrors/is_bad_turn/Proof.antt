@@ -1,6 +1,6 @@
 -- `mirrors::is_bad_turn` meets its contract.
 -- Assumes nothing.
-use Prim.Native.Nat.{_-_, _≤_, ℕ}
+use Prim.Native.Nat.{_-_, _≤_}
 use mathlib.Core.Bool.{false≢true}
 use native.Mathlib.Omega.{arith}
 use Rattle.demands.proofs.MirrorLaws.{turn-refuted}
@@ -17,35 +17,27 @@ Inv-loop must shut types seeds lines j₀ j = j ≤ 16
 abbrev μ-loop : tie.MeasureT-loop
 μ-loop must shut types seeds lines j₀ j = 16 - j
 
--- src/mirrors.rt:71:5
 loop-holds : tie.Need-loop-holds Inv-loop μ-loop
 loop-holds c = omega arith
 
--- src/mirrors.rt:72:20
 mul-from : tie.Need-mul-from Inv-loop μ-loop
 mul-from c = search needs
 
--- src/mirrors.rt:72:20
 element-copy-out-from : tie.Need-element-copy-out-from Inv-loop μ-loop
 element-copy-out-from c = search needs
 
--- src/mirrors.rt:76:17
 mul-is-bad-mirror : tie.Need-mul-is-bad-mirror Inv-loop μ-loop
 mul-is-bad-mirror c = search needs
 
--- src/mirrors.rt:76:17
 element-copy-out-is-bad-mirror : tie.Need-element-copy-out-is-bad-mirror Inv-loop μ-loop
 element-copy-out-is-bad-mirror c = search needs
 
--- src/mirrors.rt:77:17
 element-copy-out-is-bad-mirror-2 : tie.Need-element-copy-out-is-bad-mirror-2 Inv-loop μ-loop
 element-copy-out-is-bad-mirror-2 c = search needs
 
--- src/mirrors.rt:78:17
 element-copy-out-is-bad-mirror-3 : tie.Need-element-copy-out-is-bad-mirror-3 Inv-loop μ-loop
 element-copy-out-is-bad-mirror-3 c = search needs
 
--- src/mirrors.rt:74:16
 is-bad-mirror-requires : tie.Need-is-bad-mirror-requires Inv-loop μ-loop
 is-bad-mirror-requires c κs =
     let l = c .before .before .before .before .before .before in
@@ -53,7 +45,6 @@ is-bad-mirror-requires c κs =
     let h = c .before .before .before .before .before .loop-test .taken in
     (b .pre .0 .right (l .loop .j) h, b .pre .0 .left (l .loop .j) h, b .pre .1, b .pre .2)
 
--- src/mirrors.rt:84:17
 returns : tie.Need-returns Inv-loop μ-loop
 returns c =
     let d = c .before in
@@ -61,19 +52,15 @@ returns c =
     let a = l .before .args in
     λ _. turn-refuted (a .must .now) (a .shut .now) (a .types .now) (a .seeds) (a .t1) (l .loop .j) (d .before .before .before .before .before .before .loop-test .taken) (d .is-bad-mirror .ensures (c .if2 .taken))
 
--- src/mirrors.rt:87:9
 add-j : tie.Need-add-j Inv-loop μ-loop
 add-j c = search needs
 
--- src/mirrors.rt:71:5
 loop-less : tie.Need-loop-less Inv-loop μ-loop
 loop-less c = search needs
 
--- src/mirrors.rt:71:5
 loop-again : tie.Need-loop-again Inv-loop μ-loop
 loop-again c = omega arith
 
--- src/mirrors.rt:60:1
 returns-2 : tie.Need-returns-2 Inv-loop μ-loop
 returns-2 c = λ e. absurd (false≢true e)
 

@@ -14,35 +14,27 @@ use Rattle.demands.proofs.rows.rows_at.Reads as rows-at-reads
 use Rattle.demands.proofs.rows.smaller.Reads as smaller-reads
 use Rattle.laws.proofs.wide.Reads as wide-reads
 
--- src/rows.rt:136:13
 rows-at-requires : tie.Need-rows-at-requires
 rows-at-requires c κs = search needs
 
--- src/rows.rt:136:33
 wide-requires : tie.Need-wide-requires
 wide-requires c κs = search needs
 
--- src/rows.rt:136:13
 add-x : tie.Need-add-x
 add-x c = search needs
 
--- src/rows.rt:137:13
 element-copy-out-smaller : tie.Need-element-copy-out-smaller
 element-copy-out-smaller c = search needs
 
--- src/rows.rt:137:5
 smaller-requires : tie.Need-smaller-requires
 smaller-requires c κs = search needs
 
--- src/rows.rt:137:38
 element-copy-out-larger : tie.Need-element-copy-out-larger
 element-copy-out-larger c = search needs
 
--- src/rows.rt:137:31
 larger-requires : tie.Need-larger-requires
 larger-requires c κs = search needs
 
--- src/rows.rt:125:1
 returns : tie.Need-returns
 returns c =
     let m = c .before .before in

@@ -1,6 +1,6 @@
 -- `wholes::count_wholes` meets its contract: one object after the other.
 -- Assumes nothing.
-use Prim.Native.Nat.{_-_, _≤_, ℕ}
+use Prim.Native.Nat.{_-_, _≤_}
 use mathlib.Core.Logic.{⊎-elim}
 use mathlib.Core.Path.{_≡_, _∙_}
 use native.Mathlib.Omega.{arith}
@@ -20,27 +20,21 @@ Inv-loop lines must types seeds p n₀ o₀ n o = (o ≤ seeds) × ((n ≤ o) ×
 abbrev μ-loop : tie.MeasureT-loop
 μ-loop lines must types seeds p n₀ o₀ n o = seeds - o
 
--- src/wholes.rt:48:5
 loop-holds : tie.Need-loop-holds Inv-loop μ-loop
 loop-holds c = let a = c .args in (omega arith, (omega arith, tally-begin (mustWhole (a .lines) (a .must .now) (a .types .now) (a .p))))
 
--- src/wholes.rt:49:12
 is-whole-requires : tie.Need-is-whole-requires Inv-loop μ-loop
 is-whole-requires c κs = search needs
 
--- src/wholes.rt:50:13
 add-n : tie.Need-add-n Inv-loop μ-loop
 add-n c = search needs
 
--- src/wholes.rt:52:9
 add-o : tie.Need-add-o Inv-loop μ-loop
 add-o c = search needs
 
--- src/wholes.rt:48:5
 loop-less : tie.Need-loop-less Inv-loop μ-loop
 loop-less c = search needs
 
--- src/wholes.rt:48:5
 loop-again : tie.Need-loop-again Inv-loop μ-loop
 loop-again c =
     let d = c .before in
@@ -54,7 +48,6 @@ loop-again c =
       ),
     )
 
--- src/wholes.rt:36:1
 returns : tie.Need-returns Inv-loop μ-loop
 returns c =
     let l = c .before in

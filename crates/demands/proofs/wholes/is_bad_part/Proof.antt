@@ -1,6 +1,6 @@
 -- `wholes::is_bad_part` meets its contract.
 -- Assumes nothing.
-use Prim.Native.Nat.{_-_, _≤_, ℕ}
+use Prim.Native.Nat.{_-_, _≤_}
 use mathlib.Core.Bool.{false≢true}
 use native.Mathlib.Omega.{arith}
 use Rattle.demands.proofs.PartLaws.{part-refuted}
@@ -17,15 +17,12 @@ Inv-loop lines must types seeds p₀ p = p ≤ seeds
 abbrev μ-loop : tie.MeasureT-loop
 μ-loop lines must types seeds p₀ p = seeds - p
 
--- src/wholes.rt:68:5
 loop-holds : tie.Need-loop-holds Inv-loop μ-loop
 loop-holds c = omega arith
 
--- src/wholes.rt:69:16
 count-wholes-requires : tie.Need-count-wholes-requires Inv-loop μ-loop
 count-wholes-requires c κs = search needs
 
--- src/wholes.rt:70:13
 returns : tie.Need-returns Inv-loop μ-loop
 returns c =
     let d = c .before in
@@ -35,19 +32,15 @@ returns c =
     λ _ shut. part-refuted (a .lines) (b .pre .0) (a .must .now) shut (a .types .now) (a .seeds) (l .loop .p) (b .pre .1) (d .before .loop-test .taken)
     (omega (arith, d .count-wholes .ensures, c .if1 .taken))
 
--- src/wholes.rt:72:9
 add-p : tie.Need-add-p Inv-loop μ-loop
 add-p c = search needs
 
--- src/wholes.rt:68:5
 loop-less : tie.Need-loop-less Inv-loop μ-loop
 loop-less c = search needs
 
--- src/wholes.rt:68:5
 loop-again : tie.Need-loop-again Inv-loop μ-loop
 loop-again c = omega arith
 
--- src/wholes.rt:58:1
 returns-2 : tie.Need-returns-2 Inv-loop μ-loop
 returns-2 c = λ e. absurd (false≢true e)
 

@@ -1,14 +1,13 @@
 -- `wholes::is_whole` meets its contract: one association after the other.
 -- Assumes nothing.
-use Prim.Native.Nat.{_*_, _+_, _-_, _≤_, ℕ}
+use Prim.Native.Nat.{_-_, _≤_, ℕ}
 use mathlib.Core.Bool.{Bool, _&&_, false}
-use mathlib.Core.Path.{_≡_, _∙_, ap, ap₂, sym}
+use mathlib.Core.Path.{_≡_, _∙_, ap, ap₂}
 use native.Mathlib.Omega.{arith}
 use lib.ListN.{getD}
 use Rattle.laws.specs.Bits.{bit}
 use Rattle.laws.specs.Bounded.{any}
 use Rattle.laws.proofs.LoopLaws.{any-begin, any-done, any-found, any-next}
-use Rattle.link_search.specs.Nets.{netOf}
 use Rattle.demands.specs.Refuted.{mustWholeBy}
 use borrow.Author.Needs.{needs}
 use Rattle.demands.proofs.wholes.is_whole.Statement.{statement}
@@ -41,48 +40,37 @@ tested c =
     (g .has322 .ensures ∙ ap (λ (t : ℕ). bit t (getD (a .t1 .wholeto) (l .loop .j) 0)) (u .type-of2 .ensures .0)))
     (c .is-link .ensures)
 
--- src/wholes.rt:23:9
 type-of-requires : tie.Need-type-of-requires Inv-loop μ-loop
 type-of-requires c κs = search needs
 
--- src/wholes.rt:24:9
 type-of-requires-2 : tie.Need-type-of-requires-2 Inv-loop μ-loop
 type-of-requires-2 c κs = search needs
 
--- src/wholes.rt:26:5
 loop-holds : tie.Need-loop-holds Inv-loop μ-loop
 loop-holds c =
     let a = c .before .before .args in (omega arith, any-begin (mustWholeBy (a .t1) (a .must .now) (a .types .now) (a .p) (a .o)))
 
--- src/wholes.rt:27:24
 mul-has32 : tie.Need-mul-has32 Inv-loop μ-loop
 mul-has32 c = search needs
 
--- src/wholes.rt:27:24
 element-copy-out-has32 : tie.Need-element-copy-out-has32 Inv-loop μ-loop
 element-copy-out-has32 c = search needs
 
--- src/wholes.rt:27:12
 has32-requires : tie.Need-has32-requires Inv-loop μ-loop
 has32-requires c κs = search needs
 
--- src/wholes.rt:27:65
 mul-has32-2 : tie.Need-mul-has32-2 Inv-loop μ-loop
 mul-has32-2 c = search needs
 
--- src/wholes.rt:27:65
 element-copy-out-has32-2 : tie.Need-element-copy-out-has32-2 Inv-loop μ-loop
 element-copy-out-has32-2 c = search needs
 
--- src/wholes.rt:27:53
 has32-requires-2 : tie.Need-has32-requires-2 Inv-loop μ-loop
 has32-requires-2 c κs = search needs
 
--- src/wholes.rt:27:121
 element-copy-out-is-link : tie.Need-element-copy-out-is-link Inv-loop μ-loop
 element-copy-out-is-link c = search needs
 
--- src/wholes.rt:27:91
 is-link-requires : tie.Need-is-link-requires Inv-loop μ-loop
 is-link-requires c κs =
     let f = c .before .before .before in
@@ -90,7 +78,6 @@ is-link-requires c κs =
     let b = l .before .before .before in
     (b .pre .2, b .pre .0 .whole (l .loop .j) (f .before .before .loop-test .taken), b .pre .1)
 
--- src/wholes.rt:28:13
 returns : tie.Need-returns Inv-loop μ-loop
 returns c =
     let k = c .before in
@@ -100,15 +87,12 @@ returns c =
     let q = mustWholeBy (a .t1) (a .must .now) (a .types .now) (a .p) (a .o) in
     any-found q 16 (l .loop .j) (f .before .before .loop-test .taken) (tested k) (c .if1 .taken)
 
--- src/wholes.rt:30:9
 add-j : tie.Need-add-j Inv-loop μ-loop
 add-j c = search needs
 
--- src/wholes.rt:26:5
 loop-less : tie.Need-loop-less Inv-loop μ-loop
 loop-less c = search needs
 
--- src/wholes.rt:26:5
 loop-again : tie.Need-loop-again Inv-loop μ-loop
 loop-again c =
     let k = c .before in
@@ -118,7 +102,6 @@ loop-again c =
     let q = mustWholeBy (a .t1) (a .must .now) (a .types .now) (a .p) (a .o) in
     (omega arith, any-next q (l .loop .j) (l .loop .inv .1) (tested k) (c .if1 .left))
 
--- src/wholes.rt:13:1
 returns-2 : tie.Need-returns-2 Inv-loop μ-loop
 returns-2 c =
     let l = c .before in
