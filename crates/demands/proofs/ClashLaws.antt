@@ -1,7 +1,7 @@
 -- Limits that exclude each other: where all that one counts the other counts too, it counts no more.
 -- Assumes nothing.
 use Prim.Native.Nat.{_*_, _+_, _<_, _≤_, ℕ}
-use mathlib.Core.Bool.{Bool, _&&_, true}
+use mathlib.Core.Bool.{_&&_, true}
 use mathlib.Core.List.{List}
 use mathlib.Core.Path.{_∙_, _≡_, ap, subst, sym}
 use native.Mathlib.Omega.{arith}
@@ -36,7 +36,7 @@ in-both t a b p q = bit-and t a b ∙ and-both (bit t a) (bit t b) p q
 module _ (first here s mask least most : ℕ) where
   module _ (w : World) (f : FirstSources first here s mask least most w) where
     -- what is counted with types of a is counted with types of b
-    fewer : (a b : ℕ) → Inside (bitAnd a here) b → sourceCount w s a 0 ≤ sourceCount w s b 0
+    pub fewer : (a b : ℕ) → Inside (bitAnd a here) b → sourceCount w s a 0 ≤ sourceCount w s b 0
     fewer a b i = tally-mono (λ o. bit (w .kind o) a && w .link s o 0) (λ o. bit (w .kind o) b && w .link s o 0) (w .size) each
       where
         each : (o : ℕ) → o < w .size → bit (w .kind o) a && w .link s o 0 ≡ true → bit (w .kind o) b && w .link s o 0 ≡ true
@@ -91,9 +91,11 @@ module _ (first here s mask least most : ℕ) where
         → Never (λ w. FirstSources first here s mask least most w × OtherSources s (getD (x .columnfrom) j 0) (getD (x .columnlow) j 0) (getD (x .columnhigh) j 0) w)
         → Never (λ w. FirstSources first here s mask least most w × ColumnsKept x w)
     never-column e to f = record {
-      at = λ w p. f .at w
-          (p .0, subst (λ (z : ℕ). Within (getD (x .columnlow) j 0) (getD (x .columnhigh) j 0) (sourceCount w z (getD (x .columnfrom) j 0) 0)) e
-          (p .1 .at j 0 small (p .0 .some) (ap (λ (t : ℕ). bit t (getD (x .columnto) j 0)) (p .0 .kind) ∙ to)));
+      at = λ w p. f .at w (
+        p .0,
+        subst (λ (z : ℕ). Within (getD (x .columnlow) j 0) (getD (x .columnhigh) j 0) (sourceCount w z (getD (x .columnfrom) j 0) 0)) e
+            (p .1 .at j 0 small (p .0 .some) (ap (λ (t : ℕ). bit t (getD (x .columnto) j 0)) (p .0 .kind) ∙ to)),
+      );
     }
 
     pub never-whole : getD (x .wholeslot) j 0 ≡ s → bit first (getD (x .wholeto) j 0) ≡ true
@@ -118,22 +120,28 @@ module _ (first here s mask least most : ℕ) where
           → Never (λ w. FirstSources first here s mask least most w × RowsKept targets lows highs w × LinkedBack s (getD (x .mirrorfrom) j 0) (getD (x .mirrorleft) j 0) w)
           → Never (λ w. FirstSources first here s mask least most w × RowsKept targets lows highs w × MirrorsKept x w)
       never-mirror e to f = record {
-        at = λ w p. f .at w
-            (p .0, p .1, record {
-              at = λ o l h. ap (λ (z : ℕ). w .link z o 0) (sym e)
-                  ∙ p .2 .at j o 0 small l (p .0 .some) h (ap (λ (t : ℕ). bit t (getD (x .mirrorto) j 0)) (p .0 .kind) ∙ to);
-            });
+        at = λ w p. f .at w (
+          p .0,
+          p .1,
+          record {
+            at = λ o l h. ap (λ (z : ℕ). w .link z o 0) (sym e)
+                ∙ p .2 .at j o 0 small l (p .0 .some) h (ap (λ (t : ℕ). bit t (getD (x .mirrorto) j 0)) (p .0 .kind) ∙ to);
+          },
+        );
       }
 
       pub never-mirror-back : getD (x .mirrorleft) j 0 ≡ s → bit first (getD (x .mirrorfrom) j 0) ≡ true
           → Never (λ w. FirstSources first here s mask least most w × RowsKept targets lows highs w × LinkedBack s (getD (x .mirrorto) j 0) (getD (x .mirrorright) j 0) w)
           → Never (λ w. FirstSources first here s mask least most w × RowsKept targets lows highs w × MirrorsKept x w)
       never-mirror-back e from f = record {
-        at = λ w p. f .at w
-            (p .0, p .1, record {
-              at = λ o l h. ap (λ (z : ℕ). w .link z o 0) (sym e)
-                  ∙ sym (p .2 .at j 0 o small (p .0 .some) l (ap (λ (t : ℕ). bit t (getD (x .mirrorfrom) j 0)) (p .0 .kind) ∙ from) h);
-            });
+        at = λ w p. f .at w (
+          p .0,
+          p .1,
+          record {
+            at = λ o l h. ap (λ (z : ℕ). w .link z o 0) (sym e)
+                ∙ sym (p .2 .at j 0 o small (p .0 .some) l (ap (λ (t : ℕ). bit t (getD (x .mirrorfrom) j 0)) (p .0 .kind) ∙ from) h);
+          },
+        );
       }
 
   -- y: where the tables have the row of the first object in slot t
@@ -141,10 +149,12 @@ module _ (first here s mask least most : ℕ) where
       → Never (λ w. FirstSources first here s mask least most w × TurnedSources s there t (getD targets y 0) (getD lows y 0) (getD highs y 0) w)
       → Never (λ w. FirstSources first here s mask least most w × RowsKept targets lows highs w × LinkedBack s there t w)
   never-row targets lows highs there t y small e f = record {
-    at = λ w p. let z : w .kind 0 * 32 + t ≡ y = (let k : w .kind 0 ≡ first = p .0 .kind in omega arith) in f .at w
-        (p .0, record {
-          same = p .2;
-          typed = λ o l h. subst (λ (v : ℕ). bit (w .kind o) (getD targets v 0) ≡ true) z (p .1 .allowed t 0 o small (p .0 .some) l h);
-          within = subst (λ (v : ℕ). Within (getD lows v 0) (getD highs v 0) (targetCount w t 0)) z (p .1 .limited t 0 small (p .0 .some));
-        });
+    at = λ w p. let z : w .kind 0 * 32 + t ≡ y = (let k : w .kind 0 ≡ first = p .0 .kind in omega arith) in f .at w (
+      p .0,
+      record {
+        same = p .2;
+        typed = λ o l h. subst (λ (v : ℕ). bit (w .kind o) (getD targets v 0) ≡ true) z (p .1 .allowed t 0 o small (p .0 .some) l h);
+        within = subst (λ (v : ℕ). Within (getD lows v 0) (getD highs v 0) (targetCount w t 0)) z (p .1 .limited t 0 small (p .0 .some));
+      },
+    );
   }

@@ -1,9 +1,9 @@
 -- The columns of the given objects are limits.
 -- Assumes nothing.
 use Prim.Native.Nat.{_*_, _+_, _<_, ℕ}
-use mathlib.Core.Bool.{Bool, _&&_, false, true}
+use mathlib.Core.Bool.{Bool, _&&_, true}
 use mathlib.Core.List.{List}
-use mathlib.Core.Path.{_∙_, _≡_, ap, refl, subst, sym}
+use mathlib.Core.Path.{_∙_, _≡_, ap, subst}
 use native.Mathlib.Omega.{arith}
 use lib.Bits.{bitAnd}
 use lib.ListN.{getD}
@@ -13,7 +13,7 @@ use Rattle.laws.proofs.ConnectiveLaws.{and-both, and-left, and-right}
 use Rattle.growing.specs.World.{World}
 use Rattle.link_search.specs.Nets.{Within}
 use Rattle.worlds.specs.declared.Lines.{Lines}
-use Rattle.worlds.specs.Kept.{ColumnsKept, Slotted}
+use Rattle.worlds.specs.Kept.{ColumnsKept}
 use Rattle.demands.specs.declared.Start.{Start}
 use Rattle.demands.specs.declared.Wish.{Wish}
 use Rattle.demands.specs.Wishes.{Limited, Sharpens, Started}

@@ -7,3 +7,6 @@ pub mod StartLaws
 pub mod SolutionLaws
 pub mod BitsLaws
 pub mod ClashLaws
+pub mod MirrorLaws
+pub mod PartLaws
+pub mod FirstLaws

@@ -2,15 +2,14 @@
 -- else one extra object has such a type. A lower limit that the first objects cannot meet is a need.
 -- Assumes nothing.
 use Prim.Native.Nat.{_+_, _-_, _<_, _≤_, ℕ}
-use mathlib.Core.Bool.{Bool, true}
-use mathlib.Core.Path.{_∙_, _≡_, ap, sym}
+use mathlib.Core.Bool.{Bool}
+use mathlib.Core.Path.{_∙_, _≡_, ap}
 use native.Mathlib.Omega.{arith}
 use lib.Bits.{bitAnd}
 use Rattle.laws.specs.Bits.{bit}
 use Rattle.laws.proofs.BitLaws.{bit-and, bit-zero}
 use Rattle.laws.proofs.ConnectiveLaws.{and-both, true-false}
 use Rattle.growing.specs.World.{World}
-use Rattle.growing.specs.Growth.{Extends}
 use Rattle.growing.specs.Demand.{AtLeast, candidates, extras}
 use Rattle.growing.proofs.SplitLaws.{from-least}
 use Rattle.growing.proofs.DemandLaws.{needs-of}

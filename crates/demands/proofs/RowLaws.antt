@@ -1,19 +1,19 @@
 -- The rows of the given objects are limits, and so is the row of the first object with limits of its own.
 -- Assumes nothing.
-use Prim.Native.Nat.{_*_, _+_, _<_, _≤_, max, min, ℕ}
+use Prim.Native.Nat.{_*_, _+_, _<_, max, min, ℕ}
 use mathlib.Core.Bool.{Bool, false, true}
 use mathlib.Core.List.{List}
 use mathlib.Core.Logic.{⊎-elim}
-use mathlib.Core.Path.{_∙_, _≡_, ap, refl, subst, sym}
+use mathlib.Core.Path.{_≡_, subst}
 use native.Mathlib.Omega.{arith}
 use lib.ListN.{getD}
 use Rattle.laws.specs.Bits.{bit}
 use Rattle.laws.proofs.ConnectiveLaws.{known, true-false}
 use Rattle.growing.specs.World.{World}
-use Rattle.link_search.specs.Nets.{Within, netOf}
+use Rattle.link_search.specs.Nets.{Within}
 use Rattle.demands.specs.declared.Start.{Start}
 use Rattle.demands.specs.declared.Wish.{Wish}
-use Rattle.demands.specs.Wishes.{Known, Limited, Right, Sharpens, Started}
+use Rattle.demands.specs.Wishes.{Known, Limited, Sharpens, Started}
 use Rattle.demands.specs.Families.{RowsOpen, targetCount}
 
 -- both limits hold

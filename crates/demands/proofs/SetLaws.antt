@@ -8,7 +8,6 @@ use lib.Bits.{bitAnd, bitOr, bitXor}
 use lib.Dec.{eqb}
 use lib.ListN.{getD}
 use Rattle.laws.specs.Bits.{bit}
-use Rattle.laws.specs.Bounded.{any}
 use Rattle.laws.specs.Connective.{same}
 use Rattle.laws.proofs.BitLaws.{bit-and, bit-or, bit-xor, bit-zero}
 use Rattle.laws.proofs.BoundedLaws.{any-more}

@@ -1,16 +1,15 @@
 -- A singleton that is not among the given objects is a need.
 -- Assumes nothing.
 use Prim.Native.Nat.{_+_, _<_, _≤_, ℕ}
-use mathlib.Core.Bool.{Bool, _&&_, _||_, false, not, true}
+use mathlib.Core.Bool.{_&&_, _||_, false, not, true}
 use mathlib.Core.List.{List}
-use mathlib.Core.Path.{_∙_, _≡_, ap, refl, sym}
+use mathlib.Core.Path.{_∙_, _≡_, refl, sym}
 use native.Mathlib.Omega.{arith}
 use lib.Bits.{bitAnd}
 use lib.Dec.{eqb}
 use lib.ListN.{getD}
 use borrow.Author.Tests.{eq-eqb, not-true}
 use Rattle.laws.specs.Bits.{bit}
-use Rattle.laws.specs.Bounded.{any, tally}
 use Rattle.laws.proofs.BitLaws.{bit-and, bit-zero}
 use Rattle.laws.proofs.BoundedLaws.{any-no}
 use Rattle.laws.proofs.ConnectiveLaws.{and-both, and-left, and-right, or-right, true-false}

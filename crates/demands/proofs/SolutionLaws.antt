@@ -2,16 +2,19 @@
 -- Assumes nothing.
 use Prim.Native.Nat.{_<_, ℕ}
 use mathlib.Core.List.{List}
-use mathlib.Core.Path.{_∙_, _≡_}
+use mathlib.Core.Path.{_∙_}
 use Rattle.growing.specs.World.{World}
+use Rattle.growing.specs.Growth.{Extends, Nowhere}
 use Rattle.link_search.specs.Nets.{Within}
 use Rattle.worlds.specs.declared.Query.{Query}
 use Rattle.worlds.specs.Asked.{Solution}
 use Rattle.worlds.specs.Kept.{ColumnsKept, Sheet, SinglesKept, Turned}
 use Rattle.demands.specs.declared.Start.{Start}
 use Rattle.demands.specs.declared.Wish.{Wish}
-use Rattle.demands.specs.Wishes.{Sharpens, Started}
+use Rattle.demands.specs.Wishes.{Sharpens}
 use Rattle.demands.specs.Families.{RowsOpen, SourcesKept, sourceCount, targetCount}
+use Rattle.demands.specs.Refuted.{Begun, BitsKept, Refuted}
+use Rattle.demands.specs.Clashes.{FirstColumn}
 use Rattle.demands.proofs.NeedLaws.{sharp-from}
 
 module _ (x : Sheet) (q : Query) (n : ℕ) where
@@ -44,3 +47,26 @@ module _ (x : Sheet) (q : Query) (n : ℕ) where
           → Sharpens (λ w. SourcesKept sources w × Within (q .least) (q .most) (sourceCount w (q .column) (q .from) 0)) s a b
           → Sharpens (Solution x q n) s a b
       by-own-column some = sharp-from s a b (λ w _ h. (sources-kept sources turned w h, h .asked .column some))
+
+  -- ---- a property of solutions that refutes
+
+  begun : (types : List ℕ) (forb : ℕ) (w : World) → Extends types (q .seeds) forb n w → Solution x q n w → Begun types (q .seeds) w
+  begun types forb w e s = record { many = e .many; eight = s .allowed .few; known = s .allowed .known; kept = e .kept }
+
+  pub nowhere-by : (types : List ℕ) (forb : ℕ) (P : World → Type 0) → ((w : World) → Solution x q n w → P w) → Refuted P types (q .seeds)
+      → Nowhere (Solution x q n) types (q .seeds) forb n
+  nowhere-by types forb P f r w e s = r .at w (begun types forb w e s) (f w s)
+
+  pub bits-kept : (w : World) → Solution x q n w → BitsKept (q .must) (q .shut) w
+  bits-kept w s = record { must-stand = s .asked .must; must-not = s .asked .shut }
+
+  pub first-column : (sources : List ℕ) → Turned (x .targets) sources → 0 < q .seeds → (w : World) → Solution x q n w
+      → FirstColumn (x .targets) sources (x .lows) (x .highs) (x .lines) (q .column) (q .from) (q .least) (q .most) w
+  first-column sources turned some w s = record {
+    rows = s .allowed .rows;
+    back = sources-kept sources turned w s;
+    columns = s .allowed .columns;
+    mirrors = s .allowed .mirrors;
+    wholes = s .allowed .wholes;
+    within = s .asked .column some;
+  }

@@ -1,7 +1,7 @@
 -- A solution that extends the given types starts with them, and its extra objects have available types; and a wish that is right about
 -- all solutions is what a demand promises.
 -- Assumes nothing.
-use Prim.Native.Nat.{_+_, _-_, _<_, _≤_, ℕ}
+use Prim.Native.Nat.{_-_, _<_, _≤_, ℕ}
 use mathlib.Core.Bool.{Bool, _&&_, false, not, true}
 use mathlib.Core.List.{List}
 use mathlib.Core.Path.{_∙_, _≡_, ap, refl, sym}

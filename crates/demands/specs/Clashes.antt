@@ -1,14 +1,15 @@
 -- Limits that exclude each other: what is known of the sources of the first object, and which properties no world has together.
 -- Assumes nothing.
-use Prim.Native.Nat.{_*_, _+_, _<_, _≤_, ℕ}
-use mathlib.Core.Bool.{Bool, true}
+use Prim.Native.Nat.{_<_, ℕ}
+use mathlib.Core.Bool.{true}
 use mathlib.Core.List.{List}
 use mathlib.Core.Path.{_≡_}
-use lib.ListN.{getD}
 use Rattle.laws.specs.Bits.{bit}
 use Rattle.growing.specs.World.{World}
 use Rattle.link_search.specs.Nets.{Within}
-use Rattle.demands.specs.Families.{sourceCount, targetCount}
+use Rattle.worlds.specs.declared.Lines.{Lines}
+use Rattle.worlds.specs.Kept.{ColumnsKept, MirrorsKept, RowsKept, WholesKept}
+use Rattle.demands.specs.Families.{SourcesKept, sourceCount, targetCount}
 
 -- no world has the property P
 pub record Never (P : World → Type 0) : Type 0 where
@@ -34,3 +35,12 @@ pub record TurnedSources (s there t row low high : ℕ) (w : World) : Type 0 whe
   pub same : LinkedBack s there t w
   pub typed : (o : ℕ) → o < w .size → w .link t 0 o ≡ true → bit (w .kind o) row ≡ true
   pub within : Within low high (targetCount w t 0)
+
+-- what the tables say of the sources of the first object in slot s, and the limits that a query has for the number of those with types of the mask
+pub record FirstColumn (targets sources lows highs : List ℕ) (x : Lines) (s mask least most : ℕ) (w : World) : Type 0 where
+  pub rows : RowsKept targets lows highs w
+  pub back : SourcesKept sources w
+  pub columns : ColumnsKept x w
+  pub mirrors : MirrorsKept x w
+  pub wholes : WholesKept x w
+  pub within : Within least most (sourceCount w s mask 0)

@@ -1,7 +1,7 @@
 -- What each family of needs reads of a world.
 -- Assumes nothing.
 use Prim.Native.Nat.{_*_, _+_, _<_, ℕ}
-use mathlib.Core.Bool.{Bool, _&&_, false, true}
+use mathlib.Core.Bool.{_&&_, false, true}
 use mathlib.Core.List.{List}
 use mathlib.Core.Path.{_≡_}
 use lib.ListN.{getD}
@@ -9,8 +9,7 @@ use Rattle.laws.specs.Bits.{bit}
 use Rattle.laws.specs.Bounded.{tally}
 use Rattle.growing.specs.World.{World}
 use Rattle.link_search.specs.Nets.{Within, netOf}
-use Rattle.worlds.specs.declared.Lines.{Lines}
-use Rattle.worlds.specs.Kept.{ColumnsKept, RowsKept}
+use Rattle.worlds.specs.Kept.{RowsKept}
 
 -- the rows by the tables, without the links that must not stand
 pub record RowsOpen (targets lows highs shut : List ℕ) (w : World) : Type 0 where

@@ -6,7 +6,8 @@ ghost use lib.ListN.{getD};
 ghost use Rattle.laws.specs.Bits.{bit};
 ghost use Rattle.growing.specs.World.{World};
 ghost use Rattle.worlds.specs.Kept.{ColumnsKept, MirrorsKept, RowsKept, Slotted, WholesKept};
-ghost use Rattle.demands.specs.Clashes.{FirstSources, LinkedBack, Never, OtherSources, TurnedSources};
+ghost use Rattle.demands.specs.Refuted.{Refuted};
+ghost use Rattle.demands.specs.Clashes.{FirstColumn, FirstSources, LinkedBack, Never, OtherSources, TurnedSources};
 
 // All of a is in b.
 fn is_inside(a: u32, b: u32) -> bool
@@ -16,15 +17,7 @@ fn is_inside(a: u32, b: u32) -> bool
 }
 
 // No world has limits of both kinds for the sources of its first object, with types of two masks.
-fn is_apart(
-    here: u32,
-    mask: u32,
-    least: u8,
-    most: u8,
-    other: u32,
-    low: u8,
-    high: u8,
-) -> bool
+fn is_apart(here: u32, mask: u32, least: u8, most: u8, other: u32, low: u8, high: u8) -> bool
     ensures { λ r. ⌜ (r ≡ true → (first s : ℕ) → Never (λ w. FirstSources first here s mask least most w × OtherSources s other low high w)) ⌝ }
 {
     if (most < low) & is_inside(other & here, mask) {
@@ -203,4 +196,47 @@ fn is_apart_from_mirrors<'a>(
         j += 1;
     }
     false
+}
+
+// Whether the tables exclude the number of sources of the first object.
+pub fn is_bad_first_column<'a>(
+    targets: &'a [u32; 768],
+    sources: &'a [u32; 768],
+    lows: &'a [u8; 768],
+    highs: &'a [u8; 768],
+    lines: worlds::Lines,
+    types: &'a [u8; 8],
+    slot: u8,
+    mask: u32,
+    least: u8,
+    most: u8,
+) -> bool
+    requires { ⌜ Slotted lines × (slot < 32) × ((o : ℕ) → getD (now types) o 0 < 24) ⌝ }
+    ensures { λ r. ⌜ (r ≡ true → (seeds : ℕ) → 0 < seeds → Refuted (FirstColumn (now (targets .entry)) (now (sources .entry)) (now (lows .entry)) (now (highs .entry)) lines slot mask least most) (now (types .entry)) seeds) ⌝ }
+{
+    let x = crate::rows::rows_at(types, 0);
+    let first = crate::sets::type_of(types, 0);
+    let here = sources[x + laws::wide(slot)];
+    if (0 < least) & (mask & here == 0) {
+        return true;
+    }
+    if is_apart_from_columns(lines, first, here, slot, mask, least, most) {
+        return true;
+    }
+    if is_apart_from_wholes(lines, first, here, slot, mask, least, most) {
+        return true;
+    }
+    is_apart_from_mirrors(
+        targets,
+        lows,
+        highs,
+        lines,
+        x,
+        first,
+        here,
+        slot,
+        mask,
+        least,
+        most,
+    )
 }

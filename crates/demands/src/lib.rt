@@ -11,10 +11,12 @@ ghost use Rattle.worlds.specs.Asked.{Sane, Solution};
 mod bits;
 mod columns;
 mod counts;
+mod mirrors;
 mod needs;
 mod rows;
 mod sets;
 mod singles;
+mod wholes;
 
 // dead: no world that is looked for starts with the given types. Else one more object has a type of the mask g.
 pub struct Wish {
@@ -93,5 +95,34 @@ pub fn is_implied<'a>(
     requires { ⌜ Slotted lines × Turned (now targets) (now sources) × Sane q × (n ≤ 8) × ((o : ℕ) → getD types o 0 < 24) ⌝ }
     ensures { λ b. ⌜ (b ≡ true → Nowhere (Solution (sheet usable singles (now (targets .entry)) (now (lows .entry)) (now (highs .entry)) lines) q n) types (q .seeds) (q .never) n) ⌝ }
 {
-    false
+    let seeds = q.seeds;
+    if seeds == 0 {
+        return false;
+    }
+    let must = q.must;
+    let shut = q.shut;
+    if bits::is_bad_bit(targets, &must, &shut, &types, seeds) {
+        return true;
+    }
+    if mirrors::is_bad_turn(lines, &must, &shut, &types, seeds) {
+        return true;
+    }
+    if wholes::is_bad_part(lines, &must, &types, seeds) {
+        return true;
+    }
+    if rows::is_bad_first_row(lows, highs, &types, q.row, q.low, q.high) {
+        return true;
+    }
+    counts::is_bad_first_column(
+        targets,
+        sources,
+        lows,
+        highs,
+        lines,
+        &types,
+        q.column,
+        q.from,
+        q.least,
+        q.most,
+    )
 }

@@ -1,7 +1,7 @@
 -- `demand` meets its contract: what is known with no count, sharpened by one family of needs after the other.
 -- Assumes nothing.
-use Prim.Native.Nat.{_-_, _<_, ℕ}
-use mathlib.Core.Bool.{Bool, false}
+use Prim.Native.Nat.{_-_, _<_}
+use mathlib.Core.Bool.{false}
 use mathlib.Core.Path.{_≡_}
 use native.Mathlib.Omega.{arith}
 use lib.Dec.{eqb, ltb}
@@ -89,43 +89,33 @@ after-own-row c =
     sharp-trans (startOf d) _ (e .with-columns .result) (c .with-first-row .result) (after-columns e)
     (by-own-row (sheetOf b) (b .args .q) (b .args .n) (startOf d) (e .with-columns .result) (c .with-first-row .result) (seeded f) (c .with-first-row .ensures))
 
--- src/lib.rt:49:9
 types-present-requires : tie.Need-types-present-requires
 types-present-requires c κs = search needs
 
--- src/lib.rt:50:9
 types-free-requires : tie.Need-types-free-requires
 types-free-requires c κs = search needs
 
--- src/lib.rt:54:16
 sub-t25 : tie.Need-sub-t25
 sub-t25 c = search needs
 
--- src/lib.rt:61:9
 with-singles-requires : tie.Need-with-singles-requires
 with-singles-requires c κs = search needs
 
--- src/lib.rt:63:9
 returns : tie.Need-returns
 returns c = ends (c .before .before) (c .before .with-singles .result) (after-singles (c .before))
 
--- src/lib.rt:66:9
 with-rows-requires : tie.Need-with-rows-requires
 with-rows-requires c κs = search needs
 
--- src/lib.rt:68:9
 returns-2 : tie.Need-returns-2
 returns-2 c = ends (c .before .before .before .before .before .before) (c .before .with-rows .result) (after-rows (c .before))
 
--- src/lib.rt:70:9
 with-columns-requires : tie.Need-with-columns-requires
 with-columns-requires c κs = search needs
 
--- src/lib.rt:72:9
 returns-3 : tie.Need-returns-3
 returns-3 c = let e = c .before .before .before in ends (e .before .before .before .before .before .before .before) (e .with-columns .result) (after-columns e)
 
--- src/lib.rt:74:9
 with-first-row-requires : tie.Need-with-first-row-requires
 with-first-row-requires c κs =
     let f = c .before in
@@ -134,7 +124,6 @@ with-first-row-requires c κs =
     let some = seeded f in
     (known d, omega (arith, b .pre .3), b .pre .2 .row)
 
--- src/lib.rt:75:5
 with-sources-requires : tie.Need-with-sources-requires
 with-sources-requires c κs =
     let f = c .before .before in
@@ -143,7 +132,6 @@ with-sources-requires c κs =
     let some = seeded f in
     (known d, b .pre .2 .column, omega (arith, b .pre .3))
 
--- src/lib.rt:32:1
 returns-4 : tie.Need-returns-4
 returns-4 c =
     let g = c .before in

@@ -1,8 +1,7 @@
 -- `bits::is_bad_bit` meets its contract.
 -- Assumes nothing.
-use Prim.Native.Nat.{_%_, _*_, _+_, _/_, _-_, _≤_, ℕ}
+use Prim.Native.Nat.{_%_, _+_, _-_, _≤_}
 use mathlib.Core.Bool.{false≢true}
-use mathlib.Core.Path.{_≡_}
 use native.Mathlib.Omega.{arith}
 use Rattle.demands.proofs.BitsLaws.{bad-row}
 use borrow.Author.Needs.{needs}

@@ -2,7 +2,7 @@
 -- Assumes nothing.
 use Prim.Native.Nat.{_-_, _≤_, ℕ}
 use mathlib.Core.Bool.{Bool, _&&_, _||_, false≢true, not}
-use mathlib.Core.Path.{_≡_, _∙_, ap, ap₂, sym}
+use mathlib.Core.Path.{_∙_, ap, ap₂, sym}
 use native.Mathlib.Omega.{arith}
 use Rattle.laws.specs.Bits.{bit}
 use Rattle.laws.proofs.BoundedLaws.{any-of}

@@ -25,31 +25,24 @@ Inv-loop s sources slot mask to low high types k wish₀ p₀ wish p = (p ≤ k)
 abbrev μ-loop : tie.MeasureT-loop
 μ-loop s sources slot mask to low high types k wish₀ p₀ wish p = k - p
 
--- src/columns.rt:49:5
 loop-holds : tie.Need-loop-holds Inv-loop μ-loop
 loop-holds c = (omega arith, sharp-same _ _)
 
--- src/columns.rt:50:28
 type-of-requires : tie.Need-type-of-requires Inv-loop μ-loop
 type-of-requires c κs = search needs
 
--- src/columns.rt:50:12
 has32-requires : tie.Need-has32-requires Inv-loop μ-loop
 has32-requires c κs = search needs
 
--- src/columns.rt:51:13
 with-sources-requires : tie.Need-with-sources-requires Inv-loop μ-loop
 with-sources-requires c κs = search needs
 
--- src/columns.rt:53:9
 add-p : tie.Need-add-p Inv-loop μ-loop
 add-p c = search needs
 
--- src/columns.rt:49:5
 loop-less : tie.Need-loop-less Inv-loop μ-loop
 loop-less c = search needs
 
--- src/columns.rt:49:5
 loop-again : tie.Need-loop-again Inv-loop μ-loop
 loop-again c =
     let h = c .before in
@@ -67,7 +60,6 @@ loop-again c =
           (λ w. subst (Sharpens P (a .s) (a .best)) (sym (w .1)) (l .loop .inv .1)) (c .if1 .came),
     )
 
--- src/columns.rt:32:1
 returns : tie.Need-returns Inv-loop μ-loop
 returns c = c .before .loop .inv .1
 

@@ -12,31 +12,24 @@ use Rattle.demands.proofs.needs.with_limits.Reads as with-limits-reads
 use Rattle.demands.proofs.rows.rows_at.Reads as rows-at-reads
 use Rattle.laws.proofs.wide.Reads as wide-reads
 
--- src/columns.rt:27:13
 rows-at-requires : tie.Need-rows-at-requires
 rows-at-requires c κs = search needs
 
--- src/columns.rt:27:47
 wide-requires : tie.Need-wide-requires
 wide-requires c κs = search needs
 
--- src/columns.rt:27:13
 add-x : tie.Need-add-x
 add-x c = search needs
 
--- src/columns.rt:28:47
 mul-with-limits : tie.Need-mul-with-limits
 mul-with-limits c = search needs
 
--- src/columns.rt:28:47
 element-copy-out-with-limits : tie.Need-element-copy-out-with-limits
 element-copy-out-with-limits c = search needs
 
--- src/columns.rt:28:5
 with-limits-requires : tie.Need-with-limits-requires
 with-limits-requires c κs = search needs
 
--- src/columns.rt:13:1
 returns : tie.Need-returns
 returns c =
     let y = c .before .before in

@@ -1,6 +1,5 @@
 -- `counts::is_apart` meets its contract.
 -- Assumes nothing.
-use mathlib.Core.Bool.{_&&_}
 use lib.Dec.{ltb}
 use borrow.Author.Tests.{ltb-true}
 use Rattle.laws.proofs.ConnectiveLaws.{and-left, and-right}
@@ -12,11 +11,9 @@ use Rattle.demands.proofs.counts.is_apart.Reads as reads
 use Rattle.demands.proofs.counts.is_apart.Lts as lts
 use Rattle.demands.proofs.counts.is_inside.Reads as is-inside-reads
 
--- src/counts.rt:30:23
 is-inside-requires : tie.Need-is-inside-requires
 is-inside-requires c κs = search needs
 
--- src/counts.rt:31:9
 returns : tie.Need-returns
 returns c =
     let d = c .before in
@@ -25,11 +22,9 @@ returns c =
     λ _ first s. apart-more first (a .here) s (a .mask) (a .least) (a .most) (a .other) (a .low) (a .high) (ltb-true (a .most) (a .low) (and-left (ltb (a .most) (a .low)) e (c .if1 .taken)))
     (d .is-inside .ensures (and-right (ltb (a .most) (a .low)) e (c .if1 .taken)))
 
--- src/counts.rt:33:22
 is-inside-requires-2 : tie.Need-is-inside-requires-2
 is-inside-requires-2 c κs = search needs
 
--- src/counts.rt:19:1
 returns-2 : tie.Need-returns-2
 returns-2 c =
     let a = c .before .before .before .args in

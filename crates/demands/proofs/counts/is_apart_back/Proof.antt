@@ -12,15 +12,12 @@ use Rattle.demands.proofs.counts.is_apart_back.Reads as reads
 use Rattle.demands.proofs.counts.is_apart_back.Lts as lts
 use Rattle.demands.proofs.counts.is_inside.Reads as is-inside-reads
 
--- src/counts.rt:49:23
 is-inside-requires : tie.Need-is-inside-requires
 is-inside-requires c κs = search needs
 
--- src/counts.rt:49:47
 is-inside-requires-2 : tie.Need-is-inside-requires-2
 is-inside-requires-2 c κs = search needs
 
--- src/counts.rt:50:9
 returns : tie.Need-returns
 returns c =
     let d = c .before in
@@ -33,11 +30,9 @@ returns c =
     λ _ first s u. back-more first (a .here) s (a .mask) (a .least) (a .most) (a .there) u (a .row) (a .low) (a .high) (ltb-true (a .most) (a .low) (and-left t e h))
     (f .is-inside .ensures (and-right t e h)) (d .is-inside2 .ensures (and-right (t && e) g (c .if1 .taken)))
 
--- src/counts.rt:52:22
 is-inside-requires-3 : tie.Need-is-inside-requires-3
 is-inside-requires-3 c κs = search needs
 
--- src/counts.rt:37:1
 returns-2 : tie.Need-returns-2
 returns-2 c =
     let a = c .before .before .before .before .args in

@@ -1,6 +1,6 @@
 -- `counts::is_apart_from_mirrors` meets its contract.
 -- Assumes nothing.
-use Prim.Native.Nat.{_-_, _≤_, ℕ}
+use Prim.Native.Nat.{_-_, _≤_}
 use mathlib.Core.Bool.{false≢true}
 use mathlib.Core.Path.{_∙_, sym}
 use native.Mathlib.Omega.{arith}
@@ -23,46 +23,36 @@ Inv-loop targets lows highs x first here slot mask least most lines j₀ j = j �
 abbrev μ-loop : tie.MeasureT-loop
 μ-loop targets lows highs x first here slot mask least most lines j₀ j = 16 - j
 
--- src/counts.rt:162:5
 loop-holds : tie.Need-loop-holds Inv-loop μ-loop
 loop-holds c = omega arith
 
--- src/counts.rt:163:21
 element-copy-out-right : tie.Need-element-copy-out-right Inv-loop μ-loop
 element-copy-out-right c = search needs
 
--- src/counts.rt:164:20
 element-copy-out-left : tie.Need-element-copy-out-left Inv-loop μ-loop
 element-copy-out-left c = search needs
 
--- src/counts.rt:165:20
 mul-from : tie.Need-mul-from Inv-loop μ-loop
 mul-from c = search needs
 
--- src/counts.rt:165:20
 element-copy-out-from : tie.Need-element-copy-out-from Inv-loop μ-loop
 element-copy-out-from c = search needs
 
--- src/counts.rt:166:18
 mul-to : tie.Need-mul-to Inv-loop μ-loop
 mul-to c = search needs
 
--- src/counts.rt:166:18
 element-copy-out-to : tie.Need-element-copy-out-to Inv-loop μ-loop
 element-copy-out-to c = search needs
 
--- src/counts.rt:167:30
 has32-requires : tie.Need-has32-requires Inv-loop μ-loop
 has32-requires c κs = search needs
 
--- src/counts.rt:168:16
 is-apart-from-row-requires : tie.Need-is-apart-from-row-requires Inv-loop μ-loop
 is-apart-from-row-requires c κs =
     let l = c .before .before .before .before .before .before .before in
     let b = l .before in
     (b .pre .1, b .pre .2, b .pre .0 .left (l .loop .j) (c .before .before .before .before .before .before .loop-test .taken))
 
--- src/counts.rt:182:17
 returns : tie.Need-returns Inv-loop μ-loop
 returns c =
     let d = c .before in
@@ -75,18 +65,15 @@ returns c =
     (eqb-true (getD (a .t4 .mirrorright) (l .loop .j) 0) (a .slot) (and-left e (h .has32 .result) (t .if1 .taken)))
     (sym (h .has32 .ensures) ∙ and-right e (h .has32 .result) (t .if1 .taken)) (d .is-apart-from-row .ensures (c .if2 .taken))
 
--- src/counts.rt:185:29
 has32-requires-2 : tie.Need-has32-requires-2 Inv-loop μ-loop
 has32-requires-2 c κs = search needs
 
--- src/counts.rt:186:16
 is-apart-from-row-requires-2 : tie.Need-is-apart-from-row-requires-2 Inv-loop μ-loop
 is-apart-from-row-requires-2 c κs =
     let l = c .before .before .before .before .before .before .before .before .before in
     let b = l .before in
     (b .pre .1, b .pre .2, b .pre .0 .right (l .loop .j) (c .before .before .before .before .before .before .before .before .loop-test .taken))
 
--- src/counts.rt:200:17
 returns-2 : tie.Need-returns-2 Inv-loop μ-loop
 returns-2 c =
     let d = c .before in
@@ -99,19 +86,15 @@ returns-2 c =
     (eqb-true (getD (a .t4 .mirrorleft) (l .loop .j) 0) (a .slot) (and-left e (h .has322 .result) (t .if3 .taken)))
     (sym (h .has322 .ensures) ∙ and-right e (h .has322 .result) (t .if3 .taken)) (d .is-apart-from-row2 .ensures (c .if4 .taken))
 
--- src/counts.rt:203:9
 add-j : tie.Need-add-j Inv-loop μ-loop
 add-j c = search needs
 
--- src/counts.rt:162:5
 loop-less : tie.Need-loop-less Inv-loop μ-loop
 loop-less c = search needs
 
--- src/counts.rt:162:5
 loop-again : tie.Need-loop-again Inv-loop μ-loop
 loop-again c = omega arith
 
--- src/counts.rt:145:1
 returns-3 : tie.Need-returns-3 Inv-loop μ-loop
 returns-3 c = λ e. absurd (false≢true e)
 

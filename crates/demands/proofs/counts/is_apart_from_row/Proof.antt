@@ -11,35 +11,27 @@ use Rattle.demands.proofs.counts.is_apart_from_row.Lts as lts
 use Rattle.demands.proofs.counts.is_apart_back.Reads as is-apart-back-reads
 use Rattle.laws.proofs.wide.Reads as wide-reads
 
--- src/counts.rt:131:17
 wide-requires : tie.Need-wide-requires
 wide-requires c κs = search needs
 
--- src/counts.rt:131:13
 add-y : tie.Need-add-y
 add-y c = search needs
 
--- src/counts.rt:138:9
 mul-is-apart-back : tie.Need-mul-is-apart-back
 mul-is-apart-back c = search needs
 
--- src/counts.rt:138:9
 element-copy-out-is-apart-back : tie.Need-element-copy-out-is-apart-back
 element-copy-out-is-apart-back c = search needs
 
--- src/counts.rt:139:9
 element-copy-out-is-apart-back-2 : tie.Need-element-copy-out-is-apart-back-2
 element-copy-out-is-apart-back-2 c = search needs
 
--- src/counts.rt:140:9
 element-copy-out-is-apart-back-3 : tie.Need-element-copy-out-is-apart-back-3
 element-copy-out-is-apart-back-3 c = search needs
 
--- src/counts.rt:132:5
 is-apart-back-requires : tie.Need-is-apart-back-requires
 is-apart-back-requires c κs = search needs
 
--- src/counts.rt:114:1
 returns : tie.Need-returns
 returns c =
     let y = c .before .before .before .before in

@@ -1,6 +1,6 @@
 -- `counts::is_apart_from_wholes` meets its contract.
 -- Assumes nothing.
-use Prim.Native.Nat.{_-_, _≤_, ℕ}
+use Prim.Native.Nat.{_-_, _≤_}
 use mathlib.Core.Bool.{false≢true}
 use mathlib.Core.Path.{_∙_, sym}
 use native.Mathlib.Omega.{arith}
@@ -23,39 +23,30 @@ Inv-loop first here slot mask least most lines j₀ j = j ≤ 16
 abbrev μ-loop : tie.MeasureT-loop
 μ-loop first here slot mask least most lines j₀ j = 16 - j
 
--- src/counts.rt:102:5
 loop-holds : tie.Need-loop-holds Inv-loop μ-loop
 loop-holds c = omega arith
 
--- src/counts.rt:103:13
 element-copy-out-if1 : tie.Need-element-copy-out-if1 Inv-loop μ-loop
 element-copy-out-if1 c = search needs
 
--- src/counts.rt:103:55
 mul-has32 : tie.Need-mul-has32 Inv-loop μ-loop
 mul-has32 c = search needs
 
--- src/counts.rt:103:55
 element-copy-out-has32 : tie.Need-element-copy-out-has32 Inv-loop μ-loop
 element-copy-out-has32 c = search needs
 
--- src/counts.rt:103:43
 has32-requires : tie.Need-has32-requires Inv-loop μ-loop
 has32-requires c κs = search needs
 
--- src/counts.rt:104:50
 mul-is-apart : tie.Need-mul-is-apart Inv-loop μ-loop
 mul-is-apart c = search needs
 
--- src/counts.rt:104:50
 element-copy-out-is-apart : tie.Need-element-copy-out-is-apart Inv-loop μ-loop
 element-copy-out-is-apart c = search needs
 
--- src/counts.rt:104:16
 is-apart-requires : tie.Need-is-apart-requires Inv-loop μ-loop
 is-apart-requires c κs = search needs
 
--- src/counts.rt:105:17
 returns : tie.Need-returns Inv-loop μ-loop
 returns c =
     let d = c .before in
@@ -68,19 +59,15 @@ returns c =
     (eqb-true (getD (a .t1 .wholeslot) (l .loop .j) 0) (a .slot) (and-left e (h .has32 .result) (t .if1 .taken)))
     (sym (h .has32 .ensures) ∙ and-right e (h .has32 .result) (t .if1 .taken)) (d .is-apart .ensures (c .if2 .taken) (a .first) (a .slot))
 
--- src/counts.rt:108:9
 add-j : tie.Need-add-j Inv-loop μ-loop
 add-j c = search needs
 
--- src/counts.rt:102:5
 loop-less : tie.Need-loop-less Inv-loop μ-loop
 loop-less c = search needs
 
--- src/counts.rt:102:5
 loop-again : tie.Need-loop-again Inv-loop μ-loop
 loop-again c = omega arith
 
--- src/counts.rt:89:1
 returns-2 : tie.Need-returns-2 Inv-loop μ-loop
 returns-2 c = λ e. absurd (false≢true e)
 

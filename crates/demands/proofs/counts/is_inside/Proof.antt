@@ -6,13 +6,11 @@ use borrow.Author.Tests.{eqb-true}
 use Rattle.laws.specs.Bits.{bit}
 use Rattle.laws.proofs.BitLaws.{bit-and}
 use Rattle.laws.proofs.ConnectiveLaws.{and-right}
-use borrow.Author.Needs.{needs}
 use Rattle.demands.proofs.counts.is_inside.Statement.{statement}
 use Rattle.demands.proofs.counts.is_inside.Tie as tie
 use Rattle.demands.proofs.counts.is_inside.Reads as reads
 use Rattle.demands.proofs.counts.is_inside.Lts as lts
 
--- src/counts.rt:12:1
 returns : tie.Need-returns
 returns c =
     let a = c .args in

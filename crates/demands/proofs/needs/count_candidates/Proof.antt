@@ -1,7 +1,7 @@
 -- `needs::count_candidates` meets its contract: one object after the other.
 -- Assumes nothing.
-use Prim.Native.Nat.{ℕ, _+_, _-_, _≤_, _<_}
-use mathlib.Core.Path.{_≡_, sym, ap, ap₂, _∙_}
+use Prim.Native.Nat.{ℕ, _-_, _≤_}
+use mathlib.Core.Path.{_≡_, ap, ap₂, _∙_}
 use mathlib.Core.Bool.{Bool, _&&_, not}
 use mathlib.Core.List.{List}
 use mathlib.Core.Logic.{⊎-elim}
@@ -28,35 +28,27 @@ Inv-loop mask shut types k n₀ o₀ n o = (o ≤ k) × ((n ≤ o) × (n ≡ tal
 abbrev μ-loop : tie.MeasureT-loop
 μ-loop mask shut types k n₀ o₀ n o = k - o
 
--- src/needs.rt:52:5
 loop-holds : tie.Need-loop-holds Inv-loop μ-loop
 loop-holds c = (omega arith, (omega arith, tally-begin (isCandidate (c .before .args .s .types) (c .before .args .mask) (c .before .args .shut))))
 
--- src/needs.rt:53:30
 type-of-requires : tie.Need-type-of-requires Inv-loop μ-loop
 type-of-requires c κs = search needs
 
--- src/needs.rt:53:12
 has32-requires : tie.Need-has32-requires Inv-loop μ-loop
 has32-requires c κs = search needs
 
--- src/needs.rt:53:66
 has8-requires : tie.Need-has8-requires Inv-loop μ-loop
 has8-requires c κs = search needs
 
--- src/needs.rt:54:13
 add-n : tie.Need-add-n Inv-loop μ-loop
 add-n c = search needs
 
--- src/needs.rt:56:9
 add-o : tie.Need-add-o Inv-loop μ-loop
 add-o c = search needs
 
--- src/needs.rt:52:5
 loop-less : tie.Need-loop-less Inv-loop μ-loop
 loop-less c = search needs
 
--- src/needs.rt:52:5
 loop-again : tie.Need-loop-again Inv-loop μ-loop
 loop-again c =
     let e = c .before in
@@ -74,7 +66,6 @@ loop-again c =
       ),
     )
 
--- src/needs.rt:44:1
 returns : tie.Need-returns Inv-loop μ-loop
 returns c =
     let l = c .before in

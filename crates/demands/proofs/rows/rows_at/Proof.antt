@@ -11,23 +11,18 @@ use Rattle.demands.proofs.rows.rows_at.Reads as reads
 use Rattle.demands.proofs.rows.rows_at.Lts as lts
 use Rattle.laws.proofs.wide.Reads as wide-reads
 
--- src/rows.rt:17:22
 wide-requires : tie.Need-wide-requires
 wide-requires c κs = search needs
 
--- src/rows.rt:17:16
 element-copy-out-wide : tie.Need-element-copy-out-wide
 element-copy-out-wide c = search needs
 
--- src/rows.rt:17:5
 wide-requires-2 : tie.Need-wide-requires-2
 wide-requires-2 c κs = search needs
 
--- src/rows.rt:17:5
 mul-result : tie.Need-mul-result
 mul-result c = search needs
 
--- src/rows.rt:13:1
 returns : tie.Need-returns
 returns c =
     let b = c .before .before in

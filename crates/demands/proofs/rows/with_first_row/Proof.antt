@@ -1,7 +1,7 @@
 -- `rows::with_first_row` meets its contract.
 -- Assumes nothing.
 use Prim.Native.Nat.{ℕ}
-use mathlib.Core.Path.{refl, subst}
+use mathlib.Core.Path.{subst}
 use native.Mathlib.Omega.{arith}
 use Rattle.link_search.specs.Nets.{Within}
 use Rattle.demands.specs.Wishes.{Sharpens}
@@ -18,51 +18,39 @@ use Rattle.demands.proofs.rows.rows_at.Reads as rows-at-reads
 use Rattle.demands.proofs.rows.smaller.Reads as smaller-reads
 use Rattle.laws.proofs.wide.Reads as wide-reads
 
--- src/rows.rt:101:9
 wide-requires : tie.Need-wide-requires
 wide-requires c κs = search needs
 
--- src/rows.rt:102:13
 rows-at-requires : tie.Need-rows-at-requires
 rows-at-requires c κs = search needs
 
--- src/rows.rt:102:13
 add-x : tie.Need-add-x
 add-x c = search needs
 
--- src/rows.rt:106:9
 mul-with-limits : tie.Need-mul-with-limits
 mul-with-limits c = search needs
 
--- src/rows.rt:106:9
 element-copy-out-with-limits : tie.Need-element-copy-out-with-limits
 element-copy-out-with-limits c = search needs
 
--- src/rows.rt:107:9
 element-copy-out-with-limits-2 : tie.Need-element-copy-out-with-limits-2
 element-copy-out-with-limits-2 c = search needs
 
--- src/rows.rt:108:16
 element-copy-out-larger : tie.Need-element-copy-out-larger
 element-copy-out-larger c = search needs
 
--- src/rows.rt:108:9
 larger-requires : tie.Need-larger-requires
 larger-requires c κs = search needs
 
--- src/rows.rt:109:17
 element-copy-out-smaller : tie.Need-element-copy-out-smaller
 element-copy-out-smaller c = search needs
 
--- src/rows.rt:109:9
 smaller-requires : tie.Need-smaller-requires
 smaller-requires c κs = search needs
 
--- src/rows.rt:103:5
 with-limits-requires : tie.Need-with-limits-requires
 with-limits-requires c κs = search needs
 
--- src/rows.rt:86:1
 returns : tie.Need-returns
 returns c =
     let e = c .before in

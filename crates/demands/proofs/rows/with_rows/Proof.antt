@@ -1,6 +1,6 @@
 -- `rows::with_rows` meets its contract: one object after the other.
 -- Assumes nothing.
-use Prim.Native.Nat.{_-_, _≤_, ℕ}
+use Prim.Native.Nat.{_-_, _≤_}
 use native.Mathlib.Omega.{arith}
 use Rattle.demands.specs.Wishes.{Sharpens}
 use Rattle.demands.specs.Families.{RowsOpen}

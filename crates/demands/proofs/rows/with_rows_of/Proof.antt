@@ -3,8 +3,8 @@
 use mathlib.Core.Logic.{⊎-elim}
 use Rattle.demands.proofs.NeedLaws.{sharp-same, sharp-trans}
 use Rattle.demands.proofs.RowLaws.{row-sharp}
-use mathlib.Core.Path.{_≡_, subst, sym}
-use Prim.Native.Nat.{_*_, _+_, _-_, _≤_, _<_, ℕ}
+use mathlib.Core.Path.{subst, sym}
+use Prim.Native.Nat.{_*_, _+_, _-_, _≤_}
 use native.Mathlib.Omega.{arith}
 use Rattle.demands.specs.Wishes.{Sharpens}
 use Rattle.demands.specs.Families.{RowsOpen}
@@ -23,71 +23,54 @@ Inv-loop s targets lows highs shut o x y wish₀ i₀ wish i = (i ≤ 32) × Sha
 abbrev μ-loop : tie.MeasureT-loop
 μ-loop s targets lows highs shut o x y wish₀ i₀ wish i = 32 - i
 
--- src/rows.rt:34:9
 rows-at-requires : tie.Need-rows-at-requires Inv-loop μ-loop
 rows-at-requires c κs = search needs
 
--- src/rows.rt:35:13
 wide-requires : tie.Need-wide-requires Inv-loop μ-loop
 wide-requires c κs = search needs
 
--- src/rows.rt:35:13
 mul-y : tie.Need-mul-y Inv-loop μ-loop
 mul-y c = search needs
 
--- src/rows.rt:38:5
 loop-holds : tie.Need-loop-holds Inv-loop μ-loop
 loop-holds c = (omega arith, sharp-same (c .before .before .before .before .args .s) (c .before .before .before .before .args .best))
 
--- src/rows.rt:39:24
 add-low : tie.Need-add-low Inv-loop μ-loop
 add-low c = search needs
 
--- src/rows.rt:39:19
 element-copy-out-low : tie.Need-element-copy-out-low Inv-loop μ-loop
 element-copy-out-low c = search needs
 
--- src/rows.rt:41:63
 add-with-limits : tie.Need-add-with-limits Inv-loop μ-loop
 add-with-limits c = search needs
 
--- src/rows.rt:41:55
 mul-with-limits : tie.Need-mul-with-limits Inv-loop μ-loop
 mul-with-limits c = search needs
 
--- src/rows.rt:41:55
 element-copy-out-with-limits : tie.Need-element-copy-out-with-limits Inv-loop μ-loop
 element-copy-out-with-limits c = search needs
 
--- src/rows.rt:41:76
 add-with-limits-2 : tie.Need-add-with-limits-2 Inv-loop μ-loop
 add-with-limits-2 c = search needs
 
--- src/rows.rt:41:71
 element-copy-out-with-limits-2 : tie.Need-element-copy-out-with-limits-2 Inv-loop μ-loop
 element-copy-out-with-limits-2 c = search needs
 
--- src/rows.rt:41:95
 add-with-limits-3 : tie.Need-add-with-limits-3 Inv-loop μ-loop
 add-with-limits-3 c = search needs
 
--- src/rows.rt:41:89
 element-copy-out-with-limits-3 : tie.Need-element-copy-out-with-limits-3 Inv-loop μ-loop
 element-copy-out-with-limits-3 c = search needs
 
--- src/rows.rt:41:13
 with-limits-requires : tie.Need-with-limits-requires Inv-loop μ-loop
 with-limits-requires c κs = search needs
 
--- src/rows.rt:43:9
 add-i : tie.Need-add-i Inv-loop μ-loop
 add-i c = search needs
 
--- src/rows.rt:38:5
 loop-less : tie.Need-loop-less Inv-loop μ-loop
 loop-less c = search needs
 
--- src/rows.rt:38:5
 loop-again : tie.Need-loop-again Inv-loop μ-loop
 loop-again c =
     let l = c .before .before .before in
@@ -104,7 +87,6 @@ loop-again c =
           (λ w. subst (Sharpens P (a .s) (a .best)) (sym (w .1)) (l .loop .inv .1)) (c .if1 .came),
     )
 
--- src/rows.rt:21:1
 returns : tie.Need-returns Inv-loop μ-loop
 returns c = c .before .loop .inv .1
 

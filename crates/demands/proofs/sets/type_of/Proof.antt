@@ -11,19 +11,15 @@ use Rattle.demands.proofs.sets.type_of.Reads as reads
 use Rattle.demands.proofs.sets.type_of.Lts as lts
 use Rattle.laws.proofs.wide.Reads as wide-reads
 
--- src/sets.rt:21:11
 wide-requires : tie.Need-wide-requires
 wide-requires c κs = search needs
 
--- src/sets.rt:21:5
 element-copy-out-result : tie.Need-element-copy-out-result
 element-copy-out-result c = search needs
 
--- src/sets.rt:21:5
 cast-result : tie.Need-cast-result
 cast-result c = omega (arith, c .before .before .pre .1 (c .before .wide .result))
 
--- src/sets.rt:17:1
 returns : tie.Need-returns
 returns c = (ap (λ (i : ℕ). getD (c .before .before .args .types .now) i 0) (c .before .wide .ensures .0), c .before .before .pre .1 (c .before .wide .result))
 

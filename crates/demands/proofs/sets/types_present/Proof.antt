@@ -2,8 +2,8 @@
 -- Assumes nothing.
 use mathlib.Core.Bool.{_||_}
 use lib.Dec.{eqb}
-use Prim.Native.Nat.{ℕ, _+_, _-_, _≤_, _<_}
-use mathlib.Core.Path.{_≡_, sym, ap, _∙_}
+use Prim.Native.Nat.{ℕ, _-_, _≤_}
+use mathlib.Core.Path.{_≡_, ap, _∙_}
 use native.Mathlib.Omega.{arith}
 use Rattle.laws.specs.Bits.{bit}
 use Rattle.demands.specs.Wishes.{present}
@@ -22,27 +22,21 @@ Inv-loop types k mask₀ o₀ mask o = (o ≤ k) × ((t : ℕ) → bit t mask �
 abbrev μ-loop : tie.MeasureT-loop
 μ-loop types k mask₀ o₀ mask o = k - o
 
--- src/sets.rt:31:5
 loop-holds : tie.Need-loop-holds Inv-loop μ-loop
 loop-holds c = (search needs, present-begin (c .args .types .now))
 
--- src/sets.rt:32:35
 type-of-requires : tie.Need-type-of-requires Inv-loop μ-loop
 type-of-requires c κs = search needs
 
--- src/sets.rt:32:9
 with32-requires : tie.Need-with32-requires Inv-loop μ-loop
 with32-requires c κs = search needs
 
--- src/sets.rt:33:9
 add-o : tie.Need-add-o Inv-loop μ-loop
 add-o c = search needs
 
--- src/sets.rt:31:5
 loop-less : tie.Need-loop-less Inv-loop μ-loop
 loop-less c = search needs
 
--- src/sets.rt:31:5
 loop-again : tie.Need-loop-again Inv-loop μ-loop
 loop-again c =
     let l = c .before .before .before in
@@ -52,7 +46,6 @@ loop-again c =
           (λ t. c .with32 .ensures t ∙ ap (λ (y : ℕ). bit t (l .loop .mask) || eqb t y) (c .before .type-of .ensures .0)),
     )
 
--- src/sets.rt:25:1
 returns : tie.Need-returns Inv-loop μ-loop
 returns c =
     let l = c .before in

@@ -1,6 +1,6 @@
 -- `singles::with_singles` meets its contract: one type after the other.
 -- Assumes nothing.
-use Prim.Native.Nat.{_-_, _≤_, ℕ}
+use Prim.Native.Nat.{_-_, _≤_}
 use mathlib.Core.Logic.{⊎-elim}
 use mathlib.Core.Path.{_∙_, subst, sym}
 use native.Mathlib.Omega.{arith}
@@ -24,39 +24,30 @@ Inv-loop s singles here missing wish₀ t₀ wish t = (t ≤ 24) × Sharpens (Si
 abbrev μ-loop : tie.MeasureT-loop
 μ-loop s singles here missing wish₀ t₀ wish t = 24 - t
 
--- src/singles.rt:15:9
 without-requires : tie.Need-without-requires Inv-loop μ-loop
 without-requires c κs = search needs
 
--- src/singles.rt:17:9
 returns : tie.Need-returns Inv-loop μ-loop
 returns c = sharp-same _ _
 
--- src/singles.rt:21:5
 loop-holds : tie.Need-loop-holds Inv-loop μ-loop
 loop-holds c = (omega arith, sharp-same _ _)
 
--- src/singles.rt:22:12
 has32-requires : tie.Need-has32-requires Inv-loop μ-loop
 has32-requires c κs = search needs
 
--- src/singles.rt:23:53
 with32-requires : tie.Need-with32-requires Inv-loop μ-loop
 with32-requires c κs = search needs
 
--- src/singles.rt:23:13
 with-need-requires : tie.Need-with-need-requires Inv-loop μ-loop
 with-need-requires c κs = search needs
 
--- src/singles.rt:25:9
 add-t : tie.Need-add-t Inv-loop μ-loop
 add-t c = search needs
 
--- src/singles.rt:21:5
 loop-less : tie.Need-loop-less Inv-loop μ-loop
 loop-less c = search needs
 
--- src/singles.rt:21:5
 loop-again : tie.Need-loop-again Inv-loop μ-loop
 loop-again c =
     let h = c .before in
@@ -74,7 +65,6 @@ loop-again c =
           (λ w. subst (Sharpens P (a .s) (a .best)) (sym (w .1)) (l .loop .inv .1)) (c .if2 .came),
     )
 
--- src/singles.rt:11:1
 returns-2 : tie.Need-returns-2 Inv-loop μ-loop
 returns-2 c = c .before .loop .inv .1
 
