@@ -1,0 +1,126 @@
+// The tables of a diagram by the types and role slots of another one, or by its own, that the search by types reads.
+ghost use mathlib.Core.Path.{_≡_};
+ghost use Prim.Native.Nat.{ℕ, _*_, _+_, _<_, _≤_};
+ghost use lib.Dec.{ltb};
+ghost use lib.ListN.{getD};
+ghost use Rattle.laws.specs.Bits.{Marks, bit};
+ghost use Rattle.laws.specs.Connective.{both};
+ghost use Rattle.fields.specs.Slot.{slotName};
+ghost use Rattle.diagrams.specs.View.{diagramOf};
+ghost use Rattle.diagrams.specs.Held.{Held};
+ghost use Rattle.resolving.specs.Lookup.{slotOf};
+ghost use Rattle.type_tables.specs.RowsIn.{isSubtype};
+ghost use Rattle.sheets.specs.Named.{Images, SlotsBy, SubtypesBy};
+ghost use Rattle.sheets.specs.NamedIn.{isImage};
+
+// ---- names
+
+// Where each of m names stands among n others, or n.
+fn types_found<'a>(names: &'a [u8; 408], n: u8, others: &'a [u8; 408], m: u8) -> [u8; 24]
+    requires { ⌜ m ≤ 24 ⌝ }
+    ensures { λ r. ⌜ ((i : ℕ) → i < m → getD r i 0 ≡ slotOf (now (names .entry)) n (slotName (now (others .entry)) i)) ⌝ }
+{
+    let mut r = [0u8; 24];
+    let mut i: u8 = 0;
+    while i < m {
+        let at = resolving::slot_of(names, n, fields::slot_name(others, i));
+        r[laws::wide(i)] = at;
+        i += 1;
+    }
+    r
+}
+
+// The same for role names.
+fn roles_found<'a>(names: &'a [u8; 544], n: u8, others: &'a [u8; 544], m: u8) -> [u8; 32]
+    requires { ⌜ m ≤ 32 ⌝ }
+    ensures { λ r. ⌜ ((e : ℕ) → e < m → getD r e 0 ≡ slotOf (now (names .entry)) n (slotName (now (others .entry)) e)) × ((e : ℕ) → getD r e 0 ≤ n) ⌝ }
+{
+    let mut r = [0u8; 32];
+    let mut e: u8 = 0;
+    while e < m {
+        let at = resolving::slot_of(names, n, fields::slot_name(others, e));
+        r[laws::wide(e)] = at;
+        e += 1;
+    }
+    r
+}
+
+// The index in old of each type of d, by its name; past the last where there is none.
+pub fn images(old: diagrams::StoredDiagram, d: diagrams::StoredDiagram) -> [u8; 24]
+    requires { ⌜ Held old × Held d ⌝ }
+    ensures { λ r. ⌜ Images (diagramOf old) (diagramOf d) r ⌝ }
+{
+    let t = old.types;
+    let u = d.types;
+    types_found(&t.names, t.count as u8, &u.names, u.count as u8)
+}
+
+// Old's slot of the role of each end of d; past the last where there is none.
+pub fn slots_by(old: diagrams::StoredDiagram, d: diagrams::StoredDiagram) -> [u8; 32]
+    requires { ⌜ Held old × Held d ⌝ }
+    ensures { λ r. ⌜ SlotsBy (diagramOf old) (diagramOf d) r ⌝ }
+{
+    let a = old.associations;
+    let b = d.associations;
+    roles_found(&a.roles, (a.count * 2) as u8, &b.roles, (b.count * 2) as u8)
+}
+
+// ---- types
+
+// Type i is chosen, and its image is one of k types.
+fn is_shown(images: &[u8; 24], chosen: u32, k: u8, i: u8) -> bool
+    requires { ⌜ i < 24 ⌝ }
+    ensures { λ r. ⌜ r ≡ both (ltb (getD (now (images .entry)) i 0) k) (bit i chosen) ⌝ }
+{
+    (images[laws::wide(i)] < k) & laws::has32(chosen, i as u32)
+}
+
+// Which of k types are images of the first m types that are chosen.
+fn images_of(images: &[u8; 24], chosen: u32, m: u8, k: u8) -> u32
+    requires { ⌜ (m ≤ 24) × (k ≤ 32) ⌝ }
+    ensures { λ r. ⌜ Marks (isImage (now (images .entry)) (λ i. bit i chosen) m) k r ⌝ }
+{
+    let mut mask: u32 = 0;
+    let mut i: u8 = 0;
+    while i < m {
+        if is_shown(images, chosen, k, i) {
+            mask = laws::with32(mask, laws::byte(images, laws::wide(i)) as u32);
+        }
+        i += 1;
+    }
+    mask
+}
+
+// Which of k types are images of subtypes of x.
+fn subtypes_at<'a>(images: &'a [u8; 24], sets: &'a [u32; 24], m: u8, k: u8, x: u8) -> u32
+    requires { ⌜ (m ≤ 24) × (k ≤ 32) × (x < 32) ⌝ }
+    ensures { λ r. ⌜ Marks (isImage (now (images .entry)) (isSubtype (now (sets .entry)) x) m) k r ⌝ }
+{
+    images_of(images, type_tables::subtypes_of(sets, x), m, k)
+}
+
+// The same for each x of m types.
+fn subtypes_all<'a>(images: &'a [u8; 24], sets: &'a [u32; 24], m: u8, k: u8) -> [u32; 24]
+    requires { ⌜ (m ≤ 24) × (k ≤ 32) ⌝ }
+    ensures { λ r. ⌜ ((x : ℕ) → x < m → Marks (isImage (now (images .entry)) (isSubtype (now (sets .entry)) x) m) k (getD r x 0)) ⌝ }
+{
+    let mut r = [0u32; 24];
+    let mut x: u8 = 0;
+    while x < m {
+        let mask = subtypes_at(images, sets, m, k, x);
+        r[laws::wide(x)] = mask;
+        x += 1;
+    }
+    r
+}
+
+// The types of old whose objects are instances of each type of d.
+pub fn subtypes_by(old: diagrams::StoredDiagram, d: diagrams::StoredDiagram) -> [u32; 24]
+    requires { ⌜ Held old × Held d ⌝ }
+    ensures { λ r. ⌜ SubtypesBy (diagramOf old) (diagramOf d) r ⌝ }
+{
+    let found = images(old, d);
+    let t = old.types;
+    let u = d.types;
+    subtypes_all(&found, &u.sets, u.count as u8, t.count as u8)
+}
