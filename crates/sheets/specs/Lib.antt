@@ -1,2 +1,3 @@
 pub mod Named
 pub mod NamedIn
+pub mod RowsBy

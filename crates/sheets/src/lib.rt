@@ -9,9 +9,12 @@ ghost use Rattle.fields.specs.Slot.{slotName};
 ghost use Rattle.diagrams.specs.View.{diagramOf};
 ghost use Rattle.diagrams.specs.Held.{Held};
 ghost use Rattle.resolving.specs.Lookup.{slotOf};
-ghost use Rattle.type_tables.specs.RowsIn.{isSubtype};
-ghost use Rattle.sheets.specs.Named.{Images, SlotsBy, SubtypesBy};
+ghost use Rattle.type_tables.specs.RowsIn.{isSubtype, setOf};
+ghost use Rattle.worlds.specs.Tables.{RowTables};
+ghost use Rattle.sheets.specs.Named.{EndsBy, Images, SlotsBy, SubtypesBy};
 ghost use Rattle.sheets.specs.NamedIn.{isImage};
+
+mod places;
 
 // ---- names
 
@@ -123,4 +126,62 @@ pub fn subtypes_by(old: diagrams::StoredDiagram, d: diagrams::StoredDiagram) -> 
     let t = old.types;
     let u = d.types;
     subtypes_all(&found, &u.sets, u.count as u8, t.count as u8)
+}
+
+// ---- ends
+
+// The set of the type of each of n ends.
+fn ends_of<'a>(subtypes: &'a [u32; 24], types: &'a [u8; 32], n: u8) -> [u32; 32]
+    requires { ⌜ n ≤ 32 ⌝ }
+    ensures { λ r. ⌜ ((e : ℕ) → e < n → getD r e 0 ≡ setOf (now (subtypes .entry)) (getD (now (types .entry)) e 0)) ⌝ }
+{
+    let mut r = [0u32; 32];
+    let mut e: u8 = 0;
+    while e < n {
+        let set = type_tables::set_of(subtypes, types[laws::wide(e)]);
+        r[laws::wide(e)] = set;
+        e += 1;
+    }
+    r
+}
+
+// The types of old whose objects are instances of the type of each end of d.
+pub fn ends_by(old: diagrams::StoredDiagram, d: diagrams::StoredDiagram) -> [u32; 32]
+    requires { ⌜ Held old × Held d ⌝ }
+    ensures { λ r. ⌜ EndsBy (diagramOf old) (diagramOf d) r ⌝ }
+{
+    let subtypes = subtypes_by(old, d);
+    let a = d.associations;
+    ends_of(&subtypes, &a.types, (a.count * 2) as u8)
+}
+
+// ---- rows
+
+// What is asked of the links of an object: the types that a target may have, and how many there are at least and at most.
+pub struct Rows {
+    pub targets: [u32; 768],
+    pub lows: [u8; 768],
+    pub highs: [u8; 768],
+}
+
+// The rows that d asks for, by the types and slots of old.
+pub fn rows_by(old: diagrams::StoredDiagram, d: diagrams::StoredDiagram) -> Rows
+    requires { ⌜ Held old × Held d ⌝ }
+    ensures { λ r. ⌜ RowTables (diagramOf old) (diagramOf d) (r .targets) (r .lows) (r .highs) ⌝ }
+{
+    let sets = ends_by(old, d);
+    let slots = slots_by(old, d);
+    let t = old.types;
+    let a = d.associations;
+    let n = (a.count * 2) as u8;
+    let k = t.count as u8;
+    let limits = places::limits_of(&sets, &a.arrows, &slots, &a.lows, &a.ups, n, k);
+    let targets = places::targets_of(&sets, &a.arrows, &slots, n, k);
+    let lows = limits.lows;
+    let highs = limits.highs;
+    Rows {
+        targets: targets,
+        lows: lows,
+        highs: highs,
+    }
 }
