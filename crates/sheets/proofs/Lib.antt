@@ -6,3 +6,5 @@ pub mod PlaceLaws
 pub mod EndLaws
 pub mod MaskRowLaws
 pub mod RowLaws
+pub mod LineLaws
+pub mod LinesOfLaws

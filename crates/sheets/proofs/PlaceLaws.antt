@@ -24,7 +24,7 @@ both-off true = refl
 both-off false = refl
 
 -- below t + 1 and not t
-below-skip : (j t : ℕ) → (j ≡ t → ⊥) → ltb j (t + 1) ≡ ltb j t
+pub below-skip : (j t : ℕ) → (j ≡ t → ⊥) → ltb j (t + 1) ≡ ltb j t
 below-skip j t ne = go (decLt j t)
   where
     go : Dec (j < t) → ltb j (t + 1) ≡ ltb j t

@@ -1,3 +1,4 @@
 pub mod Named
 pub mod NamedIn
 pub mod RowsBy
+pub mod LinesBy

@@ -10,10 +10,11 @@ ghost use Rattle.diagrams.specs.View.{diagramOf};
 ghost use Rattle.diagrams.specs.Held.{Held};
 ghost use Rattle.resolving.specs.Lookup.{slotOf};
 ghost use Rattle.type_tables.specs.RowsIn.{isSubtype, setOf};
-ghost use Rattle.worlds.specs.Tables.{RowTables};
+ghost use Rattle.worlds.specs.Tables.{LinesOf, RowTables};
 ghost use Rattle.sheets.specs.Named.{EndsBy, Images, SlotsBy, SubtypesBy};
 ghost use Rattle.sheets.specs.NamedIn.{isImage};
 
+mod lines;
 mod places;
 
 // ---- names
@@ -184,4 +185,25 @@ pub fn rows_by(old: diagrams::StoredDiagram, d: diagrams::StoredDiagram) -> Rows
         lows: lows,
         highs: highs,
     }
+}
+
+// ---- associations
+
+// What d asks by its associations, by the types and slots of old.
+pub fn lines_by(old: diagrams::StoredDiagram, d: diagrams::StoredDiagram) -> worlds::Lines
+    requires { ⌜ Held old × Held d ⌝ }
+    ensures { λ r. ⌜ LinesOf (diagramOf old) (diagramOf d) r ⌝ }
+{
+    let sets = ends_by(old, d);
+    let slots = slots_by(old, d);
+    let a = d.associations;
+    lines::lines_of(
+        &sets,
+        &slots,
+        &a.arrows,
+        &a.forms,
+        &a.lows,
+        &a.ups,
+        a.count,
+    )
 }
