@@ -8,3 +8,4 @@ pub mod MaskRowLaws
 pub mod RowLaws
 pub mod LineLaws
 pub mod LinesOfLaws
+pub mod SheetLaws
