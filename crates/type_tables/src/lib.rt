@@ -136,7 +136,7 @@ fn is_subtype(sets: &[u32; 24], x: u8, u: u8) -> bool
 }
 
 // The types that count as type x.
-fn subtypes_of(sets: &[u32; 24], x: u8) -> u32
+pub fn subtypes_of(sets: &[u32; 24], x: u8) -> u32
     requires { ⌜ x < 32 ⌝ }
     ensures { λ r. ⌜ Marks (isSubtype (now (sets .entry)) x) 24 r ⌝ }
 {
@@ -166,7 +166,7 @@ fn subtype_table(sets: &[u32; 24]) -> [u32; 24]
 }
 
 // The set at x, empty past the last.
-fn set_of(table: &[u32; 24], x: u8) -> u32
+pub fn set_of(table: &[u32; 24], x: u8) -> u32
     ensures { λ r. ⌜ r ≡ setOf (now (table .entry)) x ⌝ }
 {
     let i = laws::wide(x);
@@ -177,7 +177,7 @@ fn set_of(table: &[u32; 24], x: u8) -> u32
 }
 
 // The arrow carries links to end e.
-fn is_carried(arrows: &[u8; 16], e: u8) -> bool
+pub fn is_carried(arrows: &[u8; 16], e: u8) -> bool
     requires { ⌜ e < 32 ⌝ }
     ensures { λ r. ⌜ r ≡ carriedIn (now (arrows .entry)) e ⌝ }
 {
@@ -276,21 +276,21 @@ fn row_ends(d: diagrams::StoredDiagram) -> [u32; 768]
 // ---- links: limits
 
 // The larger of two numbers.
-fn larger(a: u8, b: u8) -> u8
+pub fn larger(a: u8, b: u8) -> u8
     ensures { λ r. ⌜ r ≡ max a b ⌝ }
 {
     if a < b { b } else { a }
 }
 
 // The lesser of two numbers.
-fn lesser(a: u8, b: u8) -> u8
+pub fn lesser(a: u8, b: u8) -> u8
     ensures { λ r. ⌜ r ≡ min a b ⌝ }
 {
     if b < a { b } else { a }
 }
 
 // A limit, of which more than most is as good as most.
-fn capped(most: u8, limit: u16) -> u8
+pub fn capped(most: u8, limit: u16) -> u8
     ensures { λ r. ⌜ r ≡ min most limit ⌝ }
 {
     if limit < most as u16 {

@@ -1,0 +1,11 @@
+pub mod ArrayLaws
+pub mod ImageLaws
+pub mod NamedLaws
+pub mod GatherLaws
+pub mod PlaceLaws
+pub mod EndLaws
+pub mod MaskRowLaws
+pub mod RowLaws
+pub mod LineLaws
+pub mod LinesOfLaws
+pub mod SheetLaws

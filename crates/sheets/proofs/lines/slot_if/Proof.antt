@@ -1,0 +1,20 @@
+use Rattle.sheets.specs.LinesBy.{elementIf}
+use borrow.Author.Needs.{needs}
+use Rattle.sheets.proofs.lines.slot_if.Statement.{statement}
+use Rattle.sheets.proofs.lines.slot_if.Tie as tie
+use Rattle.sheets.proofs.lines.slot_if.Reads as reads
+use Rattle.sheets.proofs.lines.slot_if.Lts as lts
+
+element-copy-out-result : tie.Need-element-copy-out-result
+element-copy-out-result c = search needs
+
+returns : tie.Need-returns
+unfolding elementIf
+returns c = cc
+
+returns-2 : tie.Need-returns-2
+unfolding elementIf
+returns-2 c = cc
+
+pub slot-if-spec : {M : Type 1} → statement M
+slot-if-spec = tie.close (tie.spec element-copy-out-result returns returns-2)

@@ -1,0 +1,114 @@
+use Prim.Native.Nat.{ℕ, min}
+use mathlib.Core.Path.{_∙_, ap}
+use lib.ListN.{getD}
+use Rattle.sheets.specs.LinesBy.{elementIf}
+use Rattle.sheets.proofs.LineLaws.{column-with}
+use Rattle.sheets.specs.LinesBy.{counted, countedTo, countedFrom}
+use Rattle.laws.specs.Connective.{either}
+use Rattle.rules.specs.Arrow.{countedRight, countedLeft}
+use borrow.Author.Needs.{needs}
+use Rattle.sheets.proofs.lines.with_column.Statement.{statement}
+use Rattle.sheets.proofs.lines.with_column.Tie as tie
+use Rattle.sheets.proofs.lines.with_column.Reads as reads
+use Rattle.sheets.proofs.lines.with_column.Lts as lts
+use Rattle.sheets.proofs.lines.end_if.Reads as end-if-reads
+use Rattle.sheets.proofs.lines.set_if.Reads as set-if-reads
+use Rattle.sheets.proofs.lines.slot_if.Reads as slot-if-reads
+use Rattle.type_tables.proofs.capped.Reads as capped-reads
+
+element-copy-out-right : tie.Need-element-copy-out-right
+element-copy-out-right c = search needs
+
+element-copy-out-on : tie.Need-element-copy-out-on
+element-copy-out-on c = search needs
+
+end-if-requires : tie.Need-end-if-requires
+end-if-requires c κs = search needs
+
+end-if-requires-2 : tie.Need-end-if-requires-2
+end-if-requires-2 c κs = search needs
+
+slot-if-requires : tie.Need-slot-if-requires
+slot-if-requires c κs = search needs
+
+set-if-requires : tie.Need-set-if-requires
+set-if-requires c κs = search needs
+
+set-if-requires-2 : tie.Need-set-if-requires-2
+set-if-requires-2 c κs = search needs
+
+mul-capped : tie.Need-mul-capped
+mul-capped c = search needs
+
+element-copy-out-capped : tie.Need-element-copy-out-capped
+element-copy-out-capped c = search needs
+
+capped-requires : tie.Need-capped-requires
+capped-requires c κs = search needs
+
+mul-capped-2 : tie.Need-mul-capped-2
+mul-capped-2 c = search needs
+
+element-copy-out-capped-2 : tie.Need-element-copy-out-capped-2
+element-copy-out-capped-2 c = search needs
+
+capped-requires-2 : tie.Need-capped-requires-2
+capped-requires-2 c κs = search needs
+
+element-write-y : tie.Need-element-write-y
+element-write-y c = search needs
+
+mul-y : tie.Need-mul-y
+mul-y c = search needs
+
+element-write-y-2 : tie.Need-element-write-y-2
+element-write-y-2 c = search needs
+
+mul-y-2 : tie.Need-mul-y-2
+mul-y-2 c = search needs
+
+element-write-y-3 : tie.Need-element-write-y-3
+element-write-y-3 c = search needs
+
+element-write-y-4 : tie.Need-element-write-y-4
+element-write-y-4 c = search needs
+
+element-write-y-5 : tie.Need-element-write-y-5
+element-write-y-5 c = search needs
+
+returns : tie.Need-returns
+unfolding counted countedTo countedFrom either countedRight countedLeft
+returns c = let a = c .before .before .before .before .before .before .before .before .before .before .before .args in
+    let to = c .before .before .before .before .before .before .before .before .end-if .ensures .0 in
+    let from = c .before .before .before .before .before .before .before .end-if2 .ensures .0 in
+    column-with (a .sets .now) (a .slots .now) (a .arrows .now) (a .lows .now) (a .ups .now) (a .x) (a .j)
+    (c .before .before .before .before .before .before .slot-if .ensures ∙ ap (elementIf (counted (a .arrows .now) (a .j)) (a .slots .now)) to)
+    (c .before .before .before .before .before .set-if .ensures ∙ ap (elementIf (counted (a .arrows .now) (a .j)) (a .sets .now)) from)
+    (c .before .before .before .before .set-if2 .ensures ∙ ap (elementIf (counted (a .arrows .now) (a .j)) (a .sets .now)) to)
+    (c .before .before .capped .ensures ∙ ap (λ (i : ℕ). min 9 (getD (a .lows .now) i 0)) from) (c .capped2 .ensures ∙ ap (λ (i : ℕ). min 8 (getD (a .ups .now) i 0)) from)
+
+pub with-column-spec : {M : Type 1} → statement M
+with-column-spec =
+    tie.close
+    (tie.spec
+    element-copy-out-right
+    element-copy-out-on
+    end-if-requires
+    end-if-requires-2
+    slot-if-requires
+    set-if-requires
+    set-if-requires-2
+    mul-capped
+    element-copy-out-capped
+    capped-requires
+    mul-capped-2
+    element-copy-out-capped-2
+    capped-requires-2
+    element-write-y
+    mul-y
+    element-write-y-2
+    mul-y-2
+    element-write-y-3
+    element-write-y-4
+    element-write-y-5
+    returns)

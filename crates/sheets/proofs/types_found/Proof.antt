@@ -1,0 +1,71 @@
+use native.Mathlib.Omega.{arith}
+use Prim.Native.Nat.{ℕ, _≤_, _<_, _-_}
+use mathlib.Core.Path.{_≡_, ap, _∙_}
+use borrow.Author.Count.{below-none}
+use lib.ListN.{getD, length}
+use Rattle.fields.specs.Slot.{slotName}
+use Rattle.laws.proofs.ListLaws.{set-more}
+use Rattle.resolving.specs.Lookup.{slotOf}
+use borrow.Author.Needs.{needs}
+use Rattle.sheets.proofs.types_found.Statement.{statement}
+use Rattle.sheets.proofs.types_found.Tie as tie
+use Rattle.sheets.proofs.types_found.Reads as reads
+use Rattle.sheets.proofs.types_found.Lts as lts
+use Rattle.fields.proofs.slot_name.Reads as slot-name-reads
+use Rattle.laws.proofs.wide.Reads as wide-reads
+use Rattle.resolving.proofs.slot_of.Reads as slot-of-reads
+
+abbrev Inv-loop : tie.InvT-loop
+Inv-loop names n others m r₀ i₀ r i = (i ≤ m) × (length r ≡ 24) × ((j : ℕ) → j < i → getD r j 0 ≡ slotOf names n (slotName others j))
+
+abbrev μ-loop : tie.MeasureT-loop
+μ-loop names n others m r₀ i₀ r i = m - i
+
+loop-holds : tie.Need-loop-holds Inv-loop μ-loop
+loop-holds c = (search needs, search needs, below-none _)
+
+slot-name-requires : tie.Need-slot-name-requires Inv-loop μ-loop
+slot-name-requires c κs = search needs
+
+slot-of-requires : tie.Need-slot-of-requires Inv-loop μ-loop
+slot-of-requires c κs = search needs
+
+wide-requires : tie.Need-wide-requires Inv-loop μ-loop
+wide-requires c κs = search needs
+
+array-write-r : tie.Need-array-write-r Inv-loop μ-loop
+array-write-r c = search needs
+
+add-i : tie.Need-add-i Inv-loop μ-loop
+add-i c = search needs
+
+loop-less : tie.Need-loop-less Inv-loop μ-loop
+loop-less c = search needs
+
+loop-again : tie.Need-loop-again Inv-loop μ-loop
+loop-again c = let l = c .before .before .before .before .before .before .loop in
+    let a = c .before .before .before .before .before .before .before .args in
+    let s = c .before .slot-of in (
+      search needs,
+      search needs,
+      rw (c .wide .ensures .0) (set-more (λ (j v : ℕ). v ≡ slotOf (a .names .now) (a .n) (slotName (a .others .now) j)) (l .r) (l .i) (s .result) (omega arith) (l .inv .2) (s .ensures .0 ∙ ap (slotOf (a .names .now) (a .n)) (c .before .before .slot-name .ensures))),
+    )
+
+returns : tie.Need-returns Inv-loop μ-loop
+returns c = λ i h. c .before .loop .inv .2 i (omega arith)
+
+pub types-found-spec : {M : Type 1} → statement M
+types-found-spec =
+    tie.close
+    (tie.spec
+    Inv-loop
+    μ-loop
+    loop-holds
+    slot-name-requires
+    slot-of-requires
+    wide-requires
+    array-write-r
+    add-i
+    loop-less
+    loop-again
+    returns)

@@ -1,0 +1,4 @@
+pub mod Named
+pub mod NamedIn
+pub mod RowsBy
+pub mod LinesBy
