@@ -10,3 +10,4 @@ pub mod StoredLaws
 pub mod TranslatedLaws
 pub mod ChosenLaws
 pub mod FilledLaws
+pub mod BreaksLaws
