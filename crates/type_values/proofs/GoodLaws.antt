@@ -119,7 +119,7 @@ module _ (old new : Diagram) (r : Record) (m : MemoryRecord) (stands : Stands ol
         → declared old (alone (typeAt old (typeOf o) .name)) 0 w ≡ declared new (alone (typeAt old (typeOf o) .name)) 0 w → rule3For new (siteOf r) o w ≡ true
     unfolding rule3For siteOf
     rule3-name o w l e =
-        let q : hasValue r o w ≡ declared new (siteOf r) o w = has-declared old (stands .wf-diagram) r (stands .wf-record) legal o w l
+        let q : hasValue r o w ≡ declared new (siteOf r) o w = has-declared old r legal o w l
         ∙ subst (λ (n : Name). declared old (alone n) 0 w ≡ declared new (alone n) 0 w) (type-name o l) e
         ∙ sym (declared-alone new (siteOf r) o (objectType r o) (record-typed r o) w) in
         same-iff (hasValue r o w) (declared new (siteOf r) o w) .1 ((λ h. sym q ∙ h), (λ h. q ∙ h))

@@ -110,12 +110,12 @@ module _ (old new : Diagram) (wold : WfDiagram old) (wnew : WfDiagram new) (t : 
   -- ---- values
 
   -- what is asked of the value with code k
-  asked-of : (s k : ℕ) → rule4At new (alone name) (codedValue old s k) ≡ fitsDue new (codedValue old s k) (dueNew (attributeAt old s .name))
+  pub asked-of : (s k : ℕ) → rule4At new (alone name) (codedValue old s k) ≡ fitsDue new (codedValue old s k) (dueNew (attributeAt old s .name))
   unfolding codedValue
   asked-of s k = named-fits new wnew name (codedValue old s k)
 
   -- new asks for the value type of the same name, which lacks none
-  kept-code : (s k : ℕ) → dueNew (attributeAt old s .name) ≡ 1 + sameType old new (k / 8) → firstLacking old new (k / 8) ≡ 8 → constantKnown old k ≡ true
+  pub kept-code : (s k : ℕ) → dueNew (attributeAt old s .name) ≡ 1 + sameType old new (k / 8) → firstLacking old new (k / 8) ≡ 8 → constantKnown old k ≡ true
       → rule4At new (alone name) (codedValue old s k) ≡ true
   kept-code s k e f c =
       let few = wnew .few-value-types in

@@ -85,7 +85,7 @@ pub record-typed : (r : Record) (o : ℕ) → Typed (siteOf r) o (objectType r o
 unfolding siteOf
 record-typed r o v = refl
 
-module _ (d : Diagram) (wf : WfDiagram d) (r : Record) (names : WfRecord r) (legal : Legal d r) where
+module _ (d : Diagram) (r : Record) (legal : Legal d r) where
   -- rule 3: for each name, also one that the diagram lacks
   pub has-declared : (o : ℕ) (w : Name) → o < objectCount r → hasValue r o w ≡ declared d (alone (objectType r o)) 0 w
   has-declared o w l = same-test _ _ forth back
@@ -113,6 +113,7 @@ module _ (d : Diagram) (wf : WfDiagram d) (r : Record) (names : WfRecord r) (leg
           (same-iff (hasValue r o (attributeAt d (a .0) .name)) (declared d (siteOf r) o (attributeAt d (a .0) .name)) .0 (asked (a .0) (a .1)) .1
           (s (attributeAt d (a .0) .name) ∙ subst (λ (v : Name). declared d (alone (objectType r o)) 0 v ≡ true) (sym name) e))
 
+module _ (d : Diagram) (wf : WfDiagram d) (r : Record) (names : WfRecord r) (legal : Legal d r) where
   -- rules 3 and 4: each value has a code, of the value type that is due
   pub value-due : (i : ℕ) → i < length (r .values)
       → (k : ℕ) × Coded d (valueAt r i) k × (dueNamed d (objectType r (valueAt r i .object)) (valueAt r i .attribute) ≡ 1 + k / 8)

@@ -8,3 +8,6 @@ pub mod KeptLaws
 pub mod WayLaws
 pub mod StoredLaws
 pub mod TranslatedLaws
+pub mod ChosenLaws
+pub mod FilledLaws
+pub mod BreaksLaws

@@ -3,3 +3,4 @@ pub mod Named
 pub mod Lacking
 pub mod Tables
 pub mod Numbers
+pub mod Filled
