@@ -1,0 +1,3 @@
+pub mod RenumberLaws
+pub mod BlindLaws
+pub mod BringLaws
