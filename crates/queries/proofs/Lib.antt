@@ -1,2 +1,4 @@
 pub mod TypeLaws
 pub mod AskedLaws
+pub mod BreakLaws
+pub mod AvoidedLaws
