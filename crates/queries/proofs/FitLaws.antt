@@ -1,8 +1,10 @@
 -- The queries that are asked, and that a search takes them.
 -- Assumes nothing.
 use Prim.Native.Nat.{_<_, ℕ}
+use mathlib.Core.Path.{_≡_, subst, sym}
 use native.Mathlib.Omega.{arith}
 use Rattle.worlds.specs.declared.Query.{Query}
+use Rattle.worlds.specs.Asked.{Sane}
 use Rattle.queries.specs.Forms.{barred, linked, seeded}
 use Rattle.queries.proofs.AskedLaws.{Fit, fit-barred, fit-linked, fit-seeded}
 
@@ -52,3 +54,6 @@ fit-own s a b h = fit-linked 2 (seeded 2 a b 0) s (fit-seeded 2 a b 0 (omega ari
 
 pub fit-own-part : (s u a b : ℕ) → s < 32 → u < 32 → Fit 2 (ownPartQuery s u a b)
 fit-own-part s u a b h k = fit-linked 2 (linked (seeded 2 a b 0) s 0 0) u (fit-own s a b h) k 1 0 (omega arith) (omega arith)
+
+pub sane-of : {k : ℕ} {q z : Query} → q ≡ z → Fit k z → Sane q
+sane-of e f = subst Sane (sym e) (f .sane)
