@@ -1,1 +1,2 @@
 pub mod SkipLaws
+pub mod RowLaws
