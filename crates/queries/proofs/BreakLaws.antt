@@ -39,3 +39,8 @@ module _ (x : Sheet) (n : ℕ) (ok : Bool) (m : World) where
     broken = λ t. sound m (a .sound t .allowed) (a .sound t .asked);
     kept = λ t w h e. complete w h (λ v g z s. a .complete t v (record { allowed = g; asked = s; size = z ∙ e }));
   }
+
+  -- another name for K, among allowed worlds
+  pub breaks-same : (K L : World → Type 0) → ((w : World) → Allowed x w → K w → L w) → ((w : World) → Allowed x w → L w → K w) → Breaks x L n ok m → Breaks x K n ok m
+  breaks-same K L f g b =
+      record { allowed = b .allowed; size = b .size; broken = λ t k. b .broken t (f m (b .allowed t) k); kept = λ t w a e. g w a (b .kept t w a e) }

@@ -1,0 +1,65 @@
+-- `find_pair` meets its contract.
+-- Assumes nothing.
+use borrow.Author.Needs.{needs}
+use Rattle.aims.proofs.wholes.find_pair.Statement.{statement}
+use Rattle.aims.proofs.wholes.find_pair.Tie as tie
+
+element-copy-out-s : tie.Need-element-copy-out-s
+element-copy-out-s c = search needs
+
+element-copy-out-u : tie.Need-element-copy-out-u
+element-copy-out-u c = search needs
+
+nothing-requires : tie.Need-nothing-requires
+nothing-requires c κs = search needs
+
+returns : tie.Need-returns
+returns c = ?
+
+nothing-requires-2 : tie.Need-nothing-requires-2
+nothing-requires-2 c κs = search needs
+
+returns-2 : tie.Need-returns-2
+returns-2 c = ?
+
+nothing-requires-3 : tie.Need-nothing-requires-3
+nothing-requires-3 c κs = search needs
+
+returns-3 : tie.Need-returns-3
+returns-3 c = ?
+
+mul-common : tie.Need-mul-common
+mul-common c = search needs
+
+element-copy-out-common : tie.Need-element-copy-out-common
+element-copy-out-common c = search needs
+
+mul-common-2 : tie.Need-mul-common-2
+mul-common-2 c = search needs
+
+element-copy-out-common-2 : tie.Need-element-copy-out-common-2
+element-copy-out-common-2 c = search needs
+
+common-requires : tie.Need-common-requires
+common-requires c κs = search needs
+
+mul-find-parts : tie.Need-mul-find-parts
+mul-find-parts c = search needs
+
+element-copy-out-find-parts : tie.Need-element-copy-out-find-parts
+element-copy-out-find-parts c = search needs
+
+mul-find-parts-2 : tie.Need-mul-find-parts-2
+mul-find-parts-2 c = search needs
+
+element-copy-out-find-parts-2 : tie.Need-element-copy-out-find-parts-2
+element-copy-out-find-parts-2 c = search needs
+
+find-parts-requires : tie.Need-find-parts-requires
+find-parts-requires c κs = search needs
+
+returns-4 : tie.Need-returns-4
+returns-4 c = ?
+
+pub find-pair-spec : {M : Type 1} → statement M
+find-pair-spec = tie.close (tie.spec element-copy-out-s element-copy-out-u nothing-requires returns nothing-requires-2 returns-2 nothing-requires-3 returns-3 mul-common element-copy-out-common mul-common-2 element-copy-out-common-2 common-requires mul-find-parts element-copy-out-find-parts mul-find-parts-2 element-copy-out-find-parts-2 find-parts-requires returns-4)
