@@ -1,5 +1,7 @@
--- `find_column` meets its contract.
+-- `find_column` meets its contract: one limit after the other.
 -- Assumes nothing.
+use Rattle.aims.proofs.ColumnLaws.{column-both, column-least, column-most}
+use Rattle.queries.proofs.BreakLaws.{breaks-hit, breaks-last}
 use borrow.Author.Needs.{needs}
 use Rattle.aims.proofs.columns.find_column.Statement.{statement}
 use Rattle.aims.proofs.columns.find_column.Tie as tie
@@ -26,7 +28,7 @@ find-few-requires : tie.Need-find-few-requires
 find-few-requires c κs = search needs
 
 returns : tie.Need-returns
-returns c = ?
+returns c = breaks-hit _ _ _ _ _ _ (c .if1 .taken) (column-least _ _) (c .before .find-few .ensures)
 
 element-copy-out-find-many : tie.Need-element-copy-out-find-many
 element-copy-out-find-many c = search needs
@@ -35,7 +37,9 @@ find-many-requires : tie.Need-find-many-requires
 find-many-requires c κs = search needs
 
 returns-2 : tie.Need-returns-2
-returns-2 c = ?
+returns-2 c =
+    let b = c .before .before in
+    breaks-last _ _ _ _ _ _ (column-most _ _) (λ w h e. column-both _ _ w (b .before .find-few .ensures .kept (b .if1 .left) w h e)) (c .find-many .ensures)
 
 pub find-column-spec : {M : Type 1} → statement M
 find-column-spec = tie.close (tie.spec element-copy-out-s mul-a element-copy-out-a mul-f element-copy-out-f element-copy-out-find-few find-few-requires returns element-copy-out-find-many find-many-requires returns-2)

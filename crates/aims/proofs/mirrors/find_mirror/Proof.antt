@@ -1,5 +1,7 @@
--- `find_mirror` meets its contract.
+-- `find_mirror` meets its contract: one way and the other.
 -- Assumes nothing.
+use Rattle.aims.proofs.MirrorLaws.{mirror-back, mirror-both, mirror-there}
+use Rattle.queries.proofs.BreakLaws.{breaks-hit, breaks-last}
 use borrow.Author.Needs.{needs}
 use Rattle.aims.proofs.mirrors.find_mirror.Statement.{statement}
 use Rattle.aims.proofs.mirrors.find_mirror.Tie as tie
@@ -26,13 +28,15 @@ find-halves-requires : tie.Need-find-halves-requires
 find-halves-requires c κs = search needs
 
 returns : tie.Need-returns
-returns c = ?
+returns c = breaks-hit _ _ _ _ _ _ (c .if1 .taken) (mirror-there _ _) (c .before .find-halves .ensures)
 
 find-halves-requires-2 : tie.Need-find-halves-requires-2
 find-halves-requires-2 c κs = search needs
 
 returns-2 : tie.Need-returns-2
-returns-2 c = ?
+returns-2 c =
+    let b = c .before in
+    breaks-last _ _ _ _ _ _ (mirror-back _ _) (λ w h e. mirror-both _ _ w (b .before .find-halves .ensures .kept (b .if1 .left) w h e)) (c .find-halves2 .ensures)
 
 pub find-mirror-spec : {M : Type 1} → statement M
 find-mirror-spec = tie.close (tie.spec element-copy-out-s element-copy-out-u mul-a element-copy-out-a mul-b element-copy-out-b find-halves-requires returns find-halves-requires-2 returns-2)
