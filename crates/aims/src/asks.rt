@@ -7,7 +7,7 @@ ghost use Rattle.worlds.specs.Asked.{Breaks, worldBuilt};
 ghost use Rattle.queries.specs.Avoided.{PairsAvoided, LinksAvoided, LoopsAvoided, RowsAvoided, ColumnsAvoided, HalvesAvoided, HalfLoopsAvoided, PartsAvoided, OwnPartsAvoided};
 use worlds::Built;
 use worlds::Lines;
-use crate::growth::find;
+use growth::find;
 
 // Nothing was found.
 pub fn nothing() -> Built

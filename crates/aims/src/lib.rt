@@ -10,7 +10,6 @@ use worlds::Lines;
 
 mod asks;
 mod columns;
-mod growth;
 mod mirrors;
 mod rows;
 mod singles;

@@ -1,0 +1,3 @@
+pub mod Wishes
+pub mod Families
+pub mod Refuted

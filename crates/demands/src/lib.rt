@@ -1,0 +1,96 @@
+// Which types one more object must have, and which queries have no solution at all: what a search by types asks before it looks at links.
+ghost use mathlib.Core.Path.{_≡_};
+ghost use mathlib.Core.Bool.{_&&_, not, true};
+ghost use Prim.Native.Nat.{ℕ, _<_, _≤_};
+ghost use lib.Dec.{ltb};
+ghost use lib.ListN.{getD};
+ghost use Rattle.growing.specs.Growth.{Demanded, Nowhere};
+ghost use Rattle.worlds.specs.Kept.{Slotted, Turned, sheet};
+ghost use Rattle.worlds.specs.Asked.{Sane, Solution};
+
+mod bits;
+mod columns;
+mod needs;
+mod rows;
+mod sets;
+mod singles;
+
+// dead: no world that is looked for starts with the given types. Else one more object has a type of the mask g.
+pub struct Wish {
+    pub dead: bool,
+    pub g: u32,
+}
+
+// The types of the first k objects, how many more there can be, and the types that these can have.
+struct Start {
+    types: [u8; 8],
+    k: u8,
+    spare: u8,
+    free: u32,
+}
+
+// What the first k objects, whose types are given, demand of one more object in a world of n objects.
+pub fn demand<'a>(
+    targets: &'a [u32; 768],
+    sources: &'a [u32; 768],
+    lows: &'a [u8; 768],
+    highs: &'a [u8; 768],
+    lines: worlds::Lines,
+    usable: u32,
+    singles: u32,
+    q: worlds::Query,
+    types: [u8; 8],
+    k: u8,
+    forb: u32,
+    n: u8,
+) -> Wish
+    requires { ⌜ Slotted lines × Turned (now targets) (now sources) × Sane q × (q .seeds ≤ k) × (k ≤ n) × (n ≤ 8) × ((o : ℕ) → getD types o 0 < 24) ⌝ }
+    ensures { λ r. ⌜ Demanded (Solution (sheet usable singles (now (targets .entry)) (now (lows .entry)) (now (highs .entry)) lines) q n) 24 types k forb n (r .dead) (ltb k n) (r .g) ⌝ }
+{
+    let here = sets::types_present(&types, k);
+    let free = sets::types_free(usable, singles, forb, here);
+    let s = Start {
+        types,
+        k,
+        spare: n - k,
+        free,
+    };
+    let any = Wish {
+        dead: false,
+        g: free,
+    };
+    let single = singles::with_singles(any, s, singles, here);
+    if single.dead {
+        return single;
+    }
+    let shut = q.shut;
+    let row = rows::with_rows(single, s, targets, lows, highs, &shut);
+    if row.dead {
+        return row;
+    }
+    let column = columns::with_columns(row, s, sources, lines);
+    if column.dead | (q.seeds == 0) {
+        return column;
+    }
+    let own = rows::with_first_row(column, s, targets, lows, highs, &shut, q.row, q.low, q.high);
+    columns::with_sources(own, s, sources, q.column, q.from, q.least, q.most, 0)
+}
+
+// Whether the query contradicts the tables, where its seeds have the given types.
+pub fn is_implied<'a>(
+    targets: &'a [u32; 768],
+    sources: &'a [u32; 768],
+    lows: &'a [u8; 768],
+    highs: &'a [u8; 768],
+    lines: worlds::Lines,
+    usable: u32,
+    singles: u32,
+    q: worlds::Query,
+    types: [u8; 8],
+    n: u8,
+) -> bool
+    requires { ⌜ Slotted lines × Turned (now targets) (now sources) × Sane q × (n ≤ 8) × ((o : ℕ) → getD types o 0 < 24) ⌝ }
+    ensures { λ b. ⌜ (b ≡ true → Nowhere (Solution (sheet usable singles (now (targets .entry)) (now (lows .entry)) (now (highs .entry)) lines) q n) types (q .seeds) (q .never) n) ⌝ }
+{
+    false
+}

@@ -1,0 +1,2 @@
+pub mod FullLaws
+pub mod SeedLaws

@@ -1,0 +1,12 @@
+pub mod FilledLaws
+pub mod MaskLaws
+pub mod ArrayLaws
+pub mod FittingLaws
+pub mod WithinLaws
+pub mod RetypedLaws
+pub mod NetCountLaws
+pub mod RowLaws
+pub mod ColumnLaws
+pub mod PairLaws
+pub mod MayLaws
+pub mod EndLaws
