@@ -1,0 +1,7 @@
+pub mod SkipLaws
+pub mod TwoLaws
+pub mod RowLaws
+pub mod ColumnLaws
+pub mod SingleLaws
+pub mod MirrorLaws
+pub mod WholeLaws

@@ -1,0 +1,19 @@
+-- Two compositions at a time: the pair i is i / 16 and i % 16.
+-- Assumes nothing.
+use Prim.Native.Nat.{_%_, _/_, _<_, _≤_, ℕ}
+use mathlib.Core.Bool.{true}
+use mathlib.Core.Path.{_≡_}
+use Rattle.laws.specs.Bits.{bit}
+use Rattle.growing.specs.World.{World}
+use Rattle.worlds.specs.declared.Lines.{Lines}
+use Rattle.worlds.specs.Kept.{wholeBy}
+
+-- no object of the types a is a target of two objects, of one of the types b in slot s, of one of the types c in slot u
+pub record AllPartsAvoided (s u a b c : ℕ) (w : World) : Type 0 where
+  pub at : (p o r : ℕ) → p < w .size → o < w .size → r < w .size → (o ≡ r → ⊥)
+      → bit (w .kind p) a ≡ true → bit (w .kind o) b ≡ true → bit (w .kind r) c ≡ true → w .link s o p ≡ true → w .link u r p ≡ true → ⊥
+
+-- no object is a part of two, by the first and by the second of the pair; a pair and the pair turned round say the same
+pub record PairApart (x : Lines) (i : ℕ) (w : World) : Type 0 where
+  pub at : (p o r : ℕ) → p < w .size → o < w .size → r < w .size → (o ≡ r → ⊥) → i / 16 ≤ i % 16
+      → wholeBy x w p o (i / 16) ≡ true → wholeBy x w p r (i % 16) ≡ true → ⊥

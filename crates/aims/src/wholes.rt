@@ -1,0 +1,100 @@
+// Wholes: each object is a part of at most one. A slot past the last has no links.
+ghost use mathlib.Core.Path.{_≡_};
+ghost use Prim.Native.Nat.{ℕ, _<_, _≤_};
+ghost use Rattle.worlds.specs.Kept.{Slotted, Turned, WholesKept, sheet};
+ghost use Rattle.worlds.specs.Asked.{Breaks, worldBuilt};
+ghost use Rattle.aims.specs.Wholes.{AllPartsAvoided, PairApart};
+use worlds::Built;
+use worlds::Lines;
+use crate::asks::ask_own_parts;
+use crate::asks::ask_parts;
+use crate::asks::nothing;
+
+// An object of the types a that is a target of two, of the types b in slot s and of the types c in slot u. One of them may be itself.
+fn find_parts<'a>(
+    targets: &'a [u32; 768],
+    sources: &'a [u32; 768],
+    lows: &'a [u8; 768],
+    highs: &'a [u8; 768],
+    lines: Lines,
+    usable: u32,
+    singles: u32,
+    n: u8,
+    s: u8,
+    u: u8,
+    a: u32,
+    b: u32,
+    c: u32,
+) -> Built
+    requires { ⌜ Slotted lines × Turned (now targets) (now sources) × (n ≤ 8) × (s < 32) × (u < 32) ⌝ }
+    ensures { λ r. ⌜ Breaks (sheet usable singles (now (targets .entry)) (now (lows .entry)) (now (highs .entry)) lines) (AllPartsAvoided s u a b c) n (r .ok) (worldBuilt n r) ⌝ }
+{
+    let r = ask_parts(targets, sources, lows, highs, lines, usable, singles, n, s, u, a, b, c);
+    if r.ok {
+        return r;
+    }
+    let v = ask_own_parts(targets, sources, lows, highs, lines, usable, singles, n, s, u, queries::common(a, b), c);
+    if v.ok {
+        return v;
+    }
+    ask_own_parts(targets, sources, lows, highs, lines, usable, singles, n, u, s, queries::common(a, c), b)
+}
+
+// An object that is a part of two, by the pair i of the other diagram's compositions.
+fn find_pair<'a>(
+    targets: &'a [u32; 768],
+    sources: &'a [u32; 768],
+    lows: &'a [u8; 768],
+    highs: &'a [u8; 768],
+    lines: Lines,
+    usable: u32,
+    singles: u32,
+    n: u8,
+    i: usize,
+    others: Lines,
+) -> Built
+    requires { ⌜ Slotted lines × Turned (now targets) (now sources) × (n ≤ 8) × (i < 256) ⌝ }
+    ensures { λ r. ⌜ Breaks (sheet usable singles (now (targets .entry)) (now (lows .entry)) (now (highs .entry)) lines) (PairApart others i) n (r .ok) (worldBuilt n r) ⌝ }
+{
+    let j = i / 16;
+    let k = i % 16;
+    let s = others.wholeslot[j];
+    let u = others.wholeslot[k];
+    if k < j {
+        return nothing();
+    }
+    if 32 <= s {
+        return nothing();
+    }
+    if 32 <= u {
+        return nothing();
+    }
+    let a = queries::common(others.wholeto[j], others.wholeto[k]);
+    find_parts(targets, sources, lows, highs, lines, usable, singles, n, s, u, a, others.wholefrom[j], others.wholefrom[k])
+}
+
+// An object that is a part of two.
+pub fn find_wholes<'a>(
+    targets: &'a [u32; 768],
+    sources: &'a [u32; 768],
+    lows: &'a [u8; 768],
+    highs: &'a [u8; 768],
+    lines: Lines,
+    usable: u32,
+    singles: u32,
+    n: u8,
+    others: Lines,
+) -> Built
+    requires { ⌜ Slotted lines × Turned (now targets) (now sources) × (n ≤ 8) ⌝ }
+    ensures { λ r. ⌜ Breaks (sheet usable singles (now (targets .entry)) (now (lows .entry)) (now (highs .entry)) lines) (WholesKept others) n (r .ok) (worldBuilt n r) ⌝ }
+{
+    let mut i: usize = 0;
+    while i < 256 {
+        let r = find_pair(targets, sources, lows, highs, lines, usable, singles, n, i, others);
+        if r.ok {
+            return r;
+        }
+        i += 1;
+    }
+    nothing()
+}

@@ -1,0 +1,7 @@
+pub mod TypeLaws
+pub mod AskedLaws
+pub mod FitLaws
+pub mod SeedLaws
+pub mod BreakLaws
+pub mod AvoidedLaws
+pub mod PartLaws
