@@ -1,3 +1,4 @@
 pub mod PossibleLaws
 pub mod CompleteLaws
 pub mod SoundLaws
+pub mod FilledLaws

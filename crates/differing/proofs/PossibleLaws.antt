@@ -52,7 +52,7 @@ module _ (old : Diagram) (r : Record) (m : MemoryRecord) (h : Stands old r m) (l
       let named : dueNamed old (objectType r o) w ≡ due old (kindOf o) s =
       ap (λ (v : Name). dueNamed old v w) (sym (kind-name o l)) ∙ named-own old (h .wf-diagram) (kindOf o) (type-known h legal o l) w ∙ ap (due old (kindOf o)) own in
       let has : hasValue r o w ≡ true =
-      has-declared old (h .wf-diagram) r (h .wf-record) legal o w below ∙ named-declared old (h .wf-diagram) (objectType r o) w ∙ ap (λ (e : ℕ). not (eqb e 0)) named ∙ ap not (ne-eqb _ 0 n) in
+      has-declared old r legal o w below ∙ named-declared old (h .wf-diagram) (objectType r o) w ∙ ap (λ (e : ℕ). not (eqb e 0)) named ∙ ap not (ne-eqb _ 0 n) in
       let i = any-at _ (length (r .values)) has in
       let object : valueAt r (i .0) .object ≡ o = eqb-true _ _ (both-left _ _ (i .2)) in
       let attribute : valueAt r (i .0) .attribute ≡ w = same-equal _ _ (both-right _ _ (i .2)) in

@@ -1,43 +1,57 @@
--- From the blank record on, the search answers for every record of names: the one in memory that stands for it is a completion.
+-- Each way out of the search. Where every allowed world of n objects keeps new's tables, every legal record is legal for new; where one
+-- does not, the record that is filled for it is a witness.
 -- Assumes nothing.
-use Prim.Native.Nat.{ℕ}
-use mathlib.Core.List.{List, _++_}
-use mathlib.Core.Path.{_∙_, _≡_, ap, refl, subst, sym}
-use lib.ListN.{getD, replicate, replicate-append-replicate}
+use Prim.Native.Nat.{_<_, _≤_, ℕ}
+use mathlib.Core.Bool.{Bool, false, not, true, true≢false}
+use mathlib.Core.List.{List}
+use mathlib.Core.Path.{_∙_, _≡_, sym}
+use lib.ListN.{getD, length}
+use borrow.Author.Tests.{ltb-true, not-true}
+use Rattle.laws.proofs.ConnectiveLaws.{both-left}
 use Rattle.files.specs.Diagram.{Diagram}
+use Rattle.files.specs.Record.{Record, objectCount}
 use Rattle.files.specs.WellFormedDiagram.{WfDiagram}
 use Rattle.records.specs.declared.MemoryRecord.{MemoryRecord}
 use Rattle.fillings.specs.Memory.{memoryOf}
-use Rattle.fillings.specs.Spots.{Blank, Choices, Completes, blank, spots}
-use Rattle.searching.specs.Answer.{Answer, Level}
-use Rattle.searching.specs.declared.Found.{Found}
-use Rattle.fillings.proofs.ChoiceLaws.{legal-completes}
 use Rattle.fillings.proofs.MemoryLaws.{memory-stands}
-use Rattle.searching.proofs.RowLaws.{zeros}
+use Rattle.worlds.specs.Asked.{Breaks, worldBuilt}
+use Rattle.worlds.specs.Kept as worlds
+use Rattle.worlds.specs.Kept.{Sheet, worldIn, worldOf}
+use Rattle.worlds.specs.declared.Built.{Built}
+use Rattle.worlds.specs.declared.Lines.{Lines}
+use Rattle.type_values.specs.Filled.{Filled}
+use Rattle.differing.proofs.CompleteLaws.{keeps-legal, legal-allowed}
+use Rattle.differing.proofs.FilledLaws.{filled-witness}
+use Rattle.searching.specs.Answer.{Level}
+use Rattle.searching.specs.Ready.{Ready}
+use Rattle.searching.specs.declared.Found.{Found}
 
-blank-count : (n : ℕ) → blank n .count ≡ n
-unfolding blank
-blank-count n = refl
+module _ {old new : Diagram} {dues : List ℕ} {x : Sheet} {sources : List ℕ} {bad singles : ℕ} {missing : Bool} {targets lows highs : List ℕ} {y : Lines} {n : ℕ} {b : Built}
+    (wo : WfDiagram old) (wn : WfDiagram new) (ready : Ready old new dues x sources bad singles missing targets lows highs y)
+    (breaks : Breaks x (worlds.Keeps bad singles missing targets lows highs y) n (b .ok) (worldBuilt n b)) where
+  -- a record has as many objects in memory
+  memory-size : (r : Record) → objectCount r ≡ n → worldOf (memoryOf old r) .size ≡ n
+  unfolding worldIn memoryOf
+  memory-size r e = e
 
-blank-zeros : (n : ℕ) → spots (blank n) ≡ replicate 520 0
-unfolding blank
-blank-zeros n =
-    ap (λ (x : List ℕ). replicate 8 0 ++ x) (replicate-append-replicate 256 256 0) ∙ replicate-append-replicate 8 512 0
+  pub level-none : {f : Found} → not (b .ok) ≡ true → f .ok ≡ false → Level old new n f
+  level-none none e = record {
+    count = λ t. absurd (true≢false (sym t ∙ e));
+    sound = λ t. absurd (true≢false (sym t ∙ e));
+    complete = λ _ r wfr size legal illegal.
+        let h = memory-stands old r wo wfr in
+        illegal (keeps-legal old new r (memoryOf old r) h legal wn bad singles missing targets lows highs y (ready .others-are)
+        (breaks .kept (not-true _ none) (worldOf (memoryOf old r)) (legal-allowed old new r (memoryOf old r) h legal x (ready .sheet-is)) (memory-size r size)));
+  }
 
-module _ (n : ℕ) {m : MemoryRecord} (e : m ≡ blank n) where
-  pub count-blank : m .count ≡ n
-  count-blank = ap (λ (x : MemoryRecord). x .count) e ∙ blank-count n
+  -- the types of what was found are types of old
+  pub built-known : b .ok ≡ true → (o : ℕ) → o < n → getD (b .types) o 0 < length (old .types)
+  unfolding worldIn
+  built-known ok o l = ltb-true _ _ (both-left _ _ (sym (ready .sheet-is .usable .at (getD (b .types) o 0)) ∙ breaks .allowed ok .usable o l))
 
-  pub all-blank : Blank m 0
-  all-blank i h = ap (λ (x : MemoryRecord). getD (spots x) i 0) e ∙ ap (λ (x : List ℕ). getD x i 0) (blank-zeros n) ∙ zeros 520 i
-
-  pub level : {old new : Diagram} {limits : List ℕ} {f : Found} → WfDiagram old → Choices old n limits → Answer old new limits m 0 f → Level old new n f
-  level {old = old} {limits = limits} wf choices a = record {
-    count = λ h. a .count h ∙ count-blank;
-    sound = a .sound;
-    complete = λ h r wfr size legal illegal.
-        let completes = legal-completes old r limits wf wfr legal (subst (λ (k : ℕ). Choices old k limits) (sym size) choices) in
-        a .complete h (memoryOf old r)
-        (subst (λ (x : MemoryRecord). Completes limits x 0 (memoryOf old r)) (ap blank size ∙ sym e) completes)
-        (record { names = r; stands = memory-stands old r wf wfr; legal = legal; illegal = illegal });
+  pub level-found : {f : Found} → b .ok ≡ true → f .ok ≡ true → Filled old new (b .types) (b .links) n (f .witness) → Level old new n f
+  level-found {f} ok e filled = record {
+    count = λ _. filled .count-is;
+    sound = λ _. filled-witness old new wo wn x (ready .sheet-is) (b .types) (b .links) n (f .witness) filled (breaks .allowed ok) bad singles missing targets lows highs y (ready .others-are) (breaks .broken ok);
+    complete = λ h. absurd (true≢false (sym e ∙ h));
   }

@@ -1,20 +1,17 @@
--- What the search knows on its way from spot to spot.
+-- What the search asks of its tables: old's own, and new's by old's types and role slots.
 -- Assumes nothing.
-use Prim.Native.Nat.{_≤_, ℕ}
+use Prim.Native.Nat.{ℕ}
+use mathlib.Core.Bool.{Bool}
 use mathlib.Core.List.{List}
-use mathlib.Core.Path.{_≡_}
-use lib.ListN.{length}
-use Rattle.diagrams.specs.declared.StoredDiagram.{StoredDiagram}
-use Rattle.diagrams.specs.Held.{Held}
-use Rattle.diagrams.specs.View.{diagramOf}
-use Rattle.fillings.specs.Spots.{Choices}
-use Rattle.type_tables.specs.TypeTables.{TypeTables}
+use Rattle.files.specs.Diagram.{Diagram}
+use Rattle.type_tables.specs.TypeTables.{Dues}
+use Rattle.worlds.specs.Kept.{Sheet, Turned}
+use Rattle.worlds.specs.Tables.{SheetOf}
+use Rattle.worlds.specs.declared.Lines.{Lines}
+use Rattle.differing.specs.Others.{TablesOf}
 
--- both diagrams, the tables of the old one, how many types it has, and its choices for n objects
-pub record Ready (old new : StoredDiagram) (kinds : List ℕ) (k : ℕ) (sizes dues targets lows highs limits : List ℕ) (n : ℕ) : Type 0 where
-  pub old-held : Held old
-  pub new-held : Held new
-  pub counted : k ≡ length (diagramOf old .types)
-  pub tables : TypeTables (diagramOf old) kinds sizes dues targets lows highs
-  pub choices : Choices (diagramOf old) n limits
-  pub few : n ≤ 8
+pub record Ready (old new : Diagram) (dues : List ℕ) (x : Sheet) (sources : List ℕ) (bad singles : ℕ) (missing : Bool) (targets lows highs : List ℕ) (y : Lines) : Type 0 where
+  pub dues-are : Dues old dues
+  pub sheet-is : SheetOf old x
+  pub sources-are : Turned (x .targets) sources
+  pub others-are : TablesOf old new bad singles missing targets lows highs y

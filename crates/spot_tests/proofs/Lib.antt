@@ -1,4 +1,0 @@
-pub mod StepLaws
-pub mod LimitLaws
-pub mod PutLaws
-pub mod SkipLaws

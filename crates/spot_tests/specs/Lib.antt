@@ -1,2 +1,0 @@
-pub mod Choice
-pub mod Skips
