@@ -7,12 +7,11 @@ use native.Mathlib.Omega.{arith}
 use mathlib.Core.Bool.{Bool, _&&_, false, not, true}
 use mathlib.Core.List.{List, []}
 use mathlib.Core.Logic.{_≢_, ⊎-elim}
-use mathlib.Core.Path.{_∙_, _≡_, ap, ap₂, refl, subst, sym}
-use lib.Dec.{eqb, ltb}
+use mathlib.Core.Path.{_∙_, _≡_, ap, ap₂, subst, sym}
+use lib.Dec.{ltb}
 use lib.ListN.{getD, length}
 use borrow.Author.Tests.{eq-eqb, eqb-true, lt-ltb, ne-eqb, not-true}
 use Rattle.laws.specs.Bounded.{any}
-use Rattle.laws.specs.Connective.{both, same}
 use Rattle.laws.proofs.BoundedLaws.{all-at, all-of, any-at, any-of}
 use Rattle.laws.proofs.ConnectiveLaws.{and-both, both-left, both-of, both-right, imp-of, known, same-test, true-false}
 use Rattle.laws.proofs.ForallLaws.{same-iff}
@@ -20,7 +19,7 @@ use Rattle.laws.proofs.PickedLaws.{any-picked}
 use Rattle.files.specs.Diagram.{Diagram, attributeAt, typeAt, valueTypeAt}
 use Rattle.files.specs.Membership.{hasValue}
 use Rattle.files.specs.Name.{Name}
-use Rattle.files.specs.Record.{Record, Value, objectCount, objectType, valueAt}
+use Rattle.files.specs.Record.{Value, objectCount, valueAt}
 use Rattle.files.specs.WellFormedDiagram.{WfDiagram}
 use Rattle.files.proofs.NameLaws.{same-equal}
 use Rattle.records.specs.declared.MemoryRecord.{MemoryRecord}

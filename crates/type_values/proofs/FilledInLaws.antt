@@ -2,7 +2,7 @@
 -- Assumes nothing.
 use Prim.Native.Nat.{_%_, _*_, _+_, _-_, _/_, _<_, ℕ}
 use native.Mathlib.Omega.{arith}
-use mathlib.Core.Bool.{Bool, cond, false, true}
+use mathlib.Core.Bool.{cond, false, true}
 use mathlib.Core.List.{List}
 use mathlib.Core.Logic.{_≢_, ⊎-elim}
 use mathlib.Core.Path.{_∙_, _≡_, ap, ap₂, refl, subst, sym}
@@ -17,7 +17,6 @@ use Rattle.diagrams.specs.declared.StoredDiagram.{StoredDiagram}
 use Rattle.diagrams.specs.Held.{Held}
 use Rattle.diagrams.specs.View.{diagramOf}
 use Rattle.diagrams.proofs.ViewLaws.{type-count}
-use Rattle.records.specs.declared.MemoryRecord.{MemoryRecord}
 use Rattle.type_tables.specs.Due.{due}
 use Rattle.type_tables.specs.TypeTables.{Dues}
 use Rattle.type_values.specs.Filled.{Filled, chosen, chosenCode}

@@ -3,14 +3,14 @@
 -- Assumes nothing.
 use Prim.Native.Nat.{_%_, _*_, _+_, _-_, _/_, _<_, _≤_, ℕ}
 use native.Mathlib.Omega.{arith}
-use mathlib.Core.Bool.{Bool, cond, false, not, true}
+use mathlib.Core.Bool.{Bool, cond, not, true}
 use mathlib.Core.List.{List}
 use mathlib.Core.Logic.{_≢_, ⊎-elim}
-use mathlib.Core.Path.{_∙_, _≡_, ap, ap₂, refl, subst, sym}
-use lib.Dec.{eqb, ltb}
+use mathlib.Core.Path.{_∙_, _≡_, ap, refl, subst, sym}
+use lib.Dec.{eqb}
 use lib.ListN.{getD, length}
 use borrow.Author.Tests.{eq-eqb, eqb-false, eqb-true, lt-ltb, ne-eqb, not-true}
-use Rattle.laws.specs.Connective.{both, same}
+use Rattle.laws.specs.Connective.{both}
 use Rattle.laws.proofs.BoundedLaws.{all-at, all-of}
 use Rattle.laws.proofs.ConnectiveLaws.{both-left, both-of, both-right, imp-of, known, same-test}
 use Rattle.laws.proofs.ForallLaws.{same-iff}
@@ -25,7 +25,7 @@ use Rattle.rules.specs.TypeRules.{rule1, rule1At}
 use Rattle.rules.specs.ValueRules.{belongs, declared, rule3, rule3At, rule3For, rule4, rule4At}
 use Rattle.memory_rules.specs.JudgeIn.{rule3In}
 use Rattle.memory_rules.specs.SiteIn.{keptValue, siteIn, typedIn, valueKept, valuedIn}
-use Rattle.memory_rules.proofs.SlotLaws.{attribute-own, index-name, index-of, own-below, own-slot}
+use Rattle.memory_rules.proofs.SlotLaws.{index-name, index-of, own-below, own-slot}
 use Rattle.tables.proofs.BelongLaws.{belongs-known}
 use Rattle.tables.proofs.OwnLaws.{any-type, attribute-below}
 use Rattle.type_tables.specs.Due.{due}
@@ -36,7 +36,7 @@ use Rattle.type_values.specs.Named.{fitsDue}
 use Rattle.type_values.proofs.AloneLaws.{Typed, declared-alone, rule4-alone}
 use Rattle.type_values.proofs.ChosenLaws.{chosen-none, chosen-some, chosen-type, chosen-value}
 use Rattle.type_values.proofs.JoinedLaws.{due-known}
-use Rattle.type_values.proofs.KeptLaws.{due-own, fits-part}
+use Rattle.type_values.proofs.KeptLaws.{fits-part}
 use Rattle.type_values.proofs.NamedLaws.{named-declared, named-fits, named-own}
 
 -- an object by its type's index has that type's name

@@ -17,15 +17,15 @@ use Rattle.fields.specs.Slot.{slotName}
 use Rattle.files.specs.Name.{Name}
 use Rattle.type_values.specs.Numbers.{chosenIn, constantIn, constantName, dueBy, goodIn, keptIn, knownIn, lackingIn, sharedIn, slotAskedIn, slotKeptIn, valueAtIn}
 
-or-either : (a b : Bool) → a || b ≡ either a b
+or-is-either : (a b : Bool) → a || b ≡ either a b
 unfolding either
-or-either true b = refl
-or-either false b = refl
+or-is-either true b = refl
+or-is-either false b = refl
 
-and-both : (a b : Bool) → a && b ≡ both a b
+and-is-both : (a b : Bool) → a && b ≡ both a b
 unfolding both
-and-both true b = refl
-and-both false b = refl
+and-is-both true b = refl
+and-is-both false b = refl
 
 module _ (constants : List ℕ) (size k : ℕ) where
   pub constant-some : {w : Name} → w ≡ slotName constants k → k % 8 < size → w ≡ constantName constants size k
@@ -45,7 +45,7 @@ module _ (sizes constants : List ℕ) (n v : ℕ) (w : Name) where
       → h || eqb size 0 && eqb (length w) 0 ≡ sharedIn sizes constants n v w
   unfolding sharedIn
   shared-known {size} {h} l e q =
-      or-either h _ ∙ ap (either h) (and-both (eqb size 0) _)
+      or-is-either h _ ∙ ap (either h) (and-is-both (eqb size 0) _)
       ∙ both-yes (lt-ltb v n l)
       (ap (λ (b : Bool). either b (both (eqb size 0) (eqb (length w) 0))) q
       ∙ ap (λ (m : ℕ). either (constantIn constants v m w) (both (eqb m 0) (eqb (length w) 0))) e)
@@ -100,8 +100,8 @@ module _ (kinds : List ℕ) (count : ℕ) (index olds news slots back types firs
       → ltb u count && ((eqb kind 0 || eqb kind 3) && (a && b)) ≡ goodIn kinds count index olds news slots back types firsts m n t
   unfolding goodIn good-at
   good-made {i} {u} {j} {kind} {a} {b} it ui ju kj p q =
-      and-both (ltb u count) _ ∙ ap (both (ltb u count)) (and-both (eqb kind 0 || eqb kind 3) _)
-      ∙ ap₂ (λ (x y : Bool). both (ltb u count) (both x y)) (or-either (eqb kind 0) _ ∙ ap (λ (k : ℕ). either (eqb k 0) (eqb k 3)) (kj ∙ ap (λ (k : ℕ). getD kinds k 0) ju)) (and-both a b ∙ ap₂ both p q)
+      and-is-both (ltb u count) _ ∙ ap (both (ltb u count)) (and-is-both (eqb kind 0 || eqb kind 3) _)
+      ∙ ap₂ (λ (x y : Bool). both (ltb u count) (both x y)) (or-is-either (eqb kind 0) _ ∙ ap (λ (k : ℕ). either (eqb k 0) (eqb k 3)) (kj ∙ ap (λ (k : ℕ). getD kinds k 0) ju)) (and-is-both a b ∙ ap₂ both p q)
       ∙ ap good-at (ui ∙ ap (λ (k : ℕ). getD index k 0) it)
 
 -- ---- values

@@ -18,27 +18,21 @@ Inv-loop dues firsts types n values₀ x₀ values x = (x ≤ 256) × (length va
 abbrev μ-loop : tie.MeasureT-loop
 μ-loop dues firsts types n values₀ x₀ values x = 256 - x
 
--- src/lib.rt:510:5
 loop-holds : tie.Need-loop-holds Inv-loop μ-loop
 loop-holds c = (search needs, search needs, below-none _)
 
--- src/lib.rt:511:13
 value-at-requires : tie.Need-value-at-requires Inv-loop μ-loop
 value-at-requires c κs = search needs
 
--- src/lib.rt:512:9
 array-write-values : tie.Need-array-write-values Inv-loop μ-loop
 array-write-values c = search needs
 
--- src/lib.rt:513:9
 add-x : tie.Need-add-x Inv-loop μ-loop
 add-x c = search needs
 
--- src/lib.rt:510:5
 loop-less : tie.Need-loop-less Inv-loop μ-loop
 loop-less c = search needs
 
--- src/lib.rt:510:5
 loop-again : tie.Need-loop-again Inv-loop μ-loop
 loop-again c =
     let l = c .before .before .loop in
@@ -48,7 +42,6 @@ loop-again c =
       set-more (λ (k v : ℕ). v ≡ valueAtIn (a .dues .now) (a .firsts .now) (a .types .now) (a .n) k) (l .values) (l .x) (c .value-at .result) (omega arith) (l .inv .2) (c .value-at .ensures),
     )
 
--- src/lib.rt:500:1
 returns : tie.Need-returns Inv-loop μ-loop
 returns c = λ x h. c .before .loop .inv .2 x (omega arith)
 

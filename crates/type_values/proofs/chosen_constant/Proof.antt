@@ -5,11 +5,9 @@ use Rattle.type_values.proofs.chosen_constant.Tie as tie
 use Rattle.type_values.proofs.chosen_constant.Reads as reads
 use Rattle.type_values.proofs.chosen_constant.Lts as lts
 
--- src/lib.rt:463:1
 returns : tie.Need-returns
 returns c = (constant-lacking _ (c .if1 .taken), c .if1 .taken)
 
--- src/lib.rt:463:1
 returns-2 : tie.Need-returns-2
 returns-2 c = (constant-first _ (c .if1 .left), search needs)
 

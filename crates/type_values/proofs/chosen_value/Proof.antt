@@ -8,43 +8,33 @@ use Rattle.laws.proofs.byte.Reads as byte-reads
 use Rattle.laws.proofs.wide.Reads as wide-reads
 use Rattle.type_values.proofs.chosen_constant.Reads as chosen-constant-reads
 
--- src/lib.rt:474:9
 returns : tie.Need-returns
 returns c = chosen-zero _ _ (c .if1 .taken)
 
--- src/lib.rt:477:9
 returns-2 : tie.Need-returns-2
 returns-2 c = chosen-past _ _ (c .if2 .taken)
 
--- src/lib.rt:479:13
 sub-v : tie.Need-sub-v
 sub-v c = search needs
 
--- src/lib.rt:480:10
 mul-result : tie.Need-mul-result
 mul-result c = search needs
 
--- src/lib.rt:480:53
 wide-requires : tie.Need-wide-requires
 wide-requires c κs = search needs
 
--- src/lib.rt:480:34
 byte-requires : tie.Need-byte-requires
 byte-requires c κs = search needs
 
--- src/lib.rt:480:18
 chosen-constant-requires : tie.Need-chosen-constant-requires
 chosen-constant-requires c κs = search needs
 
--- src/lib.rt:480:10
 add-result : tie.Need-add-result
 add-result c = search needs
 
--- src/lib.rt:480:5
 add-result-2 : tie.Need-add-result-2
 add-result-2 c = search needs
 
--- src/lib.rt:470:1
 returns-3 : tie.Need-returns-3
 returns-3 c =
     let b = c .before .before in

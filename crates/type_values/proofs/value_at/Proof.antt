@@ -9,35 +9,27 @@ use Rattle.laws.proofs.byte.Reads as byte-reads
 use Rattle.laws.proofs.wide.Reads as wide-reads
 use Rattle.type_values.proofs.chosen_value.Reads as chosen-value-reads
 
--- src/lib.rt:492:12
 wide-requires : tie.Need-wide-requires
 wide-requires c κs = search needs
 
--- src/lib.rt:493:13
 byte-requires : tie.Need-byte-requires
 byte-requires c κs = search needs
 
--- src/lib.rt:494:54
 wide-requires-2 : tie.Need-wide-requires-2
 wide-requires-2 c κs = search needs
 
--- src/lib.rt:494:54
 mul-byte : tie.Need-mul-byte
 mul-byte c = search needs
 
--- src/lib.rt:494:54
 add-byte : tie.Need-add-byte
 add-byte c = search needs
 
--- src/lib.rt:494:37
 byte-requires-2 : tie.Need-byte-requires-2
 byte-requires-2 c κs = search needs
 
--- src/lib.rt:494:9
 chosen-value-requires : tie.Need-chosen-value-requires
 chosen-value-requires c κs = search needs
 
--- src/lib.rt:494:9
 returns : tie.Need-returns
 returns c =
     let b = c .before .before in
@@ -45,7 +37,6 @@ returns c =
     let i = d .before .before in
     value-there _ _ _ _ _ refl (i .before .wide .ensures .0) (i .if1 .taken) (d .byte .ensures) (b .wide2 .ensures .0) (c .before .byte2 .ensures) (c .chosen-value .ensures)
 
--- src/lib.rt:481:1
 returns-2 : tie.Need-returns-2
 returns-2 c = value-past _ _ _ _ _ refl (c .before .wide .ensures .0) (c .if1 .left)
 

@@ -9,23 +9,18 @@ use Rattle.type_values.proofs.all_values.Reads as all-values-reads
 use Rattle.type_values.proofs.lacking_values.Reads as lacking-values-reads
 use Rattle.type_values.proofs.same_types.Reads as same-types-reads
 
--- src/lib.rt:534:18
 same-types-requires : tie.Need-same-types-requires
 same-types-requires c κs = search needs
 
--- src/lib.rt:535:18
 lacking-values-requires : tie.Need-lacking-values-requires
 lacking-values-requires c κs = search needs
 
--- src/lib.rt:536:9
 all-values-requires : tie.Need-all-values-requires
 all-values-requires c κs = search needs
 
--- src/lib.rt:538:16
 wide-requires : tie.Need-wide-requires
 wide-requires c κs = search needs
 
--- src/lib.rt:523:1
 returns : tie.Need-returns
 returns c =
     let v = c .before in
