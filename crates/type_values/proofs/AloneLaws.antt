@@ -7,7 +7,7 @@ use lib.ListN.{length}
 use Rattle.laws.specs.Connective.{both, imp}
 use Rattle.laws.proofs.BoundedLaws.{all-ext, any-ext}
 use Rattle.files.specs.Ancestor.{reaches}
-use Rattle.files.specs.Diagram.{Diagram, attributeAt, isConcrete, typeAt, valueTypeAt}
+use Rattle.files.specs.Diagram.{Diagram, attributeAt, isConcrete, typeAt}
 use Rattle.files.specs.Name.{Name, sameName}
 use Rattle.files.specs.Record.{Value}
 use Rattle.rules.specs.Instance.{hasType, isInstance}

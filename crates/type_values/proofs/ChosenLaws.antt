@@ -2,7 +2,7 @@
 -- Assumes nothing.
 use Prim.Native.Nat.{_*_, _+_, _-_, _/_, _<_, _≤_, ℕ}
 use native.Mathlib.Omega.{arith}
-use mathlib.Core.Bool.{Bool, cond, false, not, true}
+use mathlib.Core.Bool.{Bool, cond, false, true}
 use mathlib.Core.Logic.{_≢_, ⊎-elim}
 use mathlib.Core.Path.{_∙_, _≡_, ap, refl, subst, sym}
 use lib.Dec.{eqb, ltb}

@@ -1,19 +1,16 @@
 -- A record that is legal for old keeps rules 1, 3 and 4 of new where no object's type is bad.
 -- Assumes nothing.
-use Prim.Native.Nat.{_%_, _+_, _/_, _<_, ℕ}
-use native.Mathlib.Omega.{arith}
-use mathlib.Core.Bool.{Bool, false, not, true}
-use mathlib.Core.List.{[]}
-use mathlib.Core.Path.{_∙_, _≡_, ap, ap₂, refl, subst, sym}
-use lib.Dec.{eqb}
+use Prim.Native.Nat.{_+_, _/_, _<_, ℕ}
+use mathlib.Core.Bool.{false, not, true}
+use mathlib.Core.Path.{_∙_, _≡_, ap, subst, sym}
 use lib.ListN.{getD, length}
 use borrow.Author.Tests.{eq-eqb, not-false}
 use Rattle.laws.specs.Bounded.{all}
-use Rattle.laws.specs.Connective.{both, same}
+use Rattle.laws.specs.Connective.{both}
 use Rattle.laws.proofs.BoundedLaws.{all-at, all-of}
 use Rattle.laws.proofs.ConnectiveLaws.{both-left, both-of, both-right, imp-use, same-test}
 use Rattle.laws.proofs.ForallLaws.{same-iff}
-use Rattle.files.specs.Diagram.{Diagram, attributeAt, typeAt, valueTypeAt}
+use Rattle.files.specs.Diagram.{Diagram, attributeAt, typeAt}
 use Rattle.files.specs.Membership.{hasValue}
 use Rattle.files.specs.Name.{Name}
 use Rattle.files.specs.Record.{Record, Value, objectCount, objectType, valueAt}

@@ -7,15 +7,15 @@ use native.Mathlib.Nat.{le-of-suc-le, le-refl}
 use native.Mathlib.Omega.{arith}
 use mathlib.Core.Bool.{Bool, _&&_, _||_, cond, false, false≢true, not, true}
 use mathlib.Core.Logic.{_≢_, ⊎-elim}
-use mathlib.Core.Path.{_∙_, _≡_, ap, ap₂, refl, subst, sym}
+use mathlib.Core.Path.{_∙_, _≡_, ap, refl, subst, sym}
 use lib.Dec.{eqb}
 use lib.ListN.{length}
-use borrow.Author.Tests.{eq-eqb, eqb-false, eqb-true, ne-eqb}
+use borrow.Author.Tests.{eqb-false, eqb-true, ne-eqb}
 use Rattle.laws.specs.Bounded.{all, any}
 use Rattle.laws.specs.Connective.{both, imp}
-use Rattle.laws.proofs.ConnectiveLaws.{and-left, and-right, both-left, both-right, known, same-test}
+use Rattle.laws.proofs.ConnectiveLaws.{and-left, and-right, both-left, known, same-test}
 use Rattle.files.specs.Diagram.{Diagram, attributeAt, valueTypeAt}
-use Rattle.files.specs.Name.{Name, sameName}
+use Rattle.files.specs.Name.{sameName}
 use Rattle.files.specs.Record.{Value}
 use Rattle.files.specs.WellFormedDiagram.{WfDiagram}
 use Rattle.files.proofs.NameLaws.{same-equal, same-self}

@@ -6,12 +6,12 @@ use Prim.Native.Nat.{_%_, _*_, _+_, _-_, _/_, _<_, ℕ}
 use native.Mathlib.Omega.{arith}
 use mathlib.Core.Bool.{Bool, cond, false, not, true}
 use mathlib.Core.Logic.{_≢_, ⊎-elim}
-use mathlib.Core.Path.{_∙_, _≡_, ap, refl, subst, sym}
+use mathlib.Core.Path.{_∙_, _≡_, ap, subst, sym}
 use lib.Dec.{eqb}
 use lib.ListN.{length}
 use borrow.Author.Tests.{eq-eqb, eqb-false, eqb-true, ne-eqb, not-true}
 use Rattle.laws.specs.Bounded.{all}
-use Rattle.laws.specs.Connective.{both, either, imp, same}
+use Rattle.laws.specs.Connective.{both, either, same}
 use Rattle.laws.proofs.BoundedLaws.{all-at, all-of, any-at}
 use Rattle.laws.proofs.ConnectiveLaws.{both-left, both-of, both-right, either-cases, either-left, either-right, imp-of, imp-use, known, same-test}
 use Rattle.laws.proofs.ForallLaws.{same-iff}

@@ -3,13 +3,13 @@
 -- Assumes nothing.
 use Prim.Native.Nat.{_%_, _+_, _-_, _/_, _<_, ℕ}
 use native.Mathlib.Omega.{arith}
-use mathlib.Core.Bool.{Bool, cond, false, not, true}
+use mathlib.Core.Bool.{Bool, cond, not, true}
 use mathlib.Core.List.{[]}
 use mathlib.Core.Logic.{_≢_, ⊎-elim}
 use mathlib.Core.Path.{_∙_, _≡_, ap, refl, subst, sym}
 use lib.Dec.{eqb}
 use lib.ListN.{getD, length}
-use borrow.Author.Tests.{eq-eqb, eqb-false, eqb-true, ltb-true, ne-eqb, not-true}
+use borrow.Author.Tests.{eqb-false, eqb-true, ltb-true, ne-eqb, not-true}
 use Rattle.laws.specs.Connective.{both, same}
 use Rattle.laws.proofs.BoundedLaws.{all-at, any-at}
 use Rattle.laws.proofs.ConnectiveLaws.{both-left, both-of, both-right, either-cases, either-left, either-right, same-test}
@@ -22,7 +22,7 @@ use Rattle.files.specs.WellFormedDiagram.{WfDiagram}
 use Rattle.files.specs.WellFormedRecord.{WfRecord}
 use Rattle.files.proofs.NameLaws.{same-equal, same-self}
 use Rattle.records.specs.Slots.{codeOf, isCode, isConstant}
-use Rattle.records.specs.Written.{IsValue, constantKnown}
+use Rattle.records.specs.Written.{IsValue}
 use Rattle.rules.specs.Judge.{Legal}
 use Rattle.rules.specs.Site.{siteOf}
 use Rattle.rules.specs.ValueRules.{belongs, declared, declares, rule3, rule3At, rule3For, rule4, rule4At}

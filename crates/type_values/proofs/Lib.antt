@@ -11,3 +11,5 @@ pub mod TranslatedLaws
 pub mod ChosenLaws
 pub mod FilledLaws
 pub mod BreaksLaws
+pub mod FilledInLaws
+pub mod WorldLaws

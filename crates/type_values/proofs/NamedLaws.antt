@@ -7,22 +7,22 @@ use mathlib.Core.Logic.{_≢_, ⊎-elim}
 use mathlib.Core.Path.{_∙_, _≡_, ap, ap₂, refl, subst, sym}
 use lib.Dec.{eqb, ltb}
 use lib.ListN.{length}
-use borrow.Author.Tests.{eq-eqb, eqb-false, eqb-true, lt-ltb, ltb-true, ne-eqb}
-use Rattle.laws.specs.Bounded.{all, any}
+use borrow.Author.Tests.{eq-eqb, eqb-true, lt-ltb, ltb-true, ne-eqb}
+use Rattle.laws.specs.Bounded.{any}
 use Rattle.laws.specs.Connective.{both, imp}
 use Rattle.laws.proofs.BoundedLaws.{all-ext, all-of, any-at, any-ext, any-none}
-use Rattle.laws.proofs.ConnectiveLaws.{both-left, both-right, known, same-test}
+use Rattle.laws.proofs.ConnectiveLaws.{both-right, known, same-test}
 use Rattle.files.specs.Ancestor.{reaches}
 use Rattle.files.specs.Diagram.{Diagram, attributeAt, isConcrete, typeAt, valueTypeAt}
 use Rattle.files.specs.Name.{Name, sameName}
 use Rattle.files.specs.Record.{Value}
 use Rattle.files.specs.WellFormedDiagram.{WfDiagram}
 use Rattle.files.proofs.NameLaws.{same-equal, same-self}
-use Rattle.records.specs.Slots.{attributeSlot, ownAttribute, typeIndex}
+use Rattle.records.specs.Slots.{attributeSlot, typeIndex}
 use Rattle.rules.specs.Instance.{hasType, isInstance}
 use Rattle.rules.specs.TypeRules.{rule1At}
 use Rattle.rules.specs.ValueRules.{belongs, declared, declares, rule4At}
-use Rattle.memory_rules.proofs.SlotLaws.{attribute-known, attribute-name, attribute-own, index-of, index-same}
+use Rattle.memory_rules.proofs.SlotLaws.{attribute-known, attribute-name, index-of, index-same}
 use Rattle.tables.proofs.OwnLaws.{any-is, attribute-below}
 use Rattle.type_tables.specs.Due.{declaresFor, due}
 use Rattle.type_values.specs.Bad.{alone}
@@ -30,7 +30,7 @@ use Rattle.type_values.specs.Named.{dueNamed, fitsDue}
 use Rattle.type_values.proofs.AloneLaws.{alone-typed, declares-alone}
 use Rattle.type_values.proofs.JoinedLaws.{Due, due-declared, due-fits, due-known}
 
-grouped : (a b c : Bool) → both (both a b) c ≡ both a (both b c)
+pub grouped : (a b c : Bool) → both (both a b) c ≡ both a (both b c)
 unfolding both
 grouped true b c = refl
 grouped false b c = refl

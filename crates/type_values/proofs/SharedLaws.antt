@@ -1,14 +1,13 @@
 -- Each value of a value type v of old belongs to value type j of new exactly when j has v's name and new lacks no value of v.
 -- Assumes nothing.
-use Prim.Native.Nat.{_%_, _*_, _+_, _-_, _/_, _<_, _≤_, ℕ}
+use Prim.Native.Nat.{_%_, _*_, _+_, _/_, _<_, _≤_, ℕ}
 use native.Mathlib.Omega.{arith}
-use mathlib.Core.Bool.{Bool, cond, false, not, true}
-use mathlib.Core.List.{[]}
+use mathlib.Core.Bool.{false, not, true}
 use mathlib.Core.Logic.{_≢_, ⊎-elim}
 use mathlib.Core.Path.{_∙_, _≡_, ap, refl, subst, sym}
 use lib.Dec.{eqb, ltb}
-use lib.ListN.{getD, length}
-use borrow.Author.Tests.{eq-eqb, eqb-false, eqb-true, lt-ltb, not-false, not-true}
+use lib.ListN.{length}
+use borrow.Author.Tests.{eqb-false, eqb-true, lt-ltb, not-true}
 use Rattle.laws.specs.Connective.{both, either}
 use Rattle.laws.proofs.BoundedLaws.{any-at, any-none, any-of}
 use Rattle.laws.proofs.ConnectiveLaws.{both-left, both-of, both-right, either-left, either-right, known, same-test, true-false}

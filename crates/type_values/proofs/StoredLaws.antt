@@ -1,34 +1,31 @@
 -- The tables of numbers are those of two diagrams in memory.
 -- Assumes nothing.
-use Prim.Native.Nat.{_%_, _*_, _+_, _-_, _/_, _<_, _≤_, ℕ}
+use Prim.Native.Nat.{_%_, _*_, _+_, _/_, _<_, _≤_, ℕ}
 use native.Mathlib.Omega.{arith}
 use mathlib.Core.Bool.{Bool, cond, false, not, true}
 use mathlib.Core.List.{List, []}
-use mathlib.Core.Logic.{_≢_, ⊎-elim}
+use mathlib.Core.Logic.{⊎-elim}
 use mathlib.Core.Path.{_∙_, _≡_, ap, ap₂, refl, subst, sym}
 use lib.Dec.{eqb, ltb}
 use lib.ListN.{List·getD-eq-default, getD, length}
-use borrow.Author.Tests.{eq-eqb, eqb-false, eqb-true, le-ltb, lt-ltb, ltb-false, ltb-true, ne-eqb, not-true}
-use Rattle.laws.specs.Bounded.{all, any, first}
-use Rattle.laws.specs.Connective.{both, either, imp}
-use Rattle.laws.specs.Lists.{listed}
-use Rattle.laws.proofs.BoundedLaws.{all-ext, any-at, any-ext, any-none}
-use Rattle.laws.proofs.ConnectiveLaws.{both-left, both-of, both-right, known, same-test, true-false}
+use borrow.Author.Tests.{lt-ltb, ltb-false, ltb-true}
+use Rattle.laws.specs.Bounded.{any, first}
+use Rattle.laws.specs.Connective.{both, either}
+use Rattle.laws.proofs.BoundedLaws.{any-at, any-ext}
+use Rattle.laws.proofs.ConnectiveLaws.{both-left, both-of, both-right, known, same-test}
 use Rattle.laws.proofs.FirstLaws.{first-ext}
 use Rattle.laws.proofs.JoinedLaws.{getD-each, length-each}
 use Rattle.laws.proofs.SearchLaws.{both-no, both-yes}
 use Rattle.fields.specs.Slot.{slotName}
-use Rattle.files.specs.Diagram.{Diagram, TypeDef, ValueType, attributeAt, isConcrete, typeAt, valueTypeAt}
+use Rattle.files.specs.Diagram.{TypeDef, ValueType, attributeAt, typeAt, valueTypeAt}
 use Rattle.files.specs.Name.{Name, sameName}
-use Rattle.files.proofs.NameLaws.{same-equal, same-self}
+use Rattle.files.proofs.NameLaws.{same-self}
 use Rattle.diagrams.specs.declared.StoredDiagram.{StoredDiagram}
-use Rattle.diagrams.specs.declared.ValueTypes.{ValueTypes}
 use Rattle.diagrams.specs.Held.{Held}
 use Rattle.diagrams.specs.View.{diagramOf, typeIn, valueTypeIn}
 use Rattle.diagrams.proofs.ViewLaws.{attribute-count, type-at, type-count, value-type-at, value-type-count}
 use Rattle.resolving.specs.Lookup.{slotOf}
 use Rattle.resolving.proofs.LookupLaws.{attribute-slot, type-index}
-use Rattle.records.specs.Slots.{attributeSlot, typeIndex}
 use Rattle.records.specs.Written.{constantKnown}
 use Rattle.rules.specs.ValueRules.{belongs}
 use Rattle.tables.proofs.TableLaws.{attribute-named}

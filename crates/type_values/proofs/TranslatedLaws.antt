@@ -8,13 +8,13 @@ use mathlib.Core.Logic.{_≢_, ⊎-elim}
 use mathlib.Core.Path.{_∙_, _≡_, ap, ap₂, refl, subst, sym}
 use lib.Dec.{eqb, ltb}
 use lib.ListN.{getD, length}
-use borrow.Author.Tests.{eq-eqb, eqb-false, eqb-true, le-ltb, lt-ltb, ltb-false, ltb-true, ne-eqb}
-use Rattle.laws.specs.Bits.{Marks, bit}
+use borrow.Author.Tests.{eqb-false, eqb-true, le-ltb, lt-ltb, ltb-false, ltb-true}
+use Rattle.laws.specs.Bits.{Marks}
 use Rattle.laws.specs.Bounded.{all}
 use Rattle.laws.specs.Connective.{both, either, imp}
 use Rattle.laws.proofs.BoundedLaws.{all-ext}
 use Rattle.laws.proofs.ConnectiveLaws.{known}
-use Rattle.laws.proofs.SearchLaws.{both-no, both-yes}
+use Rattle.laws.proofs.SearchLaws.{both-no}
 use Rattle.files.specs.Diagram.{Diagram, attributeAt, isConcrete, typeAt}
 use Rattle.files.specs.Name.{Name}
 use Rattle.files.specs.WellFormedDiagram.{WfDiagram}
@@ -34,7 +34,7 @@ use Rattle.type_values.specs.Numbers.{dueBy, goodIn, keptIn, slotAskedIn
 use Rattle.type_values.specs.Tables.{Lackings, SameTypes, Translated}
 use Rattle.type_values.proofs.JoinedLaws.{due-known}
 use Rattle.type_values.proofs.KeptLaws.{slots-are}
-use Rattle.type_values.proofs.NamedLaws.{named-known, named-slot, rule1-named}
+use Rattle.type_values.proofs.NamedLaws.{grouped, named-known, named-slot, rule1-named}
 
 -- what is due for a name, by its place
 due-by-name : (d : Diagram) → WfDiagram d → (dues : List ℕ) → Dues d dues → (name w : Name) (u s : ℕ) → u ≡ typeIndex d name → u < length (d .types) → s ≡ attributeSlot d w
@@ -83,11 +83,6 @@ either-imp : (a b : Bool) → either a b ≡ imp (not a) b
 unfolding either imp
 either-imp true b = refl
 either-imp false b = refl
-
-grouped : (a b c : Bool) → both (both a b) c ≡ both a (both b c)
-unfolding both
-grouped true b c = refl
-grouped false b c = refl
 
 module _ (old new : Diagram) (wold : WfDiagram old) (wnew : WfDiagram new) (kinds olds news index slots back types firsts : List ℕ) (is-kinds : Kinds new kinds)
     (h : Translated old new olds news index slots back types firsts) (t : ℕ) (is-type : t < length (old .types))

@@ -1,6 +1,7 @@
 -- The ways out of the functions, one law for each.
 -- Assumes nothing.
-use Prim.Native.Nat.{_%_, _*_, _+_, _-_, _<_, _≤_, ℕ}
+use Prim.Native.Nat.{_%_, _*_, _+_, _-_, _/_, _<_, _≤_, ℕ}
+use native.Mathlib.Omega.{arith}
 use mathlib.Core.Bool.{Bool, _&&_, _||_, cond, false, not, true}
 use mathlib.Core.List.{List, []}
 use mathlib.Core.Logic.{_≢_}
@@ -10,20 +11,21 @@ use lib.ListN.{getD, length, take}
 use borrow.Author.Tests.{le-ltb, lt-ltb, ne-eqb}
 use Rattle.laws.specs.Bounded.{all}
 use Rattle.laws.specs.Connective.{both, either}
-use Rattle.laws.proofs.SearchLaws.{both-no, both-yes}
+use Rattle.laws.proofs.ConnectiveLaws.{both-of}
+use Rattle.laws.proofs.SearchLaws.{both-no, both-right-no, both-yes}
 use Rattle.fields.specs.Slot.{slotName}
 use Rattle.files.specs.Name.{Name}
-use Rattle.type_values.specs.Numbers.{constantIn, constantName, dueBy, goodIn, keptIn, knownIn, lackingIn, sharedIn, slotAskedIn, slotKeptIn}
+use Rattle.type_values.specs.Numbers.{chosenIn, constantIn, constantName, dueBy, goodIn, keptIn, knownIn, lackingIn, sharedIn, slotAskedIn, slotKeptIn, valueAtIn}
 
-or-either : (a b : Bool) → a || b ≡ either a b
+or-is-either : (a b : Bool) → a || b ≡ either a b
 unfolding either
-or-either true b = refl
-or-either false b = refl
+or-is-either true b = refl
+or-is-either false b = refl
 
-and-both : (a b : Bool) → a && b ≡ both a b
+and-is-both : (a b : Bool) → a && b ≡ both a b
 unfolding both
-and-both true b = refl
-and-both false b = refl
+and-is-both true b = refl
+and-is-both false b = refl
 
 module _ (constants : List ℕ) (size k : ℕ) where
   pub constant-some : {w : Name} → w ≡ slotName constants k → k % 8 < size → w ≡ constantName constants size k
@@ -43,7 +45,7 @@ module _ (sizes constants : List ℕ) (n v : ℕ) (w : Name) where
       → h || eqb size 0 && eqb (length w) 0 ≡ sharedIn sizes constants n v w
   unfolding sharedIn
   shared-known {size} {h} l e q =
-      or-either h _ ∙ ap (either h) (and-both (eqb size 0) _)
+      or-is-either h _ ∙ ap (either h) (and-is-both (eqb size 0) _)
       ∙ both-yes (lt-ltb v n l)
       (ap (λ (b : Bool). either b (both (eqb size 0) (eqb (length w) 0))) q
       ∙ ap (λ (m : ℕ). either (constantIn constants v m w) (both (eqb m 0) (eqb (length w) 0))) e)
@@ -98,6 +100,49 @@ module _ (kinds : List ℕ) (count : ℕ) (index olds news slots back types firs
       → ltb u count && ((eqb kind 0 || eqb kind 3) && (a && b)) ≡ goodIn kinds count index olds news slots back types firsts m n t
   unfolding goodIn good-at
   good-made {i} {u} {j} {kind} {a} {b} it ui ju kj p q =
-      and-both (ltb u count) _ ∙ ap (both (ltb u count)) (and-both (eqb kind 0 || eqb kind 3) _)
-      ∙ ap₂ (λ (x y : Bool). both (ltb u count) (both x y)) (or-either (eqb kind 0) _ ∙ ap (λ (k : ℕ). either (eqb k 0) (eqb k 3)) (kj ∙ ap (λ (k : ℕ). getD kinds k 0) ju)) (and-both a b ∙ ap₂ both p q)
+      and-is-both (ltb u count) _ ∙ ap (both (ltb u count)) (and-is-both (eqb kind 0 || eqb kind 3) _)
+      ∙ ap₂ (λ (x y : Bool). both (ltb u count) (both x y)) (or-is-either (eqb kind 0) _ ∙ ap (λ (k : ℕ). either (eqb k 0) (eqb k 3)) (kj ∙ ap (λ (k : ℕ). getD kinds k 0) ju)) (and-is-both a b ∙ ap₂ both p q)
       ∙ ap good-at (ui ∙ ap (λ (k : ℕ). getD index k 0) it)
+
+-- ---- values
+
+pub constant-lacking : (f : ℕ) → f < 8 → f ≡ cond (ltb f 8) f 0
+constant-lacking f l = sym (ap (λ (b : Bool). cond b f 0) (lt-ltb f 8 l))
+
+pub constant-first : (f : ℕ) → 8 ≤ f → 0 ≡ cond (ltb f 8) f 0
+constant-first f l = sym (ap (λ (b : Bool). cond b f 0) (le-ltb f 8 l))
+
+module _ (firsts : List ℕ) (e : ℕ) where
+  pub chosen-zero : e ≡ 0 → 0 ≡ chosenIn firsts e
+  unfolding chosenIn both
+  chosen-zero z = sym (rw z refl)
+
+  pub chosen-past : 12 < e → 0 ≡ chosenIn firsts e
+  unfolding chosenIn
+  chosen-past l =
+      let some : 0 < e = omega arith in
+      let past : 13 ≤ e = l in
+      sym (ap (λ (b : Bool). cond b (1 + ((e - 1) * 8 + cond (ltb (getD firsts (e - 1) 0) 8) (getD firsts (e - 1) 0) 0)) 0) (both-right-no (lt-ltb 0 e some) (le-ltb e 13 past)))
+
+  pub chosen-one : {i f c : ℕ} → e ≢ 0 → e ≤ 12 → i ≡ e - 1 → f ≡ getD firsts i 0 → c ≡ cond (ltb f 8) f 0 → 1 + ((e - 1) * 8 + c) ≡ chosenIn firsts e
+  unfolding chosenIn
+  chosen-one n l i f c =
+      let some : 0 < e = omega arith in
+      let few : e < 13 = omega arith in
+      ap (λ (k : ℕ). 1 + ((e - 1) * 8 + k)) (c ∙ ap (λ (k : ℕ). cond (ltb k 8) k 0) (f ∙ ap (λ (k : ℕ). getD firsts k 0) i))
+      ∙ sym (ap (λ (b : Bool). cond b (1 + ((e - 1) * 8 + cond (ltb (getD firsts (e - 1) 0) 8) (getD firsts (e - 1) 0) 0)) 0) (both-of _ _ (lt-ltb 0 e some) (lt-ltb e 13 few)))
+
+module _ (dues firsts types : List ℕ) (n x : ℕ) where
+  pub value-there : {o w t i e v : ℕ} → o ≡ x / 32 → w ≡ n → o < w → t ≡ getD types o 0 → i ≡ t → e ≡ getD dues (i * 32 + x % 32) 0 → v ≡ chosenIn firsts e
+      → v ≡ valueAtIn dues firsts types n x
+  unfolding valueAtIn
+  value-there {o} {w} xo wn l t i e v =
+      let below : x / 32 < n = omega arith in
+      v ∙ ap (chosenIn firsts) (e ∙ ap (λ (k : ℕ). getD dues (k * 32 + x % 32) 0) (i ∙ t ∙ ap (λ (k : ℕ). getD types k 0) xo))
+      ∙ sym (ap (λ (b : Bool). cond b (chosenIn firsts (getD dues (getD types (x / 32) 0 * 32 + x % 32) 0)) 0) (lt-ltb (x / 32) n below))
+
+  pub value-past : {o w : ℕ} → o ≡ x / 32 → w ≡ n → w ≤ o → 0 ≡ valueAtIn dues firsts types n x
+  unfolding valueAtIn
+  value-past {o} {w} xo wn l =
+      let past : n ≤ x / 32 = omega arith in
+      sym (ap (λ (b : Bool). cond b (chosenIn firsts (getD dues (getD types (x / 32) 0 * 32 + x % 32) 0)) 0) (le-ltb (x / 32) n past))

@@ -2,7 +2,7 @@
 -- that new does not have, such a one.
 -- Assumes nothing.
 use Prim.Native.Nat.{_*_, _+_, _-_, _<_, ℕ}
-use mathlib.Core.Bool.{Bool, cond, false, true}
+use mathlib.Core.Bool.{cond, false, true}
 use mathlib.Core.List.{List}
 use mathlib.Core.Path.{_≡_}
 use lib.Dec.{ltb}

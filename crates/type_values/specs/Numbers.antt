@@ -1,6 +1,6 @@
 -- The same by numbers of the arrays, before anything is said of a diagram.
 -- Assumes nothing.
-use Prim.Native.Nat.{_%_, _*_, _+_, _-_, ℕ}
+use Prim.Native.Nat.{_%_, _*_, _+_, _-_, _/_, ℕ}
 use mathlib.Core.Bool.{Bool, cond, not, true}
 use mathlib.Core.List.{List, []}
 use lib.Dec.{eqb, ltb}
@@ -61,3 +61,14 @@ goodIn kinds count index olds news slots back types firsts m n t =
     both (ltb u count)
     (both (either (eqb (getD kinds u 0) 0) (eqb (getD kinds u 0) 3))
     (both (all (slotKeptIn olds news slots types firsts t u n) m) (all (slotAskedIn olds news back t u m) n)))
+
+-- ---- values
+
+-- where e is asked for: one more than the code of a value of value type e - 1
+unfoldable pub chosenIn : List ℕ → ℕ → ℕ
+chosenIn firsts e =
+    cond (both (ltb 0 e) (ltb e 13)) (1 + ((e - 1) * 8 + cond (ltb (getD firsts (e - 1) 0) 8) (getD firsts (e - 1) 0) 0)) 0
+
+-- of object x / 32 in slot x % 32
+unfoldable pub valueAtIn : List ℕ → List ℕ → List ℕ → ℕ → ℕ → ℕ
+valueAtIn dues firsts types n x = cond (ltb (x / 32) n) (chosenIn firsts (getD dues (getD types (x / 32) 0 * 32 + x % 32) 0)) 0

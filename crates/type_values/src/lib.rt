@@ -1,7 +1,8 @@
 // Rules 1, 3 and 4 of a diagram by the types of another one, and values for objects that are given by their types.
 ghost use mathlib.Core.Path.{_≡_};
-ghost use mathlib.Core.Bool.{not};
+ghost use mathlib.Core.Bool.{cond, not};
 ghost use Prim.Native.Nat.{ℕ, _+_, _*_, _<_, _≤_};
+ghost use lib.Dec.{ltb};
 ghost use lib.ListN.{getD};
 ghost use Rattle.laws.specs.Bits.{Marks};
 ghost use Rattle.laws.specs.Bounded.{all, first};
@@ -12,8 +13,9 @@ ghost use Rattle.diagrams.specs.View.{diagramOf};
 ghost use Rattle.diagrams.specs.Held.{Held};
 ghost use Rattle.type_tables.specs.TypeTables.{Dues};
 ghost use Rattle.type_values.specs.Bad.{BadTypes};
+ghost use Rattle.type_values.specs.Filled.{Filled};
 ghost use Rattle.type_values.specs.Tables.{AttributePlaces, Lackings, SameTypes, Translated, TypePlaces};
-ghost use Rattle.type_values.specs.Numbers.{constantIn, constantName, dueBy, goodIn, keptIn, knownIn, lackingIn, sharedIn, slotAskedIn, slotKeptIn};
+ghost use Rattle.type_values.specs.Numbers.{chosenIn, constantIn, constantName, dueBy, goodIn, keptIn, knownIn, lackingIn, sharedIn, slotAskedIn, slotKeptIn, valueAtIn};
 
 // ---- values
 
@@ -453,4 +455,88 @@ pub fn bad_types(
         &types,
         &firsts,
     )
+}
+
+// ---- values of objects
+
+// The constant that is chosen, where `first` is the first that the other diagram lacks.
+fn chosen_constant(first: u8) -> u8
+    ensures { λ r. ⌜ (r ≡ cond (ltb first 8) first 0) × (r < 8) ⌝ }
+{
+    if first < 8 { first } else { 0 }
+}
+
+// The value where e is asked for, 0 where there is none.
+fn chosen_value(firsts: &[u8; 12], e: u8) -> u8
+    ensures { λ r. ⌜ r ≡ chosenIn (now (firsts .entry)) e ⌝ }
+{
+    if e == 0 {
+        return 0;
+    }
+    if 12 < e {
+        return 0;
+    }
+    let v = e - 1;
+    1 + (v * 8 + chosen_constant(laws::byte(firsts, laws::wide(v))))
+}
+
+// The value of object x / 32 in slot x % 32, where n objects have these types.
+fn value_at<'a>(
+    dues: &'a [u8; 768],
+    firsts: &'a [u8; 12],
+    types: &'a [u8; 8],
+    n: u8,
+    x: usize,
+) -> u8
+    requires { ⌜ x < 256 ⌝ }
+    ensures { λ r. ⌜ r ≡ valueAtIn (now (dues .entry)) (now (firsts .entry)) (now (types .entry)) n x ⌝ }
+{
+    let o = x / 32;
+    if o < laws::wide(n) {
+        let t = laws::byte(types, o);
+        return chosen_value(firsts, laws::byte(dues, laws::wide(t) * 32 + x % 32));
+    }
+    0
+}
+
+// The same for all objects and slots.
+fn all_values<'a>(dues: &'a [u8; 768], firsts: &'a [u8; 12], types: &'a [u8; 8], n: u8) -> [u8; 256]
+    ensures { λ r. ⌜ ((x : ℕ) → x < 256 → getD r x 0 ≡ valueAtIn (now (dues .entry)) (now (firsts .entry)) (now (types .entry)) n x) ⌝ }
+{
+    let mut values = [0u8; 256];
+    let mut x: usize = 0;
+    while x < 256 {
+        let v = value_at(dues, firsts, types, n, x);
+        values[x] = v;
+        x += 1;
+    }
+    values
+}
+
+// A record of n objects with these types and links, and for each object a value in each slot where old asks for one: a value that new
+// lacks, if old allows one. `dues` has what is due by types of old.
+pub fn with_values(
+    old: diagrams::StoredDiagram,
+    new: diagrams::StoredDiagram,
+    dues: &[u8; 768],
+    types: [u8; 8],
+    links: [u8; 256],
+    n: u8,
+) -> records::MemoryRecord
+    requires { ⌜ ((Held old × Held new) × Dues (diagramOf old) (now dues)) × ((o : ℕ) → o < n → getD types o 0 < old .types .count) ⌝ }
+    ensures { λ m. ⌜ Filled (diagramOf old) (diagramOf new) types links n m ⌝ }
+{
+    let places = same_types(old, new);
+    let firsts = lacking_values(old, new, &places);
+    let values = all_values(dues, &firsts, &types, n);
+    records::MemoryRecord {
+        count: laws::wide(n),
+        types,
+        values,
+        links,
+        strays: records::Strays {
+            values: false,
+            links: false,
+        },
+    }
 }

@@ -21,39 +21,30 @@ Inv-loop olds counts m sizes constants n types firsts₀ v₀ firsts v =
 abbrev μ-loop : tie.MeasureT-loop
 μ-loop olds counts m sizes constants n types firsts₀ v₀ firsts v = m - v
 
--- src/lib.rt:129:5
 loop-holds : tie.Need-loop-holds Inv-loop μ-loop
 loop-holds c = (search needs, search needs, below-none _)
 
--- src/lib.rt:130:13
 wide-requires : tie.Need-wide-requires Inv-loop μ-loop
 wide-requires c κs = search needs
 
--- src/lib.rt:131:37
 element-copy-out-first-lacking : tie.Need-element-copy-out-first-lacking Inv-loop μ-loop
 element-copy-out-first-lacking c = search needs
 
--- src/lib.rt:131:69
 element-copy-out-first-lacking-2 : tie.Need-element-copy-out-first-lacking-2 Inv-loop μ-loop
 element-copy-out-first-lacking-2 c = search needs
 
--- src/lib.rt:131:13
 first-lacking-requires : tie.Need-first-lacking-requires Inv-loop μ-loop
 first-lacking-requires c κs = search needs
 
--- src/lib.rt:132:9
 array-write-firsts : tie.Need-array-write-firsts Inv-loop μ-loop
 array-write-firsts c = search needs
 
--- src/lib.rt:133:9
 add-v : tie.Need-add-v Inv-loop μ-loop
 add-v c = search needs
 
--- src/lib.rt:129:5
 loop-less : tie.Need-loop-less Inv-loop μ-loop
 loop-less c = search needs
 
--- src/lib.rt:129:5
 loop-again : tie.Need-loop-again Inv-loop μ-loop
 loop-again c =
     let w = c .before .before .before .wide in
@@ -67,7 +58,6 @@ loop-again c =
           (c .first-lacking .ensures ∙ ap (found (l .v)) (w .ensures .0))),
     )
 
--- src/lib.rt:115:1
 returns : tie.Need-returns Inv-loop μ-loop
 returns c = λ v h. c .before .loop .inv .2 v (omega arith)
 

@@ -7,19 +7,15 @@ use Rattle.type_values.proofs.attribute_places.Reads as reads
 use Rattle.type_values.proofs.attribute_places.Lts as lts
 use Rattle.type_values.proofs.places.Reads as places-reads
 
--- src/lib.rt:381:22
 cast-places : tie.Need-cast-places
 cast-places c = search needs
 
--- src/lib.rt:381:47
 cast-places-2 : tie.Need-cast-places-2
 cast-places-2 c = search needs
 
--- src/lib.rt:381:5
 places-requires : tie.Need-places-requires
 places-requires c κs = search needs
 
--- src/lib.rt:375:1
 returns : tie.Need-returns
 returns c =
     let s = c .before .before .before .before .before .before .before .before .before in

@@ -7,27 +7,21 @@ use Rattle.type_values.proofs.bad_by.Reads as reads
 use Rattle.type_values.proofs.bad_by.Lts as lts
 use Rattle.type_values.proofs.bad_mask.Reads as bad-mask-reads
 
--- src/lib.rt:399:13
 cast-t : tie.Need-cast-t
 cast-t c = search needs
 
--- src/lib.rt:400:13
 cast-m : tie.Need-cast-m
 cast-m c = search needs
 
--- src/lib.rt:401:13
 cast-n : tie.Need-cast-n
 cast-n c = search needs
 
--- src/lib.rt:405:9
 cast-bad-mask : tie.Need-cast-bad-mask
 cast-bad-mask c = search needs
 
--- src/lib.rt:403:5
 bad-mask-requires : tie.Need-bad-mask-requires
 bad-mask-requires c κs = search needs
 
--- src/lib.rt:385:1
 returns : tie.Need-returns
 returns c =
     let s = c .before .before .before .before .before .before .before in

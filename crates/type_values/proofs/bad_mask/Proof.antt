@@ -21,31 +21,24 @@ Inv-loop kinds count index olds news slots back types firsts m n end mask₀ t�
 abbrev μ-loop : tie.MeasureT-loop
 μ-loop kinds count index olds news slots back types firsts m n end mask₀ t₀ mask t = end - t
 
--- src/lib.rt:321:5
 loop-holds : tie.Need-loop-holds Inv-loop μ-loop
 loop-holds c = (search needs, mask-begin _)
 
--- src/lib.rt:322:13
 is-good-requires : tie.Need-is-good-requires Inv-loop μ-loop
 is-good-requires c κs = search needs
 
--- src/lib.rt:325:39
 cast-with32 : tie.Need-cast-with32 Inv-loop μ-loop
 cast-with32 c = search needs
 
--- src/lib.rt:325:13
 with32-requires : tie.Need-with32-requires Inv-loop μ-loop
 with32-requires c κs = search needs
 
--- src/lib.rt:327:9
 add-t : tie.Need-add-t Inv-loop μ-loop
 add-t c = search needs
 
--- src/lib.rt:321:5
 loop-less : tie.Need-loop-less Inv-loop μ-loop
 loop-less c = search needs
 
--- src/lib.rt:321:5
 loop-again : tie.Need-loop-again Inv-loop μ-loop
 loop-again c =
     let l = c .before .before .before in
@@ -57,7 +50,6 @@ loop-again c =
           (λ w j. ap (bit j) (w .1) ∙ mask-miss p (l .loop .t) (l .loop .mask) (l .loop .inv .1) e (w .0 .left) j) (c .if1 .came),
     )
 
--- src/lib.rt:302:1
 returns : tie.Need-returns Inv-loop μ-loop
 returns c =
     let l = c .before in

@@ -7,19 +7,15 @@ use Rattle.type_values.proofs.constant_name.Lts as lts
 use Rattle.fields.proofs.slot_name.Reads as slot-name-reads
 use Rattle.laws.proofs.front.Reads as front-reads
 
--- src/lib.rt:65:9
 slot-name-requires : tie.Need-slot-name-requires
 slot-name-requires c κs = search needs
 
--- src/lib.rt:65:9
 returns : tie.Need-returns
 returns c = constant-some _ _ _ (c .slot-name .ensures) (c .before .if1 .taken)
 
--- src/lib.rt:67:5
 front-requires : tie.Need-front-requires
 front-requires c κs = search needs
 
--- src/lib.rt:61:1
 returns-2 : tie.Need-returns-2
 returns-2 c = constant-none _ _ _ (c .front .ensures) (c .before .if1 .left)
 

@@ -6,27 +6,21 @@ use Rattle.type_values.proofs.due_at.Lts as lts
 use Rattle.laws.proofs.byte.Reads as byte-reads
 use Rattle.laws.proofs.wide.Reads as wide-reads
 
--- src/lib.rt:161:22
 wide-requires : tie.Need-wide-requires
 wide-requires c κs = search needs
 
--- src/lib.rt:161:22
 mul-byte : tie.Need-mul-byte
 mul-byte c = search needs
 
--- src/lib.rt:161:43
 wide-requires-2 : tie.Need-wide-requires-2
 wide-requires-2 c κs = search needs
 
--- src/lib.rt:161:22
 add-byte : tie.Need-add-byte
 add-byte c = search needs
 
--- src/lib.rt:161:5
 byte-requires : tie.Need-byte-requires
 byte-requires c κs = search needs
 
--- src/lib.rt:158:1
 returns : tie.Need-returns
 returns c = cc
 

@@ -6,15 +6,12 @@ use Rattle.type_values.proofs.due_by.Reads as reads
 use Rattle.type_values.proofs.due_by.Lts as lts
 use Rattle.type_values.proofs.due_at.Reads as due-at-reads
 
--- src/lib.rt:169:9
 due-at-requires : tie.Need-due-at-requires
 due-at-requires c κs = search needs
 
--- src/lib.rt:169:9
 returns : tie.Need-returns
 returns c = due-there _ _ _ _ (c .before .if1 .taken) (c .due-at .ensures)
 
--- src/lib.rt:165:1
 returns-2 : tie.Need-returns-2
 returns-2 c = due-past _ _ _ _ (c .if1 .left)
 

@@ -17,31 +17,24 @@ Inv-loop olds size sizes constants n j v c₀ c = (c ≤ 8) × (any (lackingIn o
 abbrev μ-loop : tie.MeasureT-loop
 μ-loop olds size sizes constants n j v c₀ c = 8 - c
 
--- src/lib.rt:105:5
 loop-holds : tie.Need-loop-holds Inv-loop μ-loop
 loop-holds c = search each
 
--- src/lib.rt:106:12
 is-lacking-requires : tie.Need-is-lacking-requires Inv-loop μ-loop
 is-lacking-requires c κs = search needs
 
--- src/lib.rt:107:13
 returns : tie.Need-returns Inv-loop μ-loop
 returns c = search each
 
--- src/lib.rt:109:9
 add-c : tie.Need-add-c Inv-loop μ-loop
 add-c c = search needs
 
--- src/lib.rt:105:5
 loop-less : tie.Need-loop-less Inv-loop μ-loop
 loop-less c = search needs
 
--- src/lib.rt:105:5
 loop-again : tie.Need-loop-again Inv-loop μ-loop
 loop-again c = search each
 
--- src/lib.rt:92:1
 returns-2 : tie.Need-returns-2 Inv-loop μ-loop
 returns-2 c = search each
 

@@ -19,40 +19,31 @@ Inv-loop constants v size w i₀ i = (i ≤ size) × (any (λ j. sameName (slotN
 abbrev μ-loop : tie.MeasureT-loop
 μ-loop constants v size w i₀ i = size - i
 
--- src/lib.rt:32:5
 loop-holds : tie.Need-loop-holds Inv-loop μ-loop
 loop-holds c = search each
 
--- src/lib.rt:33:32
 mul-is-named : tie.Need-mul-is-named Inv-loop μ-loop
 mul-is-named c = search needs
 
--- src/lib.rt:33:32
 add-is-named : tie.Need-add-is-named Inv-loop μ-loop
 add-is-named c = search needs
 
--- src/lib.rt:33:12
 is-named-requires : tie.Need-is-named-requires Inv-loop μ-loop
 is-named-requires c κs = search needs
 
--- src/lib.rt:34:13
 returns : tie.Need-returns Inv-loop μ-loop
 unfolding constantIn
 returns c = search each
 
--- src/lib.rt:36:9
 add-i : tie.Need-add-i Inv-loop μ-loop
 add-i c = search needs
 
--- src/lib.rt:32:5
 loop-less : tie.Need-loop-less Inv-loop μ-loop
 loop-less c = search needs
 
--- src/lib.rt:32:5
 loop-again : tie.Need-loop-again Inv-loop μ-loop
 loop-again c = search each
 
--- src/lib.rt:27:1
 returns-2 : tie.Need-returns-2 Inv-loop μ-loop
 unfolding constantIn
 returns-2 c = search each

@@ -9,31 +9,24 @@ use Rattle.laws.proofs.wide.Reads as wide-reads
 use Rattle.type_values.proofs.slots_asked.Reads as slots-asked-reads
 use Rattle.type_values.proofs.slots_kept.Reads as slots-kept-reads
 
--- src/lib.rt:293:31
 wide-requires : tie.Need-wide-requires
 wide-requires c κs = search needs
 
--- src/lib.rt:293:9
 byte-requires : tie.Need-byte-requires
 byte-requires c κs = search needs
 
--- src/lib.rt:294:34
 wide-requires-2 : tie.Need-wide-requires-2
 wide-requires-2 c κs = search needs
 
--- src/lib.rt:294:9
 byte-requires-2 : tie.Need-byte-requires-2
 byte-requires-2 c κs = search needs
 
--- src/lib.rt:297:16
 slots-kept-requires : tie.Need-slots-kept-requires
 slots-kept-requires c κs = search needs
 
--- src/lib.rt:298:19
 slots-asked-requires : tie.Need-slots-asked-requires
 slots-asked-requires c κs = search needs
 
--- src/lib.rt:277:1
 returns : tie.Need-returns
 returns c =
     let b = c .before .before in

@@ -8,39 +8,30 @@ use Rattle.type_values.proofs.is_kept.Lts as lts
 use Rattle.laws.proofs.byte.Reads as byte-reads
 use Rattle.laws.proofs.wide.Reads as wide-reads
 
--- src/lib.rt:172:9
 returns : tie.Need-returns
 returns c = kept-nothing _ _ _ _ (c .if1 .taken)
 
--- src/lib.rt:174:13
 wide-requires : tie.Need-wide-requires
 wide-requires c κs = search needs
 
--- src/lib.rt:174:13
 sub-v : tie.Need-sub-v
 sub-v c = search needs
 
--- src/lib.rt:177:17
 wide-requires-2 : tie.Need-wide-requires-2
 wide-requires-2 c κs = search needs
 
--- src/lib.rt:177:49
 byte-requires : tie.Need-byte-requires
 byte-requires c κs = search needs
 
--- src/lib.rt:177:38
 wide-requires-3 : tie.Need-wide-requires-3
 wide-requires-3 c κs = search needs
 
--- src/lib.rt:177:34
 add-result : tie.Need-add-result
 add-result c = search needs
 
--- src/lib.rt:178:20
 byte-requires-2 : tie.Need-byte-requires-2
 byte-requires-2 c κs = search needs
 
--- src/lib.rt:168:1
 returns-2 : tie.Need-returns-2
 returns-2 c =
     let b = c .before .before .before .before .before in

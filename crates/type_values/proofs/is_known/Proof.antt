@@ -1,12 +1,10 @@
 use Rattle.type_values.specs.Numbers.{knownIn}
 use Rattle.laws.specs.Connective.{both, either}
-use borrow.Author.Needs.{needs}
 use Rattle.type_values.proofs.is_known.Statement.{statement}
 use Rattle.type_values.proofs.is_known.Tie as tie
 use Rattle.type_values.proofs.is_known.Reads as reads
 use Rattle.type_values.proofs.is_known.Lts as lts
 
--- src/lib.rt:54:1
 returns : tie.Need-returns
 unfolding knownIn both either
 returns c = cc

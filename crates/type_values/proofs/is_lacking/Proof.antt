@@ -9,31 +9,24 @@ use Rattle.type_values.proofs.constant_name.Reads as constant-name-read
 use Rattle.type_values.proofs.is_known.Reads as is-known-reads
 use Rattle.type_values.proofs.is_shared.Reads as is-shared-reads
 
--- src/lib.rt:84:8
 is-known-requires : tie.Need-is-known-requires
 is-known-requires c κs = search needs
 
--- src/lib.rt:85:43
 mul-constant-name : tie.Need-mul-constant-name
 mul-constant-name c = search needs
 
--- src/lib.rt:85:43
 add-constant-name : tie.Need-add-constant-name
 add-constant-name c = search needs
 
--- src/lib.rt:85:13
 constant-name-requires : tie.Need-constant-name-requires
 constant-name-requires c κs = search needs
 
--- src/lib.rt:86:17
 is-shared-requires : tie.Need-is-shared-requires
 is-shared-requires c κs = search needs
 
--- src/lib.rt:86:9
 returns : tie.Need-returns
 returns c = lacking-known _ _ _ _ _ _ _ _ (c .before .before .before .is-known .ensures) (c .before .before .if1 .taken) refl (c .before .constant-name .ensures) (c .is-shared .ensures)
 
--- src/lib.rt:71:1
 returns-2 : tie.Need-returns-2
 returns-2 c = lacking-unknown _ _ _ _ _ _ _ _ (c .before .is-known .ensures) (c .if1 .left)
 

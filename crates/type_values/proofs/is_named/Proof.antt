@@ -6,15 +6,12 @@ use Rattle.type_values.proofs.is_named.Lts as lts
 use Rattle.fields.proofs.same_name.Reads as same-name-reads
 use Rattle.fields.proofs.slot_name.Reads as slot-name-reads
 
--- src/lib.rt:23:23
 slot-name-requires : tie.Need-slot-name-requires
 slot-name-requires c κs = search needs
 
--- src/lib.rt:23:5
 same-name-requires : tie.Need-same-name-requires
 same-name-requires c κs = search needs
 
--- src/lib.rt:20:1
 returns : tie.Need-returns
 returns c = cc
 

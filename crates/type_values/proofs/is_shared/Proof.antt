@@ -11,19 +11,15 @@ use Rattle.type_values.proofs.is_shared.Lts as lts
 use Rattle.laws.proofs.wide.Reads as wide-reads
 use Rattle.type_values.proofs.has_constant.Reads as has-constant-reads
 
--- src/lib.rt:47:9
 returns : tie.Need-returns
 returns c = shared-past _ _ _ _ _ (c .if1 .taken)
 
--- src/lib.rt:49:22
 wide-requires : tie.Need-wide-requires
 wide-requires c κs = search needs
 
--- src/lib.rt:49:16
 element-copy-out-size : tie.Need-element-copy-out-size
 element-copy-out-size c = search needs
 
--- src/lib.rt:50:5
 has-constant-requires : tie.Need-has-constant-requires
 has-constant-requires c κs =
     let a = c .before .before .before .before .before .args in
@@ -31,7 +27,6 @@ has-constant-requires c κs =
     let w = c .before .wide in
     (omega arith, p .1 (w .result) (omega arith))
 
--- src/lib.rt:42:1
 returns-2 : tie.Need-returns-2
 returns-2 c =
     let b = c .before .before in

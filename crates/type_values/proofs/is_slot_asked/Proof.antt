@@ -10,23 +10,18 @@ use Rattle.laws.proofs.wide.Reads as wide-reads
 use Rattle.type_values.proofs.due_at.Reads as due-at-reads
 use Rattle.type_values.proofs.due_by.Reads as due-by-reads
 
--- src/lib.rt:247:6
 due-at-requires : tie.Need-due-at-requires
 due-at-requires c κs = search needs
 
--- src/lib.rt:247:71
 wide-requires : tie.Need-wide-requires
 wide-requires c κs = search needs
 
--- src/lib.rt:247:53
 byte-requires : tie.Need-byte-requires
 byte-requires c κs = search needs
 
--- src/lib.rt:247:34
 due-by-requires : tie.Need-due-by-requires
 due-by-requires c κs = search needs
 
--- src/lib.rt:236:1
 returns : tie.Need-returns
 unfolding slotAskedIn either
 returns c = cc

@@ -10,27 +10,21 @@ use Rattle.type_values.proofs.due_at.Reads as due-at-reads
 use Rattle.type_values.proofs.due_by.Reads as due-by-reads
 use Rattle.type_values.proofs.is_kept.Reads as is-kept-reads
 
--- src/lib.rt:205:9
 due-at-requires : tie.Need-due-at-requires
 due-at-requires c κs = search needs
 
--- src/lib.rt:206:46
 wide-requires : tie.Need-wide-requires
 wide-requires c κs = search needs
 
--- src/lib.rt:206:28
 byte-requires : tie.Need-byte-requires
 byte-requires c κs = search needs
 
--- src/lib.rt:206:9
 due-by-requires : tie.Need-due-by-requires
 due-by-requires c κs = search needs
 
--- src/lib.rt:202:5
 is-kept-requires : tie.Need-is-kept-requires
 is-kept-requires c κs = search needs
 
--- src/lib.rt:189:1
 returns : tie.Need-returns
 unfolding slotKeptIn
 returns c = cc

@@ -7,21 +7,17 @@ use Rattle.type_values.proofs.lacking_values.Reads as reads
 use Rattle.type_values.proofs.lacking_values.Lts as lts
 use Rattle.type_values.proofs.all_lacking.Reads as all-lacking-reads
 
--- src/lib.rt:356:9
 cast-all-lacking : tie.Need-cast-all-lacking
 cast-all-lacking c = search needs
 
--- src/lib.rt:359:9
 cast-all-lacking-2 : tie.Need-cast-all-lacking-2
 cast-all-lacking-2 c = search needs
 
--- src/lib.rt:353:5
 all-lacking-requires : tie.Need-all-lacking-requires
 all-lacking-requires c κs =
     let s = c .before .before .before .before .before .before .before .before .before .before in
     (search needs, (search needs, size-small (s .args .new) (s .pre .0 .1)))
 
--- src/lib.rt:343:1
 returns : tie.Need-returns
 returns c =
     let s = c .before .before .before .before .before .before .before .before .before .before .before in

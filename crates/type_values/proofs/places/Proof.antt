@@ -22,35 +22,27 @@ Inv-loop names n others k r₀ i₀ r i = (i ≤ n) × (length r ≡ 32) × ((j 
 abbrev μ-loop : tie.MeasureT-loop
 μ-loop names n others k r₀ i₀ r i = n - i
 
--- src/lib.rt:153:5
 loop-holds : tie.Need-loop-holds Inv-loop μ-loop
 loop-holds c = (search needs, search needs, below-none _)
 
--- src/lib.rt:154:47
 slot-name-requires : tie.Need-slot-name-requires Inv-loop μ-loop
 slot-name-requires c κs = search needs
 
--- src/lib.rt:154:13
 slot-of-requires : tie.Need-slot-of-requires Inv-loop μ-loop
 slot-of-requires c κs = search needs
 
--- src/lib.rt:155:11
 wide-requires : tie.Need-wide-requires Inv-loop μ-loop
 wide-requires c κs = search needs
 
--- src/lib.rt:155:9
 array-write-r : tie.Need-array-write-r Inv-loop μ-loop
 array-write-r c = search needs
 
--- src/lib.rt:156:9
 add-i : tie.Need-add-i Inv-loop μ-loop
 add-i c = search needs
 
--- src/lib.rt:153:5
 loop-less : tie.Need-loop-less Inv-loop μ-loop
 loop-less c = search needs
 
--- src/lib.rt:153:5
 loop-again : tie.Need-loop-again Inv-loop μ-loop
 loop-again c =
     let l = c .before .before .before .before .loop in
@@ -62,7 +54,6 @@ loop-again c =
           (c .before .slot-of .ensures .0 ∙ ap (slotOf (a .others .now) (a .k)) (c .before .before .slot-name .ensures))),
     )
 
--- src/lib.rt:147:1
 returns : tie.Need-returns Inv-loop μ-loop
 returns c = λ i h. c .before .loop .inv .2 i (omega arith)
 

@@ -17,31 +17,24 @@ Inv-loop olds news slots t u m n s₀ s = (s ≤ n) × (all (slotAskedIn olds ne
 abbrev μ-loop : tie.MeasureT-loop
 μ-loop olds news slots t u m n s₀ s = n - s
 
--- src/lib.rt:263:5
 loop-holds : tie.Need-loop-holds Inv-loop μ-loop
 loop-holds c = search each
 
--- src/lib.rt:264:12
 is-slot-asked-requires : tie.Need-is-slot-asked-requires Inv-loop μ-loop
 is-slot-asked-requires c κs = search needs
 
--- src/lib.rt:265:13
 add-s : tie.Need-add-s Inv-loop μ-loop
 add-s c = search needs
 
--- src/lib.rt:263:5
 loop-less : tie.Need-loop-less Inv-loop μ-loop
 loop-less c = search needs
 
--- src/lib.rt:263:5
 loop-again : tie.Need-loop-again Inv-loop μ-loop
 loop-again c = search each
 
--- src/lib.rt:267:13
 returns : tie.Need-returns Inv-loop μ-loop
 returns c = search each
 
--- src/lib.rt:251:1
 returns-2 : tie.Need-returns-2 Inv-loop μ-loop
 returns-2 c = search each
 

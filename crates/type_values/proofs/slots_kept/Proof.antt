@@ -17,31 +17,24 @@ Inv-loop olds news slots types firsts t u n m s₀ s = (s ≤ m) × (all (slotKe
 abbrev μ-loop : tie.MeasureT-loop
 μ-loop olds news slots types firsts t u n m s₀ s = m - s
 
--- src/lib.rt:225:5
 loop-holds : tie.Need-loop-holds Inv-loop μ-loop
 loop-holds c = search each
 
--- src/lib.rt:226:12
 is-slot-kept-requires : tie.Need-is-slot-kept-requires Inv-loop μ-loop
 is-slot-kept-requires c κs = search needs
 
--- src/lib.rt:227:13
 add-s : tie.Need-add-s Inv-loop μ-loop
 add-s c = search needs
 
--- src/lib.rt:225:5
 loop-less : tie.Need-loop-less Inv-loop μ-loop
 loop-less c = search needs
 
--- src/lib.rt:225:5
 loop-again : tie.Need-loop-again Inv-loop μ-loop
 loop-again c = search each
 
--- src/lib.rt:229:13
 returns : tie.Need-returns Inv-loop μ-loop
 returns c = search each
 
--- src/lib.rt:211:1
 returns-2 : tie.Need-returns-2 Inv-loop μ-loop
 returns-2 c = search each
 
