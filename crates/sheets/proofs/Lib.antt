@@ -9,3 +9,5 @@ pub mod RowLaws
 pub mod LineLaws
 pub mod LinesOfLaws
 pub mod SheetLaws
+pub mod TypeSetLaws
+pub mod TurnLaws

@@ -15,11 +15,11 @@ use Rattle.laws.proofs.BoundedLaws.{all-at}
 use Rattle.laws.proofs.ConnectiveLaws.{or-right}
 use Rattle.sheets.specs.RowsBy.{gathered, maskAt, targetAt}
 
-all-types : (u : ℕ) → u < 24 → bit u 16777215 ≡ true
+pub all-types : (u : ℕ) → u < 24 → bit u 16777215 ≡ true
 unfolding bit all
 all-types u l = all-at (λ k. bit k 16777215) 24 refl u l
 
-mask-step : (u m more keep : ℕ) → bit u (bitAnd (bitOr m more) keep) ≡ (bit u m || bit u more) && bit u keep
+pub mask-step : (u m more keep : ℕ) → bit u (bitAnd (bitOr m more) keep) ≡ (bit u m || bit u more) && bit u keep
 mask-step u m more keep = bit-and u (bitOr m more) keep ∙ ap (λ (b : Bool). b && bit u keep) (bit-or u m more)
 
 and-both-is : (a b : Bool) → a && b ≡ both a b

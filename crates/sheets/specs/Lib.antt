@@ -2,3 +2,4 @@ pub mod Named
 pub mod NamedIn
 pub mod RowsBy
 pub mod LinesBy
+pub mod MasksBy

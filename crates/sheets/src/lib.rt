@@ -10,12 +10,15 @@ ghost use Rattle.diagrams.specs.View.{diagramOf};
 ghost use Rattle.diagrams.specs.Held.{Held};
 ghost use Rattle.resolving.specs.Lookup.{slotOf};
 ghost use Rattle.type_tables.specs.RowsIn.{isSubtype, setOf};
-ghost use Rattle.worlds.specs.Tables.{LinesOf, RowTables};
+ghost use Rattle.worlds.specs.Tables.{LinesOf, MissingLinks, RowTables, SingleTypes, UsableTypes, singleMissing};
+ghost use Rattle.worlds.specs.Kept.{Turned};
+ghost use Rattle.type_tables.specs.TypeTables.{Dues};
 ghost use Rattle.sheets.specs.Named.{EndsBy, Images, SlotsBy, SubtypesBy};
 ghost use Rattle.sheets.specs.NamedIn.{isImage};
 
 mod lines;
 mod places;
+mod type_sets;
 
 // ---- names
 
@@ -187,6 +190,23 @@ pub fn rows_by(old: diagrams::StoredDiagram, d: diagrams::StoredDiagram) -> Rows
     }
 }
 
+// The table of sources: for type u and slot s at u * 32 + s the types that may have u as a target.
+pub fn sources_of(targets: &[u32; 768]) -> [u32; 768]
+    ensures { λ r. ⌜ Turned (now (targets .entry)) r ⌝ }
+{
+    let mut r = [0u32; 768];
+    let mut x: usize = 0;
+    while x < 768 {
+        let mask = targets[x];
+        if 0 < mask {
+            let one = laws::with32(0, (x / 32) as u32);
+            places::mask_slot(&mut r, mask, (x % 32) as u8, one, 16777215, 24);
+        }
+        x += 1;
+    }
+    r
+}
+
 // ---- associations
 
 // What d asks by its associations, by the types and slots of old.
@@ -205,5 +225,58 @@ pub fn lines_by(old: diagrams::StoredDiagram, d: diagrams::StoredDiagram) -> wor
         &a.lows,
         &a.ups,
         a.count,
+    )
+}
+
+// ---- sets of types
+
+// The types that an object can have, by what each type asks of the values.
+pub fn usable_types(old: diagrams::StoredDiagram, dues: &[u8; 768]) -> u32
+    requires { ⌜ Held old × Dues (diagramOf old) (now dues) ⌝ }
+    ensures { λ r. ⌜ UsableTypes (diagramOf old) r ⌝ }
+{
+    let t = old.types;
+    type_sets::usable_of(&t.kinds, dues, t.count as u8)
+}
+
+// The types of old that have the name of a singleton class of d.
+pub fn single_types(old: diagrams::StoredDiagram, d: diagrams::StoredDiagram) -> u32
+    requires { ⌜ Held old × Held d ⌝ }
+    ensures { λ r. ⌜ SingleTypes (diagramOf old) (diagramOf d) r ⌝ }
+{
+    let found = images(old, d);
+    let t = old.types;
+    let u = d.types;
+    let chosen = type_sets::singles_of(&u.kinds, u.count as u8);
+    images_of(&found, chosen, u.count as u8, t.count as u8)
+}
+
+// A singleton class of d has a name that no type of old has.
+pub fn single_missing(old: diagrams::StoredDiagram, d: diagrams::StoredDiagram) -> bool
+    requires { ⌜ Held old × Held d ⌝ }
+    ensures { λ r. ⌜ r ≡ singleMissing (diagramOf old) (diagramOf d) ⌝ }
+{
+    let found = images(old, d);
+    let t = old.types;
+    let u = d.types;
+    let k = t.count as u8;
+    let chosen = type_sets::singles_of(&u.kinds, u.count as u8);
+    laws::has32(images_of(&found, chosen, u.count as u8, k + 1), k as u32)
+}
+
+// The types of old that d asks for links of a role for which old has no slot.
+pub fn missing_links(old: diagrams::StoredDiagram, d: diagrams::StoredDiagram) -> u32
+    requires { ⌜ Held old × Held d ⌝ }
+    ensures { λ r. ⌜ MissingLinks (diagramOf old) (diagramOf d) r ⌝ }
+{
+    let sets = ends_by(old, d);
+    let slots = slots_by(old, d);
+    let a = d.associations;
+    type_sets::missing_of(
+        &sets,
+        &a.arrows,
+        &slots,
+        &a.lows,
+        (a.count * 2) as u8,
     )
 }

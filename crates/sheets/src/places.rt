@@ -97,7 +97,7 @@ pub fn limits_of<'a>(
 }
 
 // With the types of `more`, and of these the ones in `keep`, in slot s of each type of the set.
-fn mask_slot(masks: &mut [u32; 768], set: u32, s: u8, more: u32, keep: u32, k: u8)
+pub fn mask_slot(masks: &mut [u32; 768], set: u32, s: u8, more: u32, keep: u32, k: u8)
     requires { ⌜ (k ≤ 24) × (length (now masks) ≡ 768) ⌝ }
     ensures { λ r. ⌜ Stepped (λ m. bitAnd (bitOr m more) keep) set s k (now (masks .entry)) (now (masks .exit)) ⌝ }
 {

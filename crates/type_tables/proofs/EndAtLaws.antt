@@ -34,7 +34,7 @@ unfolding otherEnd
 other-below e n l = omega arith
 
 module _ (d : StoredDiagram) where
-  end-at : (e : ℕ) → e < d .associations .count * 2 → endAt (diagramOf d) e ≡ endIn (d .associations) e
+  pub end-at : (e : ℕ) → e < d .associations .count * 2 → endAt (diagramOf d) e ≡ endIn (d .associations) e
   unfolding endAt associationIn
   end-at e l =
       let h : e / 2 < d .associations .count = omega arith in
