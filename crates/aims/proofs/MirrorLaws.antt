@@ -1,7 +1,7 @@
 -- Mirrors, one at a time: a search for a link without the link back, one way and the other.
 -- Assumes nothing.
 use Prim.Native.Nat.{_<_, _≤_, ℕ}
-use mathlib.Core.Bool.{Bool, _&&_, false, true}
+use mathlib.Core.Bool.{Bool, false, true}
 use mathlib.Core.Path.{_∙_, _≡_, refl, subst, sym}
 use lib.Dec.{eqb}
 use lib.ListN.{getD}
@@ -10,7 +10,7 @@ use Rattle.laws.specs.Bits.{bit}
 use Rattle.laws.proofs.ConnectiveLaws.{and-both, and-left, and-right, true-false}
 use Rattle.growing.specs.World.{World}
 use Rattle.worlds.specs.declared.Lines.{Lines}
-use Rattle.worlds.specs.Kept.{Allowed, MirrorsKept, Sheet}
+use Rattle.worlds.specs.Kept.{MirrorsKept, Sheet}
 use Rattle.worlds.specs.Asked.{Breaks}
 use Rattle.queries.specs.Avoided.{HalfLoopsAvoided, HalvesAvoided}
 use Rattle.queries.proofs.BreakLaws.{Throughout, breaks-last, breaks-same}

@@ -19,7 +19,7 @@ use Rattle.worlds.specs.Kept.{Allowed, RowsKept, Sheet}
 use Rattle.worlds.specs.Asked.{Breaks}
 use Rattle.queries.specs.Avoided.{LinksAvoided, LoopsAvoided, RowsAvoided}
 use Rattle.queries.proofs.BreakLaws.{Throughout, breaks-last}
-use Rattle.aims.specs.Rows.{AllLinksAvoided, HighsKept, LowsKept, RowKept, TargetsKept}
+use Rattle.aims.specs.Rows.{AllLinksAvoided, HighsKept, LowsKept, RowKept, RowWithin, RowsWithin, TargetsKept}
 
 -- c holds the types of both masks; m the type t alone; d the types of a without those of b
 abbrev pub Common : ℕ → ℕ → ℕ → Type 0
@@ -196,3 +196,31 @@ module _ (targets lows highs : List ℕ) where
         subst (λ (y : ℕ). Within (getD lows (w .kind o * 32 + s) 0) (getD highs (w .kind o * 32 + s) 0) (tally (λ p. w .link y o p) (w .size))) slot
         (record { least = r .low-kept .at o l type; most = r .high-kept .at o l type });
   }
+
+-- ---- rows that ask for nothing more
+
+-- the test of a row: no target goes, no limit is narrower
+pub row-within : (targets lows highs targets2 lows2 highs2 : List ℕ) (i d : ℕ) → Rest d (getD targets i 0) (getD targets2 i 0) → d ≡ 0 → getD lows2 i 0 ≤ getD lows i 0
+    → getD highs i 0 ≤ getD highs2 i 0 → RowWithin targets lows highs targets2 lows2 highs2 i
+row-within targets lows highs targets2 lows2 highs2 i d f e l h = record { target = λ j t. go j t (bit j (getD targets2 i 0)) refl; low = l; high = h }
+  where
+    go : (j : ℕ) → bit j (getD targets i 0) ≡ true → (b : Bool) → bit j (getD targets2 i 0) ≡ b → bit j (getD targets2 i 0) ≡ true
+    go j t true z = z
+    go j t false z = absurd (true-false (rest-on d (getD targets i 0) (getD targets2 i 0) j f t z) (ap (bit j) e ∙ bit-zero j))
+
+module _ (x : Sheet) (n : ℕ) (targets lows highs : List ℕ) where
+  pub row-kept : (i : ℕ) → RowWithin (x .targets) (x .lows) (x .highs) targets lows highs i → Throughout x (RowKept targets lows highs i) n
+  row-kept i k w h z = record {
+    targets-kept = target-of x i w h targets (λ o p _ _ _ _ t f. true-false (k .target (w .kind p) t) f);
+    low-kept = low-none x n i lows (k .low) w h z;
+    high-kept = high-none x n i highs (k .high) w h z;
+  }
+
+  -- the rows below `from` are kept, and so are those up to the next one
+  pub rows-on : (from to : ℕ) → ((i : ℕ) → i < from → Throughout x (RowKept targets lows highs i) n) → RowsWithin (x .targets) (x .lows) (x .highs) targets lows highs from to
+      → (i : ℕ) → i < to → Throughout x (RowKept targets lows highs i) n
+  rows-on from to f k i l = go (leb from i) refl
+    where
+      go : (b : Bool) → leb from i ≡ b → Throughout x (RowKept targets lows highs i) n
+      go true e = row-kept i (k .each i (leb-true from i e) l)
+      go false e = f i (leb-false from i e)

@@ -12,7 +12,7 @@ use Rattle.laws.proofs.BoundedLaws.{tally-none}
 use Rattle.laws.proofs.ConnectiveLaws.{true-false}
 use Rattle.growing.specs.World.{World}
 use Rattle.growing.proofs.SplitLaws.{tally-holds}
-use Rattle.worlds.specs.Kept.{Allowed, Sheet, SinglesKept, TypesAvoided}
+use Rattle.worlds.specs.Kept.{Sheet, SinglesKept, TypesAvoided}
 use Rattle.worlds.specs.Asked.{Breaks}
 use Rattle.queries.specs.Avoided.{PairsAvoided}
 use Rattle.queries.proofs.BreakLaws.{Throughout, breaks-last}
@@ -38,10 +38,11 @@ module _ (t others a : ℕ) (only : Only a t) where
   single-pairs : bit t others ≡ true → (w : World) → SingleKept others t w → PairsAvoided a w
   single-pairs e w k = record {
     at = λ o p lo lp ne f g.
-        omega
-        (arith,
-        k .at e,
-        two-counted (λ o. eqb (w .kind o) t) (w .size) o p lo lp ne (sym (only (w .kind o)) ∙ f) (sym (only (w .kind p)) ∙ g));
+        omega (
+          arith,
+          k .at e,
+          two-counted (λ o. eqb (w .kind o) t) (w .size) o p lo lp ne (sym (only (w .kind o)) ∙ f) (sym (only (w .kind p)) ∙ g),
+        );
   }
 
   -- some, and no two: exactly one

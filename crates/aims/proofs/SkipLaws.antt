@@ -4,8 +4,7 @@ use Prim.Native.Nat.{_<_, ℕ}
 use mathlib.Core.Path.{_≡_, refl}
 use mathlib.Core.Bool.{Bool, false, true}
 use Rattle.laws.specs.Bits.{bit}
-use Rattle.growing.specs.World.{World}
-use Rattle.worlds.specs.Kept.{Allowed, Sheet, TypesAvoided}
+use Rattle.worlds.specs.Kept.{Sheet, TypesAvoided}
 use Rattle.queries.specs.Avoided.{ColumnsAvoided, HalfLoopsAvoided, HalvesAvoided, LinksAvoided, LoopsAvoided, OwnPartsAvoided, PairsAvoided, PartsAvoided, RowsAvoided}
 use Rattle.queries.proofs.BreakLaws.{Throughout}
 

@@ -19,9 +19,9 @@ but q o k = q k && not (eqb k o)
 pub two-counted : (q : ℕ → Bool) (n o p : ℕ) → o < n → p < n → (o ≡ p → ⊥) → q o ≡ true → q p ≡ true → 2 ≤ tally q n
 two-counted q n o p lo lp ne e f =
     let a : 0 < tally (but q o) n =
-        tally-holds (but q o) n p lp (and-both (q p) (not (eqb p o)) f (ap not (ne-eqb p o (λ z. ne (sym z))))) in
+    tally-holds (but q o) n p lp (and-both (q p) (not (eqb p o)) f (ap not (ne-eqb p o (λ z. ne (sym z))))) in
     let b : tally (but q o) n < tally q n =
-        tally-less (but q o) q n o (λ k l z. and-left (q k) (not (eqb k o)) z) lo (ap (λ (t : Bool). q o && not t) (eq-eqb o o refl) ∙ and-false (q o)) e in
+    tally-less (but q o) q n o (λ k l z. and-left (q k) (not (eqb k o)) z) lo (ap (λ (t : Bool). q o && not t) (eq-eqb o o refl) ∙ and-false (q o)) e in
     omega arith
 
 -- one index is counted once

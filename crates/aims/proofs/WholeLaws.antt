@@ -2,23 +2,24 @@
 -- Assumes nothing.
 use Prim.Native.Nat.{_%_, _*_, _+_, _/_, _<_, _≤_, ℕ}
 use mathlib.Core.Bool.{Bool, _&&_, false, true}
-use mathlib.Core.Logic.{⊎-elim}
+use mathlib.Core.List.{List}
 use mathlib.Core.Path.{_∙_, _≡_, ap, refl, subst, sym}
 use native.Mathlib.Omega.{arith}
 use lib.Dec.{eqb, leb}
 use lib.ListN.{getD}
 use borrow.Author.Tests.{eqb-false, eqb-true, leb-false, leb-true}
 use Rattle.laws.specs.Bits.{bit}
-use Rattle.laws.specs.Bounded.{any, tally}
+use Rattle.laws.specs.Bounded.{tally}
+use Rattle.laws.proofs.BitLaws.{bit-zero}
 use Rattle.laws.proofs.BoundedLaws.{any-at, any-of}
 use Rattle.laws.proofs.ConnectiveLaws.{and-both, and-left, and-right, true-false}
 use Rattle.growing.specs.World.{World}
 use Rattle.worlds.specs.declared.Lines.{Lines}
-use Rattle.worlds.specs.Kept.{Allowed, Sheet, WholesKept, wholeBy, wholeOf}
+use Rattle.worlds.specs.Kept.{Sheet, WholesKept, wholeBy, wholeOf}
 use Rattle.worlds.specs.Asked.{Breaks}
 use Rattle.queries.specs.Avoided.{OwnPartsAvoided, PartsAvoided}
 use Rattle.queries.proofs.BreakLaws.{Throughout, breaks-last}
-use Rattle.aims.specs.Wholes.{AllPartsAvoided, PairApart}
+use Rattle.aims.specs.Wholes.{AllPartsAvoided, PairApart, PairEmpty, PairsEmpty}
 use Rattle.aims.proofs.RowLaws.{Common}
 use Rattle.aims.proofs.TwoLaws.{counted-two, two-counted}
 
@@ -125,10 +126,11 @@ pub pair-at : (x : Lines) (i : ℕ) → i < 256 → (w : World) → WholesKept x
 unfolding wholeOf
 pair-at x i h w k = record {
   at = λ p o r lp lo lr ne _ e f.
-      omega
-      (arith,
-      k .at p lp,
-      two-counted (wholeOf x w p) (w .size) o r lo lr ne (any-of (wholeBy x w p o) 16 (i / 16) (omega arith) e) (any-of (wholeBy x w p r) 16 (i % 16) (omega arith) f));
+      omega (
+        arith,
+        k .at p lp,
+        two-counted (wholeOf x w p) (w .size) o r lo lr ne (any-of (wholeBy x w p o) 16 (i / 16) (omega arith) e) (any-of (wholeBy x w p r) 16 (i % 16) (omega arith) f),
+      );
 }
 
 -- the pair of compositions j and k, in rising order
@@ -156,3 +158,37 @@ wholes-of x w f = record { at = λ p lp. go p lp (leb (tally (wholeOf x w p) (w 
         let a = any-at (wholeBy x w p (two .first)) 16 (two .holds) in
         let b = any-at (wholeBy x w p (two .second)) 16 (two .holds-too) in
         absurd (apart p (two .first) (two .second) (a .0) (b .0) (a .1) (b .1) lp (two .below) (two .below-too) (two .apart) (a .2) (b .2) (leb (a .0) (b .0)) refl)
+
+-- ---- pairs that ask for nothing
+
+module _ (from to : List ℕ) (i : ℕ) where
+  pub empty-turned : i % 16 < i / 16 → PairEmpty from to i
+  empty-turned l = record { at = λ z _ _ _ _ _ _ _. omega arith }
+
+  pub empty-first : getD from (i / 16) 0 ≡ 0 → PairEmpty from to i
+  empty-first e = record { at = λ _ _ u _ a _ _ _. true-false a (ap (bit u) e ∙ bit-zero u) }
+
+  pub empty-second : getD from (i % 16) 0 ≡ 0 → PairEmpty from to i
+  empty-second e = record { at = λ _ _ _ v _ a _ _. true-false a (ap (bit v) e ∙ bit-zero v) }
+
+  pub empty-common : (d : ℕ) → Common d (getD to (i / 16) 0) (getD to (i % 16) 0) → d ≡ 0 → PairEmpty from to i
+  empty-common d both e = record {
+    at = λ _ t _ _ _ _ a b. true-false (both t ∙ and-both (bit t (getD to (i / 16) 0)) (bit t (getD to (i % 16) 0)) a b) (ap (bit t) e ∙ bit-zero t);
+  }
+
+module _ (x : Sheet) (n : ℕ) (others : Lines) where
+  pair-empty : (i : ℕ) → PairEmpty (others .wholefrom) (others .wholeto) i → Throughout x (PairApart others i) n
+  pair-empty i k w h _ = record {
+    at = λ p o r _ _ _ _ l e f.
+        k .at l (w .kind p) (w .kind o) (w .kind r) (whole-from others w p o (i / 16) e) (whole-from others w p r (i % 16) f) (whole-to others w p o (i / 16) e)
+        (whole-to others w p r (i % 16) f);
+  }
+
+  -- the pairs below `start` are apart, and so are those up to the next one
+  pub pairs-on : (start next : ℕ) → ((i : ℕ) → i < start → Throughout x (PairApart others i) n) → PairsEmpty (others .wholefrom) (others .wholeto) start next
+      → (i : ℕ) → i < next → Throughout x (PairApart others i) n
+  pairs-on start next f k i l = go (leb start i) refl
+    where
+      go : (b : Bool) → leb start i ≡ b → Throughout x (PairApart others i) n
+      go true e = pair-empty i (k .each i (leb-true start i e) l)
+      go false e = f i (leb-false start i e)

@@ -1,7 +1,7 @@
 -- One column at a time: how many sources of the types `from` an object of the types a has in slot s.
 -- Assumes nothing.
 use Prim.Native.Nat.{_<_, _≤_, ℕ}
-use mathlib.Core.Bool.{Bool, _&&_, true}
+use mathlib.Core.Bool.{_&&_, true}
 use mathlib.Core.Path.{_≡_}
 use lib.ListN.{getD}
 use Rattle.laws.specs.Bits.{bit}

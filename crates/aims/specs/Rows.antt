@@ -29,3 +29,15 @@ pub record RowKept (targets lows highs : List ℕ) (i : ℕ) (w : World) : Type 
   pub targets-kept : TargetsKept targets i w
   pub low-kept : LowsKept lows i w
   pub high-kept : HighsKept highs i w
+
+-- the row at i of the second tables asks for nothing that the row of the first does not ask
+pub record RowWithin (targets lows highs targets2 lows2 highs2 : List ℕ) (i : ℕ) : Type 0 where
+  pub target : (j : ℕ) → bit j (getD targets i 0) ≡ true → bit j (getD targets2 i 0) ≡ true
+  pub low : getD lows2 i 0 ≤ getD lows i 0
+  pub high : getD highs i 0 ≤ getD highs2 i 0
+
+-- so it is from one row on, up to another
+pub record RowsWithin (targets lows highs targets2 lows2 highs2 : List ℕ) (from to : ℕ) : Type 0 where
+  pub past : from ≤ to
+  pub few : to ≤ 768
+  pub each : (i : ℕ) → from ≤ i → i < to → RowWithin targets lows highs targets2 lows2 highs2 i

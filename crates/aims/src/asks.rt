@@ -1,13 +1,13 @@
 // Searches for allowed worlds with given objects in front: each answer says what all allowed worlds avoid.
 ghost use mathlib.Core.Path.{_≡_};
-ghost use mathlib.Core.Bool.{Bool, false};
-ghost use Prim.Native.Nat.{ℕ, _<_, _≤_};
+ghost use mathlib.Core.Bool.{false};
+ghost use Prim.Native.Nat.{_<_, _≤_};
 ghost use Rattle.worlds.specs.Kept.{Slotted, Turned, TypesAvoided, sheet};
 ghost use Rattle.worlds.specs.Asked.{Breaks, worldBuilt};
 ghost use Rattle.queries.specs.Avoided.{PairsAvoided, LinksAvoided, LoopsAvoided, RowsAvoided, ColumnsAvoided, HalvesAvoided, HalfLoopsAvoided, PartsAvoided, OwnPartsAvoided};
+use growth::find;
 use worlds::Built;
 use worlds::Lines;
-use growth::find;
 
 // Nothing was found.
 pub fn nothing() -> Built
@@ -226,7 +226,12 @@ pub fn ask_halves<'a>(
     if !queries::meets(b, usable) {
         return nothing();
     }
-    let q = queries::with_bar(queries::with_link(queries::with_seeds(2, a, b, 0), s, 0, 1), u, 1, 0);
+    let q = queries::with_bar(
+        queries::with_link(queries::with_seeds(2, a, b, 0), s, 0, 1),
+        u,
+        1,
+        0,
+    );
     find(targets, sources, lows, highs, lines, usable, singles, q, n)
 }
 
@@ -250,7 +255,12 @@ pub fn ask_half_loops<'a>(
     if !queries::meets(a, usable) {
         return nothing();
     }
-    let q = queries::with_bar(queries::with_link(queries::with_seeds(1, a, 0, 0), s, 0, 0), u, 0, 0);
+    let q = queries::with_bar(
+        queries::with_link(queries::with_seeds(1, a, 0, 0), s, 0, 0),
+        u,
+        0,
+        0,
+    );
     find(targets, sources, lows, highs, lines, usable, singles, q, n)
 }
 
@@ -282,7 +292,12 @@ pub fn ask_parts<'a>(
     if !queries::meets(c, usable) {
         return nothing();
     }
-    let q = queries::with_link(queries::with_link(queries::with_seeds(3, a, b, c), s, 1, 0), u, 2, 0);
+    let q = queries::with_link(
+        queries::with_link(queries::with_seeds(3, a, b, c), s, 1, 0),
+        u,
+        2,
+        0,
+    );
     find(targets, sources, lows, highs, lines, usable, singles, q, n)
 }
 
@@ -310,6 +325,11 @@ pub fn ask_own_parts<'a>(
     if !queries::meets(b, usable) {
         return nothing();
     }
-    let q = queries::with_link(queries::with_link(queries::with_seeds(2, a, b, 0), s, 0, 0), u, 1, 0);
+    let q = queries::with_link(
+        queries::with_link(queries::with_seeds(2, a, b, 0), s, 0, 0),
+        u,
+        1,
+        0,
+    );
     find(targets, sources, lows, highs, lines, usable, singles, q, n)
 }

@@ -1,14 +1,13 @@
 // Columns: the number of sources of each object lies within the other diagram's limits. A slot past the last has no links.
-ghost use mathlib.Core.Path.{_≡_};
-ghost use Prim.Native.Nat.{ℕ, _<_, _≤_};
+ghost use Prim.Native.Nat.{_<_, _≤_};
 ghost use Rattle.worlds.specs.Kept.{ColumnsKept, Slotted, Turned, sheet};
 ghost use Rattle.worlds.specs.Asked.{Breaks, worldBuilt};
 ghost use Rattle.aims.specs.Columns.{ColumnKept, LeastKept, MostKept};
-use worlds::Built;
-use worlds::Lines;
 use crate::asks::ask_columns;
 use crate::asks::ask_types;
 use crate::asks::nothing;
+use worlds::Built;
+use worlds::Lines;
 
 // An object of the types a with fewer sources in slot s.
 fn find_few<'a>(
@@ -34,7 +33,21 @@ fn find_few<'a>(
     if 32 <= s {
         return ask_types(targets, sources, lows, highs, lines, usable, singles, n, a);
     }
-    ask_columns(targets, sources, lows, highs, lines, usable, singles, n, s, a, from, 0, low - 1)
+    ask_columns(
+        targets,
+        sources,
+        lows,
+        highs,
+        lines,
+        usable,
+        singles,
+        n,
+        s,
+        a,
+        from,
+        0,
+        low - 1,
+    )
 }
 
 // An object of the types a with more sources in slot s.
@@ -61,7 +74,21 @@ fn find_many<'a>(
     if 32 <= s {
         return nothing();
     }
-    ask_columns(targets, sources, lows, highs, lines, usable, singles, n, s, a, from, high + 1, 8)
+    ask_columns(
+        targets,
+        sources,
+        lows,
+        highs,
+        lines,
+        usable,
+        singles,
+        n,
+        s,
+        a,
+        from,
+        high + 1,
+        8,
+    )
 }
 
 // An object whose sources column j of the other diagram does not allow.
@@ -83,11 +110,37 @@ fn find_column<'a>(
     let s = others.columnslot[j];
     let a = others.columnto[j];
     let f = others.columnfrom[j];
-    let r = find_few(targets, sources, lows, highs, lines, usable, singles, n, s, a, f, others.columnlow[j]);
+    let r = find_few(
+        targets,
+        sources,
+        lows,
+        highs,
+        lines,
+        usable,
+        singles,
+        n,
+        s,
+        a,
+        f,
+        others.columnlow[j],
+    );
     if r.ok {
         return r;
     }
-    find_many(targets, sources, lows, highs, lines, usable, singles, n, s, a, f, others.columnhigh[j])
+    find_many(
+        targets,
+        sources,
+        lows,
+        highs,
+        lines,
+        usable,
+        singles,
+        n,
+        s,
+        a,
+        f,
+        others.columnhigh[j],
+    )
 }
 
 // An object whose sources the other diagram does not allow.
@@ -107,7 +160,18 @@ pub fn find_columns<'a>(
 {
     let mut j: usize = 0;
     while j < 16 {
-        let r = find_column(targets, sources, lows, highs, lines, usable, singles, n, j, others);
+        let r = find_column(
+            targets,
+            sources,
+            lows,
+            highs,
+            lines,
+            usable,
+            singles,
+            n,
+            j,
+            others,
+        );
         if r.ok {
             return r;
         }

@@ -1,7 +1,7 @@
 // The search for a world that a diagram's tables allow and that does not keep another diagram's tables: a short list of queries.
 ghost use mathlib.Core.Path.{_≡_};
-ghost use mathlib.Core.Bool.{Bool, false};
-ghost use Prim.Native.Nat.{ℕ, _<_, _≤_};
+ghost use mathlib.Core.Bool.{false};
+ghost use Prim.Native.Nat.{_<_, _≤_};
 ghost use Rattle.worlds.specs.Kept.{Keeps, Slotted, Turned, sheet};
 ghost use Rattle.worlds.specs.Asked.{Breaks, worldBuilt};
 ghost use Rattle.aims.specs.Lines.{LinesKept};
@@ -51,15 +51,45 @@ fn find_lines<'a>(
     requires { ⌜ Slotted lines × Turned (now targets) (now sources) × (n ≤ 8) ⌝ }
     ensures { λ r. ⌜ Breaks (sheet usable singles (now (targets .entry)) (now (lows .entry)) (now (highs .entry)) lines) (LinesKept lines2) n (r .ok) (worldBuilt n r) ⌝ }
 {
-    let columns = columns::find_columns(targets, sources, lows, highs, lines, usable, singles, n, lines2);
+    let columns = columns::find_columns(
+        targets,
+        sources,
+        lows,
+        highs,
+        lines,
+        usable,
+        singles,
+        n,
+        lines2,
+    );
     if columns.ok {
         return columns;
     }
-    let mirrors = mirrors::find_mirrors(targets, sources, lows, highs, lines, usable, singles, n, lines2);
+    let mirrors = mirrors::find_mirrors(
+        targets,
+        sources,
+        lows,
+        highs,
+        lines,
+        usable,
+        singles,
+        n,
+        lines2,
+    );
     if mirrors.ok {
         return mirrors;
     }
-    wholes::find_wholes(targets, sources, lows, highs, lines, usable, singles, n, lines2)
+    wholes::find_wholes(
+        targets,
+        sources,
+        lows,
+        highs,
+        lines,
+        usable,
+        singles,
+        n,
+        lines2,
+    )
 }
 
 // A world that does not keep what the other diagram asks.
@@ -83,21 +113,73 @@ pub fn find_break<'a>(
     requires { ⌜ Slotted lines × Turned (now targets) (now sources) × (n ≤ 8) ⌝ }
     ensures { λ r. ⌜ Breaks (sheet usable singles (now (targets .entry)) (now (lows .entry)) (now (highs .entry)) lines) (Keeps bad singles2 missing (now (targets2 .entry)) (now (lows2 .entry)) (now (highs2 .entry)) lines2) n (r .ok) (worldBuilt n r) ⌝ }
 {
-    let any = find_any(targets, sources, lows, highs, lines, usable, singles, n, missing);
+    let any = find_any(
+        targets,
+        sources,
+        lows,
+        highs,
+        lines,
+        usable,
+        singles,
+        n,
+        missing,
+    );
     if any.ok {
         return any;
     }
-    let typed = asks::ask_types(targets, sources, lows, highs, lines, usable, singles, n, bad);
+    let typed = asks::ask_types(
+        targets,
+        sources,
+        lows,
+        highs,
+        lines,
+        usable,
+        singles,
+        n,
+        bad,
+    );
     if typed.ok {
         return typed;
     }
-    let single = singles::find_singles(targets, sources, lows, highs, lines, usable, singles, n, singles2);
+    let single = singles::find_singles(
+        targets,
+        sources,
+        lows,
+        highs,
+        lines,
+        usable,
+        singles,
+        n,
+        singles2,
+    );
     if single.ok {
         return single;
     }
-    let rows = rows::find_rows(targets, sources, lows, highs, lines, usable, singles, n, targets2, lows2, highs2);
+    let rows = rows::find_rows(
+        targets,
+        sources,
+        lows,
+        highs,
+        lines,
+        usable,
+        singles,
+        n,
+        targets2,
+        lows2,
+        highs2,
+    );
     if rows.ok {
         return rows;
     }
-    find_lines(targets, sources, lows, highs, lines, usable, singles, n, lines2)
+    find_lines(
+        targets,
+        sources,
+        lows,
+        highs,
+        lines,
+        usable,
+        singles,
+        n,
+        lines2,
+    )
 }

@@ -1,15 +1,14 @@
 // Mirrors: a link stands exactly when the link back does. A slot past the last has no links.
-ghost use mathlib.Core.Path.{_≡_};
-ghost use Prim.Native.Nat.{ℕ, _<_, _≤_};
+ghost use Prim.Native.Nat.{_<_, _≤_};
 ghost use Rattle.worlds.specs.Kept.{MirrorsKept, Slotted, Turned, sheet};
 ghost use Rattle.worlds.specs.Asked.{Breaks, worldBuilt};
 ghost use Rattle.aims.specs.Mirrors.{AllHalvesAvoided, MirrorKept};
-use worlds::Built;
-use worlds::Lines;
 use crate::asks::ask_half_loops;
 use crate::asks::ask_halves;
 use crate::asks::nothing;
 use crate::rows::find_links;
+use worlds::Built;
+use worlds::Lines;
 
 // A link in slot s from an object of the types a to one of the types b without the link back in slot u.
 fn find_halves<'a>(
@@ -33,13 +32,50 @@ fn find_halves<'a>(
         return nothing();
     }
     if 32 <= u {
-        return find_links(targets, sources, lows, highs, lines, usable, singles, n, s, a, b);
+        return find_links(
+            targets,
+            sources,
+            lows,
+            highs,
+            lines,
+            usable,
+            singles,
+            n,
+            s,
+            a,
+            b,
+        );
     }
-    let r = ask_halves(targets, sources, lows, highs, lines, usable, singles, n, s, u, a, b);
+    let r = ask_halves(
+        targets,
+        sources,
+        lows,
+        highs,
+        lines,
+        usable,
+        singles,
+        n,
+        s,
+        u,
+        a,
+        b,
+    );
     if r.ok {
         return r;
     }
-    ask_half_loops(targets, sources, lows, highs, lines, usable, singles, n, s, u, queries::common(a, b))
+    ask_half_loops(
+        targets,
+        sources,
+        lows,
+        highs,
+        lines,
+        usable,
+        singles,
+        n,
+        s,
+        u,
+        queries::common(a, b),
+    )
 }
 
 // A link without its mirror, by mirror j of the other diagram.
@@ -62,11 +98,37 @@ fn find_mirror<'a>(
     let u = others.mirrorleft[j];
     let a = others.mirrorfrom[j];
     let b = others.mirrorto[j];
-    let r = find_halves(targets, sources, lows, highs, lines, usable, singles, n, s, u, a, b);
+    let r = find_halves(
+        targets,
+        sources,
+        lows,
+        highs,
+        lines,
+        usable,
+        singles,
+        n,
+        s,
+        u,
+        a,
+        b,
+    );
     if r.ok {
         return r;
     }
-    find_halves(targets, sources, lows, highs, lines, usable, singles, n, u, s, b, a)
+    find_halves(
+        targets,
+        sources,
+        lows,
+        highs,
+        lines,
+        usable,
+        singles,
+        n,
+        u,
+        s,
+        b,
+        a,
+    )
 }
 
 // A link without its mirror.
@@ -86,7 +148,18 @@ pub fn find_mirrors<'a>(
 {
     let mut j: usize = 0;
     while j < 16 {
-        let r = find_mirror(targets, sources, lows, highs, lines, usable, singles, n, j, others);
+        let r = find_mirror(
+            targets,
+            sources,
+            lows,
+            highs,
+            lines,
+            usable,
+            singles,
+            n,
+            j,
+            others,
+        );
         if r.ok {
             return r;
         }

@@ -1,17 +1,18 @@
 // Rows: the links of each object go to types of the other diagram's masks, and their number lies within its limits.
 ghost use mathlib.Core.Path.{_≡_};
+ghost use mathlib.Core.Bool.{false};
 ghost use Prim.Native.Nat.{ℕ, _%_, _/_, _<_, _≤_};
 ghost use lib.Dec.{eqb};
 ghost use Rattle.laws.specs.Bits.{bit};
 ghost use Rattle.worlds.specs.Kept.{RowsKept, Slotted, Turned, sheet};
 ghost use Rattle.worlds.specs.Asked.{Breaks, worldBuilt};
-ghost use Rattle.aims.specs.Rows.{AllLinksAvoided, HighsKept, LowsKept, RowKept, TargetsKept};
-use worlds::Built;
-use worlds::Lines;
+ghost use Rattle.aims.specs.Rows.{AllLinksAvoided, HighsKept, LowsKept, RowKept, RowWithin, RowsWithin, TargetsKept};
 use crate::asks::ask_links;
 use crate::asks::ask_loops;
 use crate::asks::ask_rows;
 use crate::asks::nothing;
+use worlds::Built;
+use worlds::Lines;
 
 // The type that the row at i speaks of, as a set.
 fn type_at(i: usize) -> u32
@@ -45,11 +46,34 @@ pub fn find_links<'a>(
     requires { ⌜ Slotted lines × Turned (now targets) (now sources) × (n ≤ 8) × (s < 32) ⌝ }
     ensures { λ r. ⌜ Breaks (sheet usable singles (now (targets .entry)) (now (lows .entry)) (now (highs .entry)) lines) (AllLinksAvoided s a b) n (r .ok) (worldBuilt n r) ⌝ }
 {
-    let r = ask_links(targets, sources, lows, highs, lines, usable, singles, n, s, a, b);
+    let r = ask_links(
+        targets,
+        sources,
+        lows,
+        highs,
+        lines,
+        usable,
+        singles,
+        n,
+        s,
+        a,
+        b,
+    );
     if r.ok {
         return r;
     }
-    ask_loops(targets, sources, lows, highs, lines, usable, singles, n, s, queries::common(a, b))
+    ask_loops(
+        targets,
+        sources,
+        lows,
+        highs,
+        lines,
+        usable,
+        singles,
+        n,
+        s,
+        queries::common(a, b),
+    )
 }
 
 // A link that row i of the other diagram does not allow.
@@ -72,7 +96,19 @@ fn find_target<'a>(
     if b == 0 {
         return nothing();
     }
-    find_links(targets, sources, lows, highs, lines, usable, singles, n, slot_at(i), type_at(i), b)
+    find_links(
+        targets,
+        sources,
+        lows,
+        highs,
+        lines,
+        usable,
+        singles,
+        n,
+        slot_at(i),
+        type_at(i),
+        b,
+    )
 }
 
 // Fewer links than row i of the other diagram asks for.
@@ -95,7 +131,20 @@ fn find_low<'a>(
     if low <= lows[i] {
         return nothing();
     }
-    ask_rows(targets, sources, lows, highs, lines, usable, singles, n, slot_at(i), type_at(i), 0, low - 1)
+    ask_rows(
+        targets,
+        sources,
+        lows,
+        highs,
+        lines,
+        usable,
+        singles,
+        n,
+        slot_at(i),
+        type_at(i),
+        0,
+        low - 1,
+    )
 }
 
 // More links than row i of the other diagram allows.
@@ -121,7 +170,20 @@ fn find_high<'a>(
     if 8 <= high {
         return nothing();
     }
-    ask_rows(targets, sources, lows, highs, lines, usable, singles, n, slot_at(i), type_at(i), high + 1, 8)
+    ask_rows(
+        targets,
+        sources,
+        lows,
+        highs,
+        lines,
+        usable,
+        singles,
+        n,
+        slot_at(i),
+        type_at(i),
+        high + 1,
+        8,
+    )
 }
 
 // Links that row i of the other diagram does not allow.
@@ -142,15 +204,96 @@ fn find_row<'a>(
     requires { ⌜ Slotted lines × Turned (now targets) (now sources) × (n ≤ 8) × (i < 768) ⌝ }
     ensures { λ r. ⌜ Breaks (sheet usable singles (now (targets .entry)) (now (lows .entry)) (now (highs .entry)) lines) (RowKept (now (targets2 .entry)) (now (lows2 .entry)) (now (highs2 .entry)) i) n (r .ok) (worldBuilt n r) ⌝ }
 {
-    let a = find_target(targets, sources, lows, highs, lines, usable, singles, n, i, targets2);
+    let a = find_target(
+        targets,
+        sources,
+        lows,
+        highs,
+        lines,
+        usable,
+        singles,
+        n,
+        i,
+        targets2,
+    );
     if a.ok {
         return a;
     }
-    let b = find_low(targets, sources, lows, highs, lines, usable, singles, n, i, lows2);
+    let b = find_low(
+        targets,
+        sources,
+        lows,
+        highs,
+        lines,
+        usable,
+        singles,
+        n,
+        i,
+        lows2,
+    );
     if b.ok {
         return b;
     }
-    find_high(targets, sources, lows, highs, lines, usable, singles, n, i, highs2)
+    find_high(
+        targets,
+        sources,
+        lows,
+        highs,
+        lines,
+        usable,
+        singles,
+        n,
+        i,
+        highs2,
+    )
+}
+
+// Whether row i of the other diagram asks for more.
+fn is_new_row<'a>(
+    targets: &'a [u32; 768],
+    lows: &'a [u8; 768],
+    highs: &'a [u8; 768],
+    targets2: &'a [u32; 768],
+    lows2: &'a [u8; 768],
+    highs2: &'a [u8; 768],
+    i: usize,
+) -> bool
+    requires { ⌜ i < 768 ⌝ }
+    ensures { λ r. ⌜ (r ≡ false → RowWithin (now (targets .entry)) (now (lows .entry)) (now (highs .entry)) (now (targets2 .entry)) (now (lows2 .entry)) (now (highs2 .entry)) i) ⌝ }
+{
+    if queries::without(targets[i], targets2[i]) != 0 {
+        return true;
+    }
+    if lows[i] < lows2[i] {
+        return true;
+    }
+    if highs2[i] < highs[i] {
+        return true;
+    }
+    false
+}
+
+// The first such row from `start` on, or 768.
+fn next_row<'a>(
+    targets: &'a [u32; 768],
+    lows: &'a [u8; 768],
+    highs: &'a [u8; 768],
+    targets2: &'a [u32; 768],
+    lows2: &'a [u8; 768],
+    highs2: &'a [u8; 768],
+    start: usize,
+) -> usize
+    requires { ⌜ start ≤ 768 ⌝ }
+    ensures { λ r. ⌜ RowsWithin (now (targets .entry)) (now (lows .entry)) (now (highs .entry)) (now (targets2 .entry)) (now (lows2 .entry)) (now (highs2 .entry)) start r ⌝ }
+{
+    let mut i = start;
+    while i < 768 {
+        if is_new_row(targets, lows, highs, targets2, lows2, highs2, i) {
+            return i;
+        }
+        i += 1;
+    }
+    i
 }
 
 // Links that the other diagram does not allow.
@@ -170,13 +313,26 @@ pub fn find_rows<'a>(
     requires { ⌜ Slotted lines × Turned (now targets) (now sources) × (n ≤ 8) ⌝ }
     ensures { λ r. ⌜ Breaks (sheet usable singles (now (targets .entry)) (now (lows .entry)) (now (highs .entry)) lines) (RowsKept (now (targets2 .entry)) (now (lows2 .entry)) (now (highs2 .entry))) n (r .ok) (worldBuilt n r) ⌝ }
 {
-    let mut i: usize = 0;
+    let mut i = next_row(targets, lows, highs, targets2, lows2, highs2, 0);
     while i < 768 {
-        let r = find_row(targets, sources, lows, highs, lines, usable, singles, n, i, targets2, lows2, highs2);
+        let r = find_row(
+            targets,
+            sources,
+            lows,
+            highs,
+            lines,
+            usable,
+            singles,
+            n,
+            i,
+            targets2,
+            lows2,
+            highs2,
+        );
         if r.ok {
             return r;
         }
-        i += 1;
+        i = next_row(targets, lows, highs, targets2, lows2, highs2, i + 1);
     }
     nothing()
 }

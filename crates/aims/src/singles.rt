@@ -1,14 +1,13 @@
 // Singletons: each type of the other diagram's set has exactly one object. Those that are singletons anyway need no search.
-ghost use mathlib.Core.Path.{_≡_};
-ghost use Prim.Native.Nat.{ℕ, _<_, _≤_};
+ghost use Prim.Native.Nat.{_<_, _≤_};
 ghost use Rattle.worlds.specs.Kept.{SinglesKept, Slotted, Turned, sheet};
 ghost use Rattle.worlds.specs.Asked.{Breaks, worldBuilt};
 ghost use Rattle.aims.specs.Singles.{SingleKept};
-use worlds::Built;
-use worlds::Lines;
 use crate::asks::ask_absent;
 use crate::asks::ask_pairs;
 use crate::asks::nothing;
+use worlds::Built;
+use worlds::Lines;
 
 // A world with no object of type t, or two.
 fn find_single<'a>(
@@ -57,7 +56,18 @@ pub fn find_singles<'a>(
 {
     let mut t: u32 = 0;
     while t < 24 {
-        let r = find_single(targets, sources, lows, highs, lines, usable, singles, n, t, others);
+        let r = find_single(
+            targets,
+            sources,
+            lows,
+            highs,
+            lines,
+            usable,
+            singles,
+            n,
+            t,
+            others,
+        );
         if r.ok {
             return r;
         }

@@ -1,14 +1,15 @@
 // Wholes: each object is a part of at most one. A slot past the last has no links.
 ghost use mathlib.Core.Path.{_≡_};
-ghost use Prim.Native.Nat.{ℕ, _<_, _≤_};
+ghost use mathlib.Core.Bool.{false};
+ghost use Prim.Native.Nat.{_<_, _≤_};
 ghost use Rattle.worlds.specs.Kept.{Slotted, Turned, WholesKept, sheet};
 ghost use Rattle.worlds.specs.Asked.{Breaks, worldBuilt};
-ghost use Rattle.aims.specs.Wholes.{AllPartsAvoided, PairApart};
-use worlds::Built;
-use worlds::Lines;
+ghost use Rattle.aims.specs.Wholes.{AllPartsAvoided, PairApart, PairEmpty, PairsEmpty};
 use crate::asks::ask_own_parts;
 use crate::asks::ask_parts;
 use crate::asks::nothing;
+use worlds::Built;
+use worlds::Lines;
 
 // An object of the types a that is a target of two, of the types b in slot s and of the types c in slot u. One of them may be itself.
 fn find_parts<'a>(
@@ -29,15 +30,55 @@ fn find_parts<'a>(
     requires { ⌜ Slotted lines × Turned (now targets) (now sources) × (n ≤ 8) × (s < 32) × (u < 32) ⌝ }
     ensures { λ r. ⌜ Breaks (sheet usable singles (now (targets .entry)) (now (lows .entry)) (now (highs .entry)) lines) (AllPartsAvoided s u a b c) n (r .ok) (worldBuilt n r) ⌝ }
 {
-    let r = ask_parts(targets, sources, lows, highs, lines, usable, singles, n, s, u, a, b, c);
+    let r = ask_parts(
+        targets,
+        sources,
+        lows,
+        highs,
+        lines,
+        usable,
+        singles,
+        n,
+        s,
+        u,
+        a,
+        b,
+        c,
+    );
     if r.ok {
         return r;
     }
-    let v = ask_own_parts(targets, sources, lows, highs, lines, usable, singles, n, s, u, queries::common(a, b), c);
+    let v = ask_own_parts(
+        targets,
+        sources,
+        lows,
+        highs,
+        lines,
+        usable,
+        singles,
+        n,
+        s,
+        u,
+        queries::common(a, b),
+        c,
+    );
     if v.ok {
         return v;
     }
-    ask_own_parts(targets, sources, lows, highs, lines, usable, singles, n, u, s, queries::common(a, c), b)
+    ask_own_parts(
+        targets,
+        sources,
+        lows,
+        highs,
+        lines,
+        usable,
+        singles,
+        n,
+        u,
+        s,
+        queries::common(a, c),
+        b,
+    )
 }
 
 // An object that is a part of two, by the pair i of the other diagram's compositions.
@@ -70,7 +111,58 @@ fn find_pair<'a>(
         return nothing();
     }
     let a = queries::common(others.wholeto[j], others.wholeto[k]);
-    find_parts(targets, sources, lows, highs, lines, usable, singles, n, s, u, a, others.wholefrom[j], others.wholefrom[k])
+    find_parts(
+        targets,
+        sources,
+        lows,
+        highs,
+        lines,
+        usable,
+        singles,
+        n,
+        s,
+        u,
+        a,
+        others.wholefrom[j],
+        others.wholefrom[k],
+    )
+}
+
+// Whether the pair i asks for something.
+fn is_pair<'a>(from: &'a [u32; 16], to: &'a [u32; 16], i: usize) -> bool
+    requires { ⌜ i < 256 ⌝ }
+    ensures { λ r. ⌜ (r ≡ false → PairEmpty (now (from .entry)) (now (to .entry)) i) ⌝ }
+{
+    let j = i / 16;
+    let k = i % 16;
+    if k < j {
+        return false;
+    }
+    if from[j] == 0 {
+        return false;
+    }
+    if from[k] == 0 {
+        return false;
+    }
+    if queries::common(to[j], to[k]) == 0 {
+        return false;
+    }
+    true
+}
+
+// The first such pair from `start` on, or 256.
+fn next_pair<'a>(from: &'a [u32; 16], to: &'a [u32; 16], start: usize) -> usize
+    requires { ⌜ start ≤ 256 ⌝ }
+    ensures { λ r. ⌜ PairsEmpty (now (from .entry)) (now (to .entry)) start r ⌝ }
+{
+    let mut i = start;
+    while i < 256 {
+        if is_pair(from, to, i) {
+            return i;
+        }
+        i += 1;
+    }
+    i
 }
 
 // An object that is a part of two.
@@ -88,13 +180,24 @@ pub fn find_wholes<'a>(
     requires { ⌜ Slotted lines × Turned (now targets) (now sources) × (n ≤ 8) ⌝ }
     ensures { λ r. ⌜ Breaks (sheet usable singles (now (targets .entry)) (now (lows .entry)) (now (highs .entry)) lines) (WholesKept others) n (r .ok) (worldBuilt n r) ⌝ }
 {
-    let mut i: usize = 0;
+    let mut i = next_pair(&others.wholefrom, &others.wholeto, 0);
     while i < 256 {
-        let r = find_pair(targets, sources, lows, highs, lines, usable, singles, n, i, others);
+        let r = find_pair(
+            targets,
+            sources,
+            lows,
+            highs,
+            lines,
+            usable,
+            singles,
+            n,
+            i,
+            others,
+        );
         if r.ok {
             return r;
         }
-        i += 1;
+        i = next_pair(&others.wholefrom, &others.wholeto, i + 1);
     }
     nothing()
 }

@@ -7,7 +7,7 @@ use mathlib.Core.List.{List, [], _∷_}
 use native.Mathlib.Omega.{arith}
 use lib.Bits.{bitOr}
 use lib.Dec.{eqb}
-use lib.ListN.{getD, length, length-replicate, length-set, replicate, set}
+use lib.ListN.{getD, length, length-replicate, length-set, replicate}
 use borrow.Author.Tests.{eqb-false, eqb-true}
 use Rattle.laws.specs.Bits.{bit}
 use Rattle.laws.specs.Bounded.{tally}

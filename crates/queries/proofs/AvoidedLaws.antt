@@ -14,7 +14,7 @@ use Rattle.worlds.specs.Kept.{Allowed, Sheet, TypesAvoided}
 use Rattle.worlds.specs.Asked.{Answers, Asked, Breaks, Solution}
 use Rattle.worlds.proofs.RenumberLaws.{column-tally, row-tally}
 use Rattle.worlds.proofs.BringLaws.{bring-one, bring-two}
-use Rattle.queries.specs.Forms.{avoiding, columned, linked, rowed, seeded}
+use Rattle.queries.specs.Forms.{avoiding, columned, rowed, seeded}
 use Rattle.queries.specs.Avoided.{ColumnsAvoided, LinksAvoided, LoopsAvoided, PairsAvoided, RowsAvoided}
 use Rattle.queries.proofs.AskedLaws.{asked-avoiding, asked-columned, asked-linked, asked-rowed, asked-seeded, avoiding-all, columned-asked, columned-within, fit-seeded, linked-asked, linked-link, rowed-asked, rowed-within, seeded-many, seeded-typed, sourcesOf}
 use Rattle.queries.proofs.BreakLaws.{breaks-query}
@@ -102,7 +102,7 @@ module _ (x : Sheet) (n : ℕ) (ok : Bool) (m : World) where
           at = λ o l e g.
               let b = bring-one x w h o l in
               let c : tally (λ p. b .world .link s 0 p) (b .world .size) ≡ tally (λ p. w .link s o p) (w .size) =
-                  row-tally (b .renumbered) s 0 ∙ ap (λ (i : ℕ). tally (λ p. w .link s i p) (w .size)) (b .first 0 (omega arith)) in
+              row-tally (b .renumbered) s 0 ∙ ap (λ (i : ℕ). tally (λ p. w .link s i p) (w .size)) (b .first 0 (omega arith)) in
               none (b .world) (b .allowed) (b .renumbered .size)
               (asked-rowed (b .world) (b .allowed .few) a s low high (one-seed x w a o b l e) (subst (Within low high) (sym c) g));
         })
@@ -117,7 +117,7 @@ module _ (x : Sheet) (n : ℕ) (ok : Bool) (m : World) where
           at = λ o l e g.
               let b = bring-one x w h o l in
               let c : sourcesOf (b .world) (b .allowed .few) s from 0 ≡ sourcesOf w (h .few) s from o =
-                  column-tally (b .renumbered) from s 0 ∙ ap (sourcesOf w (h .few) s from) (b .first 0 (omega arith)) in
+              column-tally (b .renumbered) from s 0 ∙ ap (sourcesOf w (h .few) s from) (b .first 0 (omega arith)) in
               none (b .world) (b .allowed) (b .renumbered .size)
               (asked-columned (b .world) (b .allowed .few) a s from low high (one-seed x w a o b l e) (subst (Within low high) (sym c) g));
         })

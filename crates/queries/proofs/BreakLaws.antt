@@ -1,7 +1,7 @@
 -- Searches for worlds that do not keep something, one after the other.
 -- Assumes nothing.
 use Prim.Native.Nat.{ℕ}
-use mathlib.Core.Path.{_∙_, _≡_, subst, sym}
+use mathlib.Core.Path.{_∙_, _≡_}
 use mathlib.Core.Bool.{Bool, false, true}
 use Rattle.laws.proofs.ConnectiveLaws.{true-false}
 use Rattle.growing.specs.World.{World}

@@ -1,7 +1,7 @@
 -- Queries about links without the link back, and about targets of two objects: each asks for what it rules out.
 -- Assumes nothing.
 use Prim.Native.Nat.{_<_, ℕ}
-use mathlib.Core.Path.{_∙_, _≡_}
+use mathlib.Core.Path.{_∙_}
 use mathlib.Core.Bool.{Bool}
 use native.Mathlib.Omega.{arith}
 use Rattle.growing.specs.World.{World}

@@ -1,14 +1,14 @@
 -- Sets of types as masks, bit by bit.
 -- Assumes nothing.
 use Prim.Native.Nat.{ℕ}
-use mathlib.Core.Path.{_∙_, _≡_, ap, ap₂, refl, sym}
+use mathlib.Core.Path.{_∙_, _≡_, ap, refl, sym}
 use mathlib.Core.Bool.{Bool, _&&_, _||_, false, not, true}
-use lib.Bits.{bitAnd, bitOr, bitXor}
+use lib.Bits.{bitOr, bitXor}
 use lib.Dec.{eqb}
 use borrow.Author.Tests.{eqb-true, not-false}
 use Rattle.laws.specs.Bits.{bit}
 use Rattle.laws.specs.Connective.{same}
-use Rattle.laws.proofs.BitLaws.{bit-and, bit-or, bit-xor, bit-zero}
+use Rattle.laws.proofs.BitLaws.{bit-or, bit-xor, bit-zero}
 use Rattle.laws.proofs.ConnectiveLaws.{and-both, true-false}
 
 -- what is in neither or in both goes

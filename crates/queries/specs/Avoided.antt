@@ -1,7 +1,7 @@
 -- What no world with certain tables has: the objects that a query asks for. Types are given as masks.
 -- Assumes nothing.
 use Prim.Native.Nat.{_<_, ℕ}
-use mathlib.Core.Bool.{Bool, _&&_, false, true}
+use mathlib.Core.Bool.{_&&_, false, true}
 use mathlib.Core.Path.{_≡_}
 use Rattle.laws.specs.Bits.{bit}
 use Rattle.laws.specs.Bounded.{tally}

@@ -1,7 +1,6 @@
 -- `common` meets its contract, bit by bit.
 -- Assumes nothing.
 use Rattle.laws.proofs.BitLaws.{bit-and}
-use borrow.Author.Needs.{needs}
 use Rattle.queries.proofs.common.Statement.{statement}
 use Rattle.queries.proofs.common.Tie as tie
 use Rattle.queries.proofs.common.Reads as reads

@@ -2,7 +2,6 @@
 -- Assumes nothing.
 use Rattle.queries.specs.Forms.{columned}
 use mathlib.Core.Path.{refl}
-use borrow.Author.Needs.{needs}
 use Rattle.queries.proofs.with_column.Statement.{statement}
 use Rattle.queries.proofs.with_column.Tie as tie
 use Rattle.queries.proofs.with_column.Reads as reads

@@ -2,7 +2,6 @@
 -- Assumes nothing.
 use Rattle.queries.specs.Forms.{avoiding}
 use mathlib.Core.Path.{refl}
-use borrow.Author.Needs.{needs}
 use Rattle.queries.proofs.with_never.Statement.{statement}
 use Rattle.queries.proofs.with_never.Tie as tie
 use Rattle.queries.proofs.with_never.Reads as reads

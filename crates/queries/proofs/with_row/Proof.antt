@@ -2,7 +2,6 @@
 -- Assumes nothing.
 use Rattle.queries.specs.Forms.{rowed}
 use mathlib.Core.Path.{refl}
-use borrow.Author.Needs.{needs}
 use Rattle.queries.proofs.with_row.Statement.{statement}
 use Rattle.queries.proofs.with_row.Tie as tie
 use Rattle.queries.proofs.with_row.Reads as reads

@@ -2,7 +2,6 @@
 -- Assumes nothing.
 use Rattle.queries.specs.Forms.{seeded}
 use mathlib.Core.Path.{refl}
-use borrow.Author.Needs.{needs}
 use Rattle.queries.proofs.with_seeds.Statement.{statement}
 use Rattle.queries.proofs.with_seeds.Tie as tie
 use Rattle.queries.proofs.with_seeds.Reads as reads

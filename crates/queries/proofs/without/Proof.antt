@@ -1,7 +1,6 @@
 -- `without` meets its contract, bit by bit.
 -- Assumes nothing.
 use Rattle.queries.proofs.TypeLaws.{bit-without}
-use borrow.Author.Needs.{needs}
 use Rattle.queries.proofs.without.Statement.{statement}
 use Rattle.queries.proofs.without.Tie as tie
 use Rattle.queries.proofs.without.Reads as reads
