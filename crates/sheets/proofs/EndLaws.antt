@@ -4,8 +4,8 @@ use Prim.Native.Nat.{_%_, _*_, _+_, _/_, _<_, ℕ}
 use native.Mathlib.Omega.{arith}
 use mathlib.Core.Bool.{Bool, cond, false, true}
 use mathlib.Core.List.{List}
-use mathlib.Core.Path.{_∙_, _≡_, ap, ap₂, refl, sym}
-use lib.Dec.{eqb, ltb}
+use mathlib.Core.Path.{_∙_, _≡_, ap, refl, sym}
+use lib.Dec.{eqb}
 use lib.ListN.{getD, length}
 use borrow.Author.Tests.{lt-ltb}
 use Rattle.laws.specs.Bits.{bit}

@@ -1,6 +1,6 @@
 -- The tables of associations in memory, association by association.
 -- Assumes nothing.
-use Prim.Native.Nat.{_+_, _<_, _≤_, min, suc, zero, ℕ}
+use Prim.Native.Nat.{_+_, _≤_, min, suc, zero, ℕ}
 use native.Mathlib.Nat.{le-antisymm}
 use native.Mathlib.Numerals.{add-one}
 use native.Mathlib.Omega.{arith}
@@ -8,7 +8,7 @@ use mathlib.Core.Bool.{Bool, cond, false, true}
 use mathlib.Core.List.{List}
 use mathlib.Core.Path.{_∙_, _≡_, ap, refl, sym}
 use lib.Dec.{eqb, ltb}
-use lib.ListN.{getD, length, length-set, replicate, set}
+use lib.ListN.{getD, length, length-set, set}
 use borrow.Author.Tests.{eqb-false, eqb-true, le-ltb, lt-ltb}
 use Rattle.worlds.specs.declared.Lines.{Lines}
 use Rattle.sheets.specs.LinesBy.{counted, countedFrom, countedTo, elementIf, linesIn, noLines, stored, withColumn, withMirror, withWhole}

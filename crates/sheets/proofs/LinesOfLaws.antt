@@ -7,7 +7,7 @@ use mathlib.Core.List.{List}
 use mathlib.Core.Path.{_∙_, _≡_, ap, ap₂, refl, subst, sym}
 use lib.Dec.{eqb, ltb}
 use lib.ListN.{List·getD-eq-default, getD, getD-replicate, length, replicate}
-use borrow.Author.Tests.{le-ltb, lt-ltb, ltb-false, ltb-true}
+use borrow.Author.Tests.{ltb-false, ltb-true}
 use Rattle.laws.specs.Bits.{bit}
 use Rattle.laws.specs.Connective.{both, either}
 use Rattle.laws.proofs.BitLaws.{bit-zero}

@@ -2,11 +2,11 @@
 -- Assumes nothing.
 use Prim.Native.Nat.{_*_, _<_, _≤_, ℕ}
 use native.Mathlib.Omega.{arith}
-use mathlib.Core.Bool.{Bool, _&&_, false}
+use mathlib.Core.Bool.{Bool, _&&_}
 use mathlib.Core.List.{List}
 use mathlib.Core.Path.{_∙_, _≡_, ap, ap₂, sym}
-use lib.Dec.{eqb, ltb}
-use lib.ListN.{getD, length}
+use lib.Dec.{eqb}
+use lib.ListN.{getD}
 use borrow.Author.Tests.{le-ltb, lt-ltb}
 use Rattle.laws.specs.Bits.{Marks, bit}
 use Rattle.laws.specs.Bounded.{any}
@@ -19,7 +19,7 @@ use Rattle.diagrams.specs.declared.StoredDiagram.{StoredDiagram}
 use Rattle.diagrams.specs.View.{diagramOf, typeIn}
 use Rattle.diagrams.specs.Held.{Held}
 use Rattle.diagrams.proofs.ViewLaws.{type-at, type-count}
-use Rattle.records.specs.Slots.{roleCount, roleName, typeIndex}
+use Rattle.records.specs.Slots.{roleName, typeIndex}
 use Rattle.resolving.specs.Lookup.{slotOf}
 use Rattle.resolving.proofs.LookupLaws.{role-count, role-slot, type-index}
 use Rattle.tables.proofs.TableLaws.{role-named, set-reaches}

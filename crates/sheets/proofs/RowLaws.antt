@@ -2,7 +2,7 @@
 -- Assumes nothing.
 use Prim.Native.Nat.{_*_, _+_, _<_, _≤_, max, min, suc, zero, ℕ}
 use native.Mathlib.Omega.{arith}
-use mathlib.Core.Bool.{Bool, cond}
+use mathlib.Core.Bool.{Bool}
 use mathlib.Core.List.{List}
 use mathlib.Core.Path.{_∙_, _≡_, ap, ap₂, refl, sym}
 use lib.ListN.{getD, length}
@@ -14,7 +14,6 @@ use Rattle.diagrams.specs.declared.StoredDiagram.{StoredDiagram}
 use Rattle.diagrams.specs.View.{diagramOf}
 use Rattle.diagrams.specs.Held.{Held}
 use Rattle.diagrams.proofs.ViewLaws.{type-count}
-use Rattle.records.specs.Slots.{roleCount}
 use Rattle.resolving.proofs.LookupLaws.{role-count}
 use Rattle.type_tables.specs.Rows.{endAt, least, most}
 use Rattle.type_tables.proofs.EndAtLaws.{end-low, end-up}

@@ -6,11 +6,11 @@ use mathlib.Core.Bool.{Bool, cond, false, true}
 use mathlib.Core.List.{List}
 use mathlib.Core.Path.{_≡_, refl, subst, sym}
 use lib.Dec.{ltb}
-use lib.ListN.{getD, length}
+use lib.ListN.{length}
 use borrow.Author.Tests.{ltb-true}
 use Rattle.laws.specs.Connective.{both}
 use Rattle.laws.proofs.ConnectiveLaws.{both-left}
-use Rattle.files.specs.Diagram.{Diagram, associationAt, isComposition}
+use Rattle.files.specs.Diagram.{Diagram, associationAt}
 use Rattle.files.proofs.NameLaws.{same-self}
 use Rattle.diagrams.specs.declared.StoredDiagram.{StoredDiagram}
 use Rattle.diagrams.specs.View.{diagramOf}

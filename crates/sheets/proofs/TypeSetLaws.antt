@@ -11,7 +11,7 @@ use lib.Dec.{eqb, leb, ltb}
 use lib.ListN.{getD, length}
 use borrow.Author.Tests.{le-ltb, lt-ltb, ltb-true}
 use Rattle.laws.specs.Bits.{Marks, bit}
-use Rattle.laws.specs.Bounded.{all, any}
+use Rattle.laws.specs.Bounded.{any}
 use Rattle.laws.specs.Connective.{both, either}
 use Rattle.laws.proofs.BitLaws.{bit-or, bit-zero}
 use Rattle.laws.proofs.BoundedLaws.{all-ext, any-ext, any-more}
@@ -20,7 +20,7 @@ use Rattle.diagrams.specs.declared.StoredDiagram.{StoredDiagram}
 use Rattle.diagrams.specs.View.{diagramOf, endIn}
 use Rattle.diagrams.specs.Held.{Held}
 use Rattle.diagrams.proofs.ViewLaws.{type-count}
-use Rattle.records.specs.Slots.{roleCount, typeIndex}
+use Rattle.records.specs.Slots.{typeIndex}
 use Rattle.resolving.proofs.LookupLaws.{role-count}
 use Rattle.type_tables.specs.Due.{due}
 use Rattle.type_tables.specs.Rows.{carriedTo, endAt, opposite}

@@ -5,7 +5,6 @@ use mathlib.Core.Bool.{Bool}
 use mathlib.Core.List.{List}
 use lib.Dec.{eqb}
 use lib.ListN.{getD}
-use Rattle.laws.specs.Bits.{bit}
 use Rattle.laws.specs.Bounded.{any}
 use Rattle.laws.specs.Connective.{both}
 

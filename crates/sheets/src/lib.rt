@@ -217,15 +217,7 @@ pub fn lines_by(old: diagrams::StoredDiagram, d: diagrams::StoredDiagram) -> wor
     let sets = ends_by(old, d);
     let slots = slots_by(old, d);
     let a = d.associations;
-    lines::lines_of(
-        &sets,
-        &slots,
-        &a.arrows,
-        &a.forms,
-        &a.lows,
-        &a.ups,
-        a.count,
-    )
+    lines::lines_of(&sets, &slots, &a.arrows, &a.forms, &a.lows, &a.ups, a.count)
 }
 
 // ---- sets of types
@@ -272,11 +264,5 @@ pub fn missing_links(old: diagrams::StoredDiagram, d: diagrams::StoredDiagram) -
     let sets = ends_by(old, d);
     let slots = slots_by(old, d);
     let a = d.associations;
-    type_sets::missing_of(
-        &sets,
-        &a.arrows,
-        &slots,
-        &a.lows,
-        (a.count * 2) as u8,
-    )
+    type_sets::missing_of(&sets, &a.arrows, &slots, &a.lows, (a.count * 2) as u8)
 }

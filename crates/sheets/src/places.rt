@@ -154,15 +154,6 @@ pub fn targets_of<'a>(
     ensures { λ r. ⌜ ((x u : ℕ) → x < 768 → u < 24 → bit u (getD r x 0) ≡ targetAt (now (sets .entry)) (leadsAt (now (sets .entry)) (now (arrows .entry)) (now (slots .entry)) k x) n u) ⌝ }
 {
     let all = [16777215u32; 32];
-    let led = masks_of(
-        [0u32; 768],
-        sets,
-        arrows,
-        slots,
-        16777215,
-        &all,
-        n,
-        k,
-    );
+    let led = masks_of([0u32; 768], sets, arrows, slots, 16777215, &all, n, k);
     masks_of(led, sets, arrows, slots, 0, sets, n, k)
 }

@@ -1,6 +1,6 @@
 use native.Mathlib.Omega.{arith}
-use Prim.Native.Nat.{ℕ, _≤_, _<_, _-_}
-use mathlib.Core.Path.{_≡_, ap, _∙_}
+use Prim.Native.Nat.{_-_, _<_, _≤_, ℕ}
+use mathlib.Core.Path.{_∙_, _≡_, ap}
 use borrow.Author.Count.{below-none}
 use lib.ListN.{getD, length}
 use Rattle.laws.proofs.ListLaws.{set-more}

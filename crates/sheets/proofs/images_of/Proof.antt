@@ -1,13 +1,11 @@
-use Prim.Native.Nat.{ℕ, _<_}
-use mathlib.Core.Path.{_≡_}
+use Prim.Native.Nat.{_-_, _<_, _≤_, ℕ}
+use mathlib.Core.Path.{_∙_, _≡_, ap, refl}
 use lib.ListN.{getD}
-use Prim.Native.Nat.{_≤_, _-_}
-use mathlib.Core.Path.{ap, _∙_, refl}
 use mathlib.Core.Logic.{⊎-elim}
 use native.Mathlib.Omega.{arith}
-use Rattle.laws.specs.Bits.{bit, Marks}
+use Rattle.laws.specs.Bits.{Marks, bit}
 use Rattle.sheets.specs.NamedIn.{isImage}
-use Rattle.sheets.proofs.ImageLaws.{shown-begin, shown-hit, shown-miss, shown-done, shown-below}
+use Rattle.sheets.proofs.ImageLaws.{shown-begin, shown-below, shown-done, shown-hit, shown-miss}
 use borrow.Author.Needs.{needs}
 use Rattle.sheets.proofs.images_of.Statement.{statement}
 use Rattle.sheets.proofs.images_of.Tie as tie

@@ -1,3 +1,4 @@
+use Rattle.sheets.proofs.TypeSetLaws.{missing-are}
 use borrow.Author.Needs.{needs}
 use Rattle.sheets.proofs.missing_links.Statement.{statement}
 use Rattle.sheets.proofs.missing_links.Tie as tie
@@ -23,7 +24,10 @@ missing-of-requires : tie.Need-missing-of-requires
 missing-of-requires c κs = search needs
 
 returns : tie.Need-returns
-returns c = ?
+returns c = let b = c .before .before .before .before .before .before .before .before .before in
+    let sets = c .before .before .before .before .before .before .before .before .ends-by in
+    let slots = c .before .before .before .before .before .before .before .slots-by in
+    missing-are (b .args .old) (b .args .d) (b .pre .1) (sets .result) (slots .result) (sets .ensures) (slots .ensures) (c .missing-of .result) (c .missing-of .ensures)
 
 pub missing-links-spec : {M : Type 1} → statement M
 missing-links-spec =

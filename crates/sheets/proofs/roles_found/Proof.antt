@@ -1,7 +1,7 @@
 use Rattle.sheets.proofs.ArrayLaws.{set-every, zeros-few}
 use native.Mathlib.Omega.{arith}
-use Prim.Native.Nat.{ℕ, _≤_, _<_, _-_}
-use mathlib.Core.Path.{_≡_, ap, _∙_}
+use Prim.Native.Nat.{_-_, _<_, _≤_, ℕ}
+use mathlib.Core.Path.{_∙_, _≡_, ap}
 use borrow.Author.Count.{below-none}
 use lib.ListN.{getD, length}
 use Rattle.fields.specs.Slot.{slotName}

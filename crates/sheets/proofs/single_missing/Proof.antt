@@ -1,3 +1,5 @@
+use mathlib.Core.Path.{_∙_}
+use Rattle.sheets.proofs.TypeSetLaws.{missing-is}
 use borrow.Author.Needs.{needs}
 use Rattle.sheets.proofs.single_missing.Statement.{statement}
 use Rattle.sheets.proofs.single_missing.Tie as tie
@@ -36,7 +38,10 @@ has32-requires : tie.Need-has32-requires
 has32-requires c κs = search needs
 
 returns : tie.Need-returns
-returns c = ?
+returns c = let b = c .before .before .before .before .before .before .before .before .before .before in
+    let found = c .before .before .before .before .before .before .before .before .before .images in
+    let chosen = c .before .before .before .singles-of in
+    c .has32 .ensures ∙ missing-is (b .args .old) (b .args .d) (found .result) (found .ensures) (chosen .result) (c .before .images-of .result) (chosen .ensures) (c .before .images-of .ensures)
 
 pub single-missing-spec : {M : Type 1} → statement M
 single-missing-spec =

@@ -1,3 +1,4 @@
+use Rattle.sheets.proofs.TypeSetLaws.{singles-are}
 use borrow.Author.Needs.{needs}
 use Rattle.sheets.proofs.single_types.Statement.{statement}
 use Rattle.sheets.proofs.single_types.Tie as tie
@@ -26,7 +27,10 @@ images-of-requires : tie.Need-images-of-requires
 images-of-requires c κs = search needs
 
 returns : tie.Need-returns
-returns c = ?
+returns c = let b = c .before .before .before .before .before .before .before .before .before in
+    let found = c .before .before .before .before .before .before .before .before .images in
+    let chosen = c .before .before .before .singles-of in
+    singles-are (b .args .old) (b .args .d) (found .result) (found .ensures) (chosen .result) (c .images-of .result) (chosen .ensures) (c .images-of .ensures)
 
 pub single-types-spec : {M : Type 1} → statement M
 single-types-spec =

@@ -1,12 +1,9 @@
-use Prim.Native.Nat.{_+_}
+use Prim.Native.Nat.{_+_, _-_, _≤_}
 use mathlib.Core.Logic.{⊎-elim}
-use mathlib.Core.Path.{_∙_, ap, subst, sym}
-use lib.ListN.{getD}
-use Prim.Native.Nat.{_≤_, _-_}
-use mathlib.Core.Path.{_≡_}
+use mathlib.Core.Path.{_∙_, _≡_, ap, subst, sym}
+use lib.ListN.{getD, length}
 use native.Mathlib.Omega.{arith}
-use lib.ListN.{length}
-use Rattle.sheets.proofs.TurnLaws.{TurnedTo, turned-begin, turned-next, turned-skip, turned-done}
+use Rattle.sheets.proofs.TurnLaws.{TurnedTo, turned-begin, turned-done, turned-next, turned-skip}
 use borrow.Author.Needs.{needs}
 use Rattle.sheets.proofs.sources_of.Statement.{statement}
 use Rattle.sheets.proofs.sources_of.Tie as tie

@@ -1,5 +1,5 @@
 use native.Mathlib.Omega.{arith}
-use Prim.Native.Nat.{ℕ, _≤_, _<_, _-_}
+use Prim.Native.Nat.{_-_, _<_, _≤_, ℕ}
 use mathlib.Core.Path.{_≡_}
 use borrow.Author.Count.{below-none}
 use lib.ListN.{getD, length}

@@ -1,3 +1,4 @@
+use Rattle.sheets.proofs.TypeSetLaws.{usable-are}
 use borrow.Author.Needs.{needs}
 use Rattle.sheets.proofs.usable_types.Statement.{statement}
 use Rattle.sheets.proofs.usable_types.Tie as tie
@@ -12,7 +13,8 @@ usable-of-requires : tie.Need-usable-of-requires
 usable-of-requires c κs = search needs
 
 returns : tie.Need-returns
-returns c = ?
+returns c = let b = c .before .before .before .before in
+    usable-are (b .args .old) (b .args .dues .now) (c .usable-of .result) (b .pre .1) (c .usable-of .ensures)
 
 pub usable-types-spec : {M : Type 1} → statement M
 usable-types-spec = tie.close (tie.spec cast-usable-of usable-of-requires returns)

@@ -1,8 +1,8 @@
-use Prim.Native.Nat.{_≤_, _-_}
-use mathlib.Core.Path.{_≡_, _∙_}
+use Prim.Native.Nat.{_-_, _≤_}
+use mathlib.Core.Path.{_∙_, _≡_}
 use native.Mathlib.Omega.{arith}
 use Rattle.sheets.specs.LinesBy.{linesIn}
-use Rattle.sheets.proofs.LineLaws.{lines-begin, lines-next, lines-done}
+use Rattle.sheets.proofs.LineLaws.{lines-begin, lines-done, lines-next}
 use borrow.Author.Needs.{needs}
 use Rattle.sheets.proofs.lines.lines_of.Statement.{statement}
 use Rattle.sheets.proofs.lines.lines_of.Tie as tie

@@ -1,5 +1,4 @@
 use Rattle.sheets.specs.LinesBy.{noLines}
-use borrow.Author.Needs.{needs}
 use Rattle.sheets.proofs.lines.no_lines.Statement.{statement}
 use Rattle.sheets.proofs.lines.no_lines.Tie as tie
 use Rattle.sheets.proofs.lines.no_lines.Reads as reads

@@ -1,11 +1,10 @@
-use Prim.Native.Nat.{ℕ, min}
+use Prim.Native.Nat.{min, ℕ}
 use mathlib.Core.Path.{_∙_, ap}
 use lib.ListN.{getD}
-use Rattle.sheets.specs.LinesBy.{elementIf}
+use Rattle.sheets.specs.LinesBy.{counted, countedFrom, countedTo, elementIf}
 use Rattle.sheets.proofs.LineLaws.{column-with}
-use Rattle.sheets.specs.LinesBy.{counted, countedTo, countedFrom}
 use Rattle.laws.specs.Connective.{either}
-use Rattle.rules.specs.Arrow.{countedRight, countedLeft}
+use Rattle.rules.specs.Arrow.{countedLeft, countedRight}
 use borrow.Author.Needs.{needs}
 use Rattle.sheets.proofs.lines.with_column.Statement.{statement}
 use Rattle.sheets.proofs.lines.with_column.Tie as tie

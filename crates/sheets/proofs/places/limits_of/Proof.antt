@@ -1,14 +1,10 @@
-use Prim.Native.Nat.{max, min}
-use mathlib.Core.Path.{refl}
-use lib.ListN.{getD-replicate}
+use Prim.Native.Nat.{_-_, _<_, _≤_, max, min, ℕ}
+use mathlib.Core.Path.{_∙_, _≡_, ap, refl}
+use lib.ListN.{getD, getD-replicate, length}
 use Rattle.sheets.proofs.ArrayLaws.{zeros}
 use Rattle.sheets.proofs.GatherLaws.{gathered-begin, gathered-done}
 use Rattle.sheets.proofs.PlaceLaws.{stepped-next}
-use native.Mathlib.Omega.{arith}
-use Prim.Native.Nat.{ℕ, _≤_, _<_, _-_}
-use mathlib.Core.Path.{_≡_, ap, _∙_}
-use lib.ListN.{getD, length}
-use Rattle.sheets.specs.RowsBy.{leadsAt, lowAt, highAt}
+use Rattle.sheets.specs.RowsBy.{highAt, leadsAt, lowAt}
 use borrow.Author.Needs.{needs}
 use Rattle.sheets.proofs.places.limits_of.Statement.{statement}
 use Rattle.sheets.proofs.places.limits_of.Tie as tie

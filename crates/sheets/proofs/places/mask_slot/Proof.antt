@@ -1,16 +1,13 @@
-use Prim.Native.Nat.{ℕ, _+_, _*_}
+use Prim.Native.Nat.{_*_, _+_, _-_, _<_, _≤_, ℕ}
 use lib.ListN.{getD}
 use mathlib.Core.List.{List}
 use mathlib.Core.Logic.{⊎-elim}
 use mathlib.Core.Path.{refl, subst, sym}
-use Prim.Native.Nat.{_<_}
 use Rattle.laws.specs.Bits.{bit}
-use Rattle.sheets.proofs.PlaceLaws.{place-slot}
+use Rattle.sheets.proofs.PlaceLaws.{place-slot, stepped-begin, stepped-done, stepped-hit, stepped-miss}
 use native.Mathlib.Omega.{arith}
-use Prim.Native.Nat.{_≤_, _-_}
 use lib.Bits.{bitAnd, bitOr}
 use Rattle.sheets.specs.RowsBy.{Stepped}
-use Rattle.sheets.proofs.PlaceLaws.{stepped-begin, stepped-hit, stepped-miss, stepped-done}
 use borrow.Author.Needs.{needs}
 use Rattle.sheets.proofs.places.mask_slot.Statement.{statement}
 use Rattle.sheets.proofs.places.mask_slot.Tie as tie

@@ -1,10 +1,8 @@
 use lib.Bits.{bitAnd, bitOr}
-use mathlib.Core.Path.{refl}
+use mathlib.Core.Path.{_≡_, ap, refl}
 use Rattle.sheets.proofs.GatherLaws.{gathered-begin, gathered-done}
 use Rattle.sheets.proofs.PlaceLaws.{stepped-next}
-use native.Mathlib.Omega.{arith}
-use Prim.Native.Nat.{ℕ, _≤_, _<_, _-_}
-use mathlib.Core.Path.{_≡_, ap, _∙_}
+use Prim.Native.Nat.{_-_, _<_, _≤_, ℕ}
 use lib.ListN.{getD, length}
 use Rattle.sheets.specs.RowsBy.{leadsAt, maskAt}
 use borrow.Author.Needs.{needs}

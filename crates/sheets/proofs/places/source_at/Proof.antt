@@ -1,5 +1,5 @@
 use Rattle.type_tables.specs.RowsIn.{otherEnd}
-use Rattle.sheets.proofs.PlaceLaws.{source-yes, source-no}
+use Rattle.sheets.proofs.PlaceLaws.{source-no, source-yes}
 use borrow.Author.Needs.{needs}
 use Rattle.sheets.proofs.places.source_at.Statement.{statement}
 use Rattle.sheets.proofs.places.source_at.Tie as tie

@@ -1,4 +1,4 @@
-use Rattle.sheets.proofs.TypeSetLaws.{missing-yes, missing-no}
+use Rattle.sheets.proofs.TypeSetLaws.{missing-no, missing-yes}
 use borrow.Author.Needs.{needs}
 use Rattle.sheets.proofs.type_sets.missing_at.Statement.{statement}
 use Rattle.sheets.proofs.type_sets.missing_at.Tie as tie

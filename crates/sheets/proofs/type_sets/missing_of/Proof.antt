@@ -1,9 +1,9 @@
-use Prim.Native.Nat.{ℕ, _≤_, _-_}
+use Prim.Native.Nat.{_-_, _≤_, ℕ}
 use mathlib.Core.Path.{_≡_}
 use native.Mathlib.Omega.{arith}
 use Rattle.laws.specs.Bits.{bit}
 use Rattle.laws.specs.Bounded.{any}
-use Rattle.sheets.proofs.TypeSetLaws.{joined-begin, joined-next, joined-done}
+use Rattle.sheets.proofs.TypeSetLaws.{joined-begin, joined-done, joined-next}
 use Rattle.sheets.specs.MasksBy.{missingIn}
 use borrow.Author.Needs.{needs}
 use Rattle.sheets.proofs.type_sets.missing_of.Statement.{statement}

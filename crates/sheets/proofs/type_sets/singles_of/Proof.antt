@@ -1,9 +1,9 @@
-use Prim.Native.Nat.{_≤_, _-_}
-use mathlib.Core.Path.{ap, _∙_}
+use Prim.Native.Nat.{_-_, _≤_}
+use mathlib.Core.Path.{_∙_, ap}
 use mathlib.Core.Logic.{⊎-elim}
 use native.Mathlib.Omega.{arith}
-use Rattle.laws.specs.Bits.{bit, Marks}
-use Rattle.laws.proofs.MaskLaws.{mask-begin, mask-with, mask-miss, mask-done}
+use Rattle.laws.specs.Bits.{Marks, bit}
+use Rattle.laws.proofs.MaskLaws.{mask-begin, mask-done, mask-miss, mask-with}
 use Rattle.sheets.specs.MasksBy.{singleIn}
 use borrow.Author.Needs.{needs}
 use Rattle.sheets.proofs.type_sets.singles_of.Statement.{statement}
