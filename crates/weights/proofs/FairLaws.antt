@@ -1,0 +1,2 @@
+-- The pairs of weights balance.
+-- Assumes nothing.

@@ -1,0 +1,2 @@
+-- What a query asks of the first object.
+-- Assumes nothing.
