@@ -18,11 +18,13 @@ use Rattle.laws.proofs.ConnectiveLaws.{or-left, or-right, true-false}
 use Rattle.growing.specs.World.{World}
 use Rattle.growing.specs.Demand.{extras}
 use Rattle.weights.specs.declared.Gain.{Gain}
+use Rattle.weights.specs.declared.Scale.{Scale}
 use Rattle.weights.specs.declared.Shortage.{Shortage}
 use Rattle.weights.specs.declared.Weight.{Weight}
 use Rattle.weights.specs.Numbers.{limitAt, numberAt, numberBy}
 use Rattle.weights.specs.Sums.{sum}
 use Rattle.weights.specs.Weigh.{Begins, Gained, Gains, Lacks}
+use Rattle.weights.proofs.NumberLaws.{limit-else}
 use Rattle.weights.proofs.SumLaws.{extra-balance, sum-ext, sum-more}
 
 -- ---- a sum, as a loop counts
@@ -62,16 +64,20 @@ module _ (a b : ℕ → ℕ) (free : ℕ) where
   pub gains-begin : (r : Gain) → Gains a b free 0 r
   gains-begin r = record { at = λ t l. absurd (omega arith) }
 
-  pub gains-skip : (t : ℕ) {r : Gain} → Gains a b free t r → bit t free ≡ false → Gains a b free (t + 1) r
-  gains-skip t {r} h e = record { at = below-more (λ (u : ℕ). bit u free ≡ true → b u ≤ a u + r .most * one (bit u (r .g))) t (h .at) (λ f. absurd (true-false f e)) }
+  pub gains-skip : (t : ℕ) {r s : Gain} → Gains a b free t r → bit t free ≡ false → s ≡ r → Gains a b free (t + 1) s
+  gains-skip t {r} h e i = subst (λ (s : Gain). Gains a b free (t + 1) s) (sym i)
+      (record { at = below-more (λ (u : ℕ). bit u free ≡ true → b u ≤ a u + r .most * one (bit u (r .g))) t (h .at) (λ f. absurd (true-false f e)) })
 
-  pub gains-add : (t : ℕ) {p q : Gain} {x y : ℕ} → Gains a b free t p → x ≡ a t → y ≡ b t → Gained p q t x y → Gains a b free (t + 1) q
-  gains-add t {p} {q} {x} {y} h e f g = record {
+  pub gains-add : (t : ℕ) {p q s : Gain} {x y : ℕ} → Gains a b free t p → x ≡ a t → y ≡ b t → Gained p q t x y → s ≡ q → Gains a b free (t + 1) s
+  gains-add t {p} {q} {s} {x} {y} h e f g i = subst (λ (r : Gain). Gains a b free (t + 1) r) (sym i) (record {
     at = below-more (λ (u : ℕ). bit u free ≡ true → b u ≤ a u + q .most * one (bit u (q .g))) t
         (λ u l k. let m = h .at u l k in
         let n = one-most (p .most) (q .most) (bit u (p .g)) (bit u (q .g)) (g .most) (g .kept u) in omega arith)
         (λ k. let n = g .new in omega arith);
-  }
+  })
+
+  pub gains-done : (t : ℕ) {r : Gain} → t ≤ 24 → 24 ≤ t → Gains a b free t r → Gains a b free 24 r
+  gains-done t {r} l h g = let q : t ≡ 24 = omega arith in subst (λ (n : ℕ). Gains a b free n r) q g
 
 -- ---- how many times
 
@@ -99,3 +105,14 @@ module _ (a b : ℕ → ℕ → ℕ) (a′ b′ : ℕ → ℕ) (later : (o t : �
               let q = later′ o (w .kind o) (omega arith) in
               let r = gains .at (w .kind o) (s .known o j) (s .extra o i j) in omega arith) in
           let z = times (extras (gain .g) k w) h in absurd (omega arith)
+
+-- of the numbers by types
+pub lacks-by : (targets lows highs slots froms tos : List ℕ) (x : Scale) (types : List ℕ) (k free : ℕ) (gain : Gain) (m n c : ℕ) → 0 < k
+    → m ≡ sum (λ o. numberAt targets lows highs slots froms tos (x .a) o (getD types o 0)) k → n ≡ sum (λ o. numberAt targets lows highs slots froms tos (x .b) o (getD types o 0)) k
+    → Gains (numberBy targets lows highs slots froms tos (x .a) (x .a .limit)) (numberBy targets lows highs slots froms tos (x .b) (x .b .limit)) free 24 gain
+    → ((e : ℕ) → e < c → n + gain .most * e < m)
+    → Lacks (numberAt targets lows highs slots froms tos (x .a)) (numberAt targets lows highs slots froms tos (x .b)) types k free (record { g = gain .g; c = c })
+lacks-by targets lows highs slots froms tos x = lacks-of (numberAt targets lows highs slots froms tos (x .a)) (numberAt targets lows highs slots froms tos (x .b))
+    (numberBy targets lows highs slots froms tos (x .a) (x .a .limit)) (numberBy targets lows highs slots froms tos (x .b) (x .b .limit))
+    (λ o t l. ap (λ (y : ℕ). numberBy targets lows highs slots froms tos (x .a) y t) (limit-else (x .a) o l))
+    (λ o t l. ap (λ (y : ℕ). numberBy targets lows highs slots froms tos (x .b) y t) (limit-else (x .b) o l))

@@ -15,7 +15,7 @@ use Rattle.laws.specs.Bits.{bit}
 use Rattle.laws.proofs.BitLaws.{bit-and, bit-or}
 use Rattle.laws.proofs.ConnectiveLaws.{and-both, or-left, or-right}
 use Rattle.weights.specs.declared.Weight.{Weight}
-use Rattle.weights.specs.Numbers.{inMask, limitAt, numberBy, slotNumber, wholeLow, wholeRow}
+use Rattle.weights.specs.Numbers.{inMask, limitAt, lineNumber, numberBy, slotNumber, wholeLow, wholeRow}
 
 -- ---- masks
 
@@ -27,11 +27,11 @@ pub in-meet : (a b c : ℕ) → inMask (bitAnd a b) c ≡ true → (t : ℕ) →
 in-meet a b c h t e f = in-mask (bitAnd a b) c h t (bit-and t a b ∙ and-both (bit t a) (bit t b) e f)
 
 -- one mask more
-pub mask-more : (masks : List ℕ) (j m : ℕ) → ((i : ℕ) → i < j → (t : ℕ) → bit t (getD masks i 0) ≡ true → bit t m ≡ true)
-    → (i : ℕ) → i < j + 1 → (t : ℕ) → bit t (getD masks i 0) ≡ true → bit t (bitOr m (getD masks j 0)) ≡ true
-mask-more masks j m f = below-more (λ (i : ℕ). (t : ℕ) → bit t (getD masks i 0) ≡ true → bit t (bitOr m (getD masks j 0)) ≡ true) j
-    (λ i l t e. bit-or t m (getD masks j 0) ∙ or-left (bit t m) (bit t (getD masks j 0)) (f i l t e))
-    (λ t e. bit-or t m (getD masks j 0) ∙ or-right (bit t m) (bit t (getD masks j 0)) e)
+pub mask-more : (masks : List ℕ) (j m i : ℕ) → i ≡ j → ((k : ℕ) → k < j → (t : ℕ) → bit t (getD masks k 0) ≡ true → bit t m ≡ true)
+    → (k : ℕ) → k < j + 1 → (t : ℕ) → bit t (getD masks k 0) ≡ true → bit t (bitOr m (getD masks i 0)) ≡ true
+mask-more masks j m i q f = below-more (λ (k : ℕ). (t : ℕ) → bit t (getD masks k 0) ≡ true → bit t (bitOr m (getD masks i 0)) ≡ true) j
+    (λ k l t e. bit-or t m (getD masks i 0) ∙ or-left (bit t m) (bit t (getD masks i 0)) (f k l t e))
+    (λ t e. bit-or t m (getD masks i 0) ∙ or-right (bit t m) (bit t (getD masks i 0)) (ap (λ (k : ℕ). bit t (getD masks k 0)) q ∙ e))
 
 -- ---- the largest number by wholes
 
@@ -46,6 +46,15 @@ module _ (targets lows slots froms tos : List ℕ) (slot limit t : ℕ) where
 
   pub whole-done : (j : ℕ) {n : ℕ} → j ≤ 16 → 16 ≤ j → n ≡ wholeLow targets lows slots froms tos slot limit t j → n ≡ wholeLow targets lows slots froms tos slot limit t 16
   whole-done j l h e = let q : j ≡ 16 = omega arith in e ∙ ap (wholeLow targets lows slots froms tos slot limit t) q
+
+-- by one line, whose entries the code reads at i
+pub row-by : (targets lows slots froms tos : List ℕ) (slot limit t j : ℕ) {i target low r : ℕ} → i ≡ j → target ≡ getD targets (t * 32 + getD slots i 0) 0
+    → low ≡ getD lows (t * 32 + getD slots i 0) 0 → r ≡ lineNumber (getD froms i 0) (getD tos i 0) target low (eqb slot (getD slots i 0)) limit t
+    → r ≡ wholeRow targets lows slots froms tos slot limit t j
+unfolding wholeRow
+row-by targets lows slots froms tos slot limit t j {i} q e f g =
+    g ∙ ap₂ (λ (a b : ℕ). lineNumber (getD froms i 0) (getD tos i 0) a b (eqb slot (getD slots i 0)) limit t) e f
+    ∙ ap (wholeRow targets lows slots froms tos slot limit t) q
 
 -- ---- the number of a type
 

@@ -31,7 +31,7 @@ element-copy-out-result c = search needs
 
 -- src/lib.rt:91:1
 returns : tie.Need-returns
-returns c = ?
+returns c = cc
 
 pub at32-spec : {M : Type 1} → statement M
 at32-spec =

@@ -27,7 +27,7 @@ element-copy-out-result c = search needs
 
 -- src/lib.rt:84:1
 returns : tie.Need-returns
-returns c = ?
+returns c = cc
 
 pub at8-spec : {M : Type 1} → statement M
 at8-spec =

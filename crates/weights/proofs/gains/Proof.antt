@@ -1,10 +1,11 @@
+use Rattle.laws.proofs.SearchLaws.{is-no}
 use Prim.Native.Nat.{_-_, _<_, _≤_}
 use native.Mathlib.Omega.{arith}
 use mathlib.Core.Logic.{⊎-elim}
 use mathlib.Core.Path.{_≡_}
 use Rattle.weights.specs.Numbers.{numberBy}
 use Rattle.weights.specs.Weigh.{Gains}
-use Rattle.weights.proofs.LackLaws.{gains-add, gains-begin, gains-skip}
+use Rattle.weights.proofs.LackLaws.{gains-add, gains-begin, gains-done, gains-skip}
 use borrow.Author.Needs.{needs}
 use Rattle.weights.proofs.gains.Statement.{statement}
 use Rattle.weights.proofs.gains.Tie as tie
@@ -55,11 +56,16 @@ loop-less c = search needs
 
 -- src/lib.rt:250:5
 loop-again : tie.Need-loop-again Inv-loop μ-loop
-loop-again c = ?
+loop-again c = let l = c .before .before .before .loop in (
+      search needs,
+      l .inv .1,
+      l .inv .2,
+      ⊎-elim (λ w. gains-add _ _ _ (l .t) (l .inv .3) (w .1 .ensures) (w .2 .ensures) (w .3 .ensures) (w .4)) (λ w. gains-skip _ _ _ (l .t) (l .inv .3) (is-no (c .before .has32 .ensures) (w .0 .left)) (w .1)) (c .if1 .came),
+    )
 
 -- src/lib.rt:233:1
 returns : tie.Need-returns Inv-loop μ-loop
-returns c = ?
+returns c = let l = c .before .loop in gains-done _ _ _ (l .t) (omega arith) (omega arith) (l .inv .3)
 
 pub gains-spec : {M : Type 1} → statement M
 gains-spec =

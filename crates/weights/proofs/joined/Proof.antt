@@ -45,7 +45,7 @@ loop-less c = search needs
 
 -- src/lib.rt:431:5
 loop-again : tie.Need-loop-again Inv-loop μ-loop
-loop-again c = ?
+loop-again c = let l = c .before .before .before .loop in (search needs, mask-more (c .before .before .before .before .args .masks .now) (l .j) (l .m) (c .before .wide .result) (c .before .wide .ensures .0) (l .inv .1))
 
 -- src/lib.rt:426:1
 returns : tie.Need-returns Inv-loop μ-loop

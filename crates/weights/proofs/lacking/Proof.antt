@@ -1,3 +1,4 @@
+use Rattle.weights.proofs.LackLaws.{lacks-by}
 use borrow.Author.Needs.{needs}
 use Rattle.weights.proofs.lacking.Statement.{statement}
 use Rattle.weights.proofs.lacking.Tie as tie
@@ -37,7 +38,7 @@ times-requires c κs = search needs
 
 -- src/lib.rt:294:1
 returns-4 : tie.Need-returns-4
-returns-4 c = ?
+returns-4 c = lacks-by _ _ _ _ _ _ _ _ _ _ (c .before .gains .result) _ _ (c .times .result) (c .before .before .before .before .before .before .before .before .before .before .pre .0) (c .before .before .before .before .before .total .ensures .0) (c .before .before .before .total2 .ensures .0) (c .before .gains .ensures) (c .times .ensures)
 
 pub lacking-spec : {M : Type 1} → statement M
 lacking-spec =

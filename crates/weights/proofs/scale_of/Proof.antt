@@ -1,3 +1,5 @@
+use native.Mathlib.Omega.{arith}
+use Rattle.weights.proofs.FairLaws.{columns-fair, left-fair, right-fair, rows-fair, whole-fair}
 use borrow.Author.Needs.{needs}
 use Rattle.weights.proofs.scale_of.Statement.{statement}
 use Rattle.weights.proofs.scale_of.Tie as tie
@@ -21,7 +23,7 @@ element-copy-out-s c = search needs
 
 -- src/lib.rt:468:13
 at32-requires : tie.Need-at32-requires
-at32-requires c κs = search needs
+at32-requires c κs = (search needs, c .before .before .before .pre .0 .column (c .before .before .wide .result) (omega arith))
 
 -- src/lib.rt:470:39
 mul-rows-scale : tie.Need-mul-rows-scale
@@ -49,7 +51,7 @@ rows-scale-requires c κs = search needs
 
 -- src/lib.rt:470:13
 returns : tie.Need-returns
-returns c = ?
+returns c = rows-fair _ _ _ _ (c .before .before .before .before .before .before .before .before .wide .result) _ _ (omega arith) (c .before .before .before .before .before .before .before .before .before .pre .0) (c .before .before .before .before .before .at32 .ensures) (c .rows-scale .ensures)
 
 -- src/lib.rt:472:38
 mul-columns-scale : tie.Need-mul-columns-scale
@@ -77,7 +79,7 @@ columns-scale-requires c κs = search needs
 
 -- src/lib.rt:472:9
 returns-2 : tie.Need-returns-2
-returns-2 c = ?
+returns-2 c = columns-fair _ _ _ _ (c .before .before .before .before .before .before .before .before .wide .result) _ _ (omega arith) (c .before .before .before .before .before .before .before .before .before .pre .0) (c .before .before .before .before .before .at32 .ensures) (c .columns-scale .ensures)
 
 -- src/lib.rt:475:21
 element-copy-out-right : tie.Need-element-copy-out-right
@@ -89,7 +91,7 @@ element-copy-out-left c = search needs
 
 -- src/lib.rt:478:17
 at32-requires-2 : tie.Need-at32-requires-2
-at32-requires-2 c κs = search needs
+at32-requires-2 c κs = (search needs, c .before .before .before .before .before .before .pre .0 .right (c .before .before .before .before .before .wide .result) (omega arith))
 
 -- src/lib.rt:479:51
 mul-mirror-scale : tie.Need-mul-mirror-scale
@@ -113,11 +115,11 @@ mirror-scale-requires c κs = search needs
 
 -- src/lib.rt:479:13
 returns-3 : tie.Need-returns-3
-returns-3 c = ?
+returns-3 c = right-fair _ _ _ _ (c .before .before .before .before .before .before .before .before .before .wide .result) _ _ (omega arith) (c .before .before .before .before .before .before .before .before .before .before .pre .0) (c .before .before .before .at322 .ensures) (c .mirror-scale .ensures)
 
 -- src/lib.rt:481:13
 at32-requires-3 : tie.Need-at32-requires-3
-at32-requires-3 c κs = search needs
+at32-requires-3 c κs = (search needs, c .before .before .before .before .before .before .pre .0 .left (c .before .before .before .before .before .wide .result) (omega arith))
 
 -- src/lib.rt:482:47
 mul-mirror-scale-3 : tie.Need-mul-mirror-scale-3
@@ -141,7 +143,7 @@ mirror-scale-requires-2 c κs = search needs
 
 -- src/lib.rt:482:9
 returns-4 : tie.Need-returns-4
-returns-4 c = ?
+returns-4 c = left-fair _ _ _ _ (c .before .before .before .before .before .before .before .before .before .wide .result) _ _ (omega arith) (c .before .before .before .before .before .before .before .before .before .before .pre .0) (c .before .before .before .at323 .ensures) (c .mirror-scale2 .ensures)
 
 -- src/lib.rt:484:22
 joined-requires : tie.Need-joined-requires
@@ -157,7 +159,7 @@ whole-scale-requires c κs = search needs
 
 -- src/lib.rt:461:1
 returns-5 : tie.Need-returns-5
-returns-5 c = ?
+returns-5 c = whole-fair _ _ _ _ _ _ _ (c .before .before .before .before .before .before .before .before .before .before .pre .0) (c .before .before .before .before .before .before .before .before .before .before .pre .1) (c .before .joined2 .ensures) (c .whole-scale .ensures)
 
 pub scale-of-spec : {M : Type 1} → statement M
 scale-of-spec =

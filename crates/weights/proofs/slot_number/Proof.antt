@@ -1,3 +1,4 @@
+use Rattle.weights.specs.Numbers.{slotNumber}
 use borrow.Author.Needs.{needs}
 use Rattle.weights.proofs.slot_number.Statement.{statement}
 use Rattle.weights.proofs.slot_number.Tie as tie
@@ -48,7 +49,8 @@ pick-requires-3 c κs = search needs
 
 -- src/lib.rt:159:1
 returns : tie.Need-returns
-returns c = ?
+unfolding slotNumber
+returns c = cc
 
 pub slot-number-spec : {M : Type 1} → statement M
 slot-number-spec =

@@ -22,7 +22,7 @@ loop-holds c = (search needs, omega arith, omega arith, below-none _)
 
 -- src/lib.rt:263:13
 returns : tie.Need-returns Inv-loop μ-loop
-returns c = ?
+returns c = c .before .before .loop .inv .3
 
 -- src/lib.rt:265:14
 double-requires : tie.Need-double-requires Inv-loop μ-loop
@@ -42,11 +42,12 @@ loop-less c = search needs
 
 -- src/lib.rt:261:5
 loop-again : tie.Need-loop-again Inv-loop μ-loop
-loop-again c = ?
+loop-again c = let l = c .before .before .before .loop in
+    (search needs, times-more _ (l .c) _ (l .z) _ (l .inv .1) (c .double .ensures .0), search needs, below-more _ _ (l .inv .3) (omega arith))
 
 -- src/lib.rt:255:1
 returns-2 : tie.Need-returns-2 Inv-loop μ-loop
-returns-2 c = ?
+returns-2 c = c .before .loop .inv .3
 
 pub times-spec : {M : Type 1} → statement M
 times-spec =

@@ -40,7 +40,7 @@ limit-at-requires c κs = search needs
 
 -- src/lib.rt:210:21
 number-of-requires : tie.Need-number-of-requires Inv-loop μ-loop
-number-of-requires c κs = search needs
+number-of-requires c κs = (c .before .before .before .before .pre .3 (c .before .wide .result), search needs, search needs)
 
 -- src/lib.rt:210:14
 double-requires : tie.Need-double-requires Inv-loop μ-loop
@@ -60,7 +60,8 @@ loop-less c = search needs
 
 -- src/lib.rt:208:5
 loop-again : tie.Need-loop-again Inv-loop μ-loop
-loop-again c = ?
+loop-again c = let l = c .before .before .before .before .before .loop in
+    (search needs, search needs, total-next _ _ _ _ _ _ _ (c .before .before .before .before .before .before .args .t8) (l .o) (l .inv .2) (c .before .before .limit-at .ensures) (c .before .before .before .wide .ensures .0) (c .before .number-of .ensures) (c .double .ensures .0))
 
 -- src/lib.rt:192:1
 returns : tie.Need-returns Inv-loop μ-loop

@@ -1,3 +1,5 @@
+use mathlib.Core.Path.{refl}
+use Rattle.weights.proofs.FairLaws.{short-of}
 use borrow.Author.Needs.{needs}
 use Rattle.weights.proofs.weigh.Statement.{statement}
 use Rattle.weights.proofs.weigh.Tie as tie
@@ -16,7 +18,7 @@ array-read-scale-of c = search needs
 
 -- src/lib.rt:517:9
 scale-of-requires : tie.Need-scale-of-requires
-scale-of-requires c κs = search needs
+scale-of-requires c κs = let s = c .before .before in (s .pre .0, s .pre .2 .row, s .pre .5 0)
 
 -- src/lib.rt:518:5
 lacking-requires : tie.Need-lacking-requires
@@ -24,7 +26,8 @@ lacking-requires c κs = search needs
 
 -- src/lib.rt:489:1
 returns-2 : tie.Need-returns-2
-returns-2 c = ?
+returns-2 c = let s = c .before .before .before .before .before .before .before .before in
+    short-of _ _ _ _ _ _ _ _ _ _ _ _ (search needs) (s .pre .1) refl (c .before .before .before .before .before .scale-of .ensures) (c .lacking .ensures)
 
 pub weigh-spec : {M : Type 1} → statement M
 weigh-spec =

@@ -1,3 +1,5 @@
+use native.Mathlib.Omega.{arith}
+use Rattle.weights.proofs.NumberLaws.{row-by}
 use borrow.Author.Needs.{needs}
 use Rattle.weights.proofs.whole_row.Statement.{statement}
 use Rattle.weights.proofs.whole_row.Tie as tie
@@ -18,7 +20,7 @@ element-copy-out-s c = search needs
 
 -- src/lib.rt:131:9
 at8-requires : tie.Need-at8-requires
-at8-requires c κs = search needs
+at8-requires c κs = (search needs, c .before .before .pre .2 (c .before .wide .result) (omega arith))
 
 -- src/lib.rt:132:17
 mul-line-number : tie.Need-mul-line-number
@@ -38,7 +40,7 @@ element-copy-out-line-number-2 c = search needs
 
 -- src/lib.rt:132:35
 at32-requires : tie.Need-at32-requires
-at32-requires c κs = search needs
+at32-requires c κs = (search needs, c .before .before .before .before .before .pre .2 (c .before .before .before .before .wide .result) (omega arith))
 
 -- src/lib.rt:132:5
 line-number-requires : tie.Need-line-number-requires
@@ -46,7 +48,7 @@ line-number-requires c κs = search needs
 
 -- src/lib.rt:115:1
 returns : tie.Need-returns
-returns c = ?
+returns c = row-by _ _ (c .before .before .before .before .before .before .before .args .slots .now) _ _ _ _ _ _ (c .before .before .before .before .before .before .wide .ensures .0) (c .before .at32 .ensures) (c .before .before .before .before .at8 .ensures) (c .line-number .ensures)
 
 pub whole-row-spec : {M : Type 1} → statement M
 whole-row-spec =
