@@ -6,7 +6,7 @@ use Prim.Native.Nat.{_<_, _≤_, zero-le, ℕ}
 use native.Mathlib.Nat.{le-trans}
 use native.Mathlib.Omega.{arith}
 use mathlib.Core.Bool.{Bool, _&&_, cond, false, true}
-use mathlib.Core.Path.{_∙_, _≡_, ap, refl, subst, sym}
+use mathlib.Core.Path.{_≡_, ap, refl, subst, sym}
 use Rattle.laws.specs.Bounded.{tally}
 use Rattle.laws.proofs.BoundedLaws.{tally-none}
 use Rattle.laws.proofs.ConnectiveLaws.{and-left, and-right, same-test, true-false}

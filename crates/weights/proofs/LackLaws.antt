@@ -1,16 +1,16 @@
 -- What is lacking among the first objects: where the numbers of all objects balance, what those of the first k objects lack comes from
 -- further objects, and each has at most the largest gain of a type.
 -- Assumes nothing.
-use Prim.Native.Nat.{_*_, _+_, _-_, _<_, _≤_, max, suc, zero-le, ℕ}
+use Prim.Native.Nat.{_*_, _+_, _-_, _<_, _≤_, max, zero-le, ℕ}
 use native.Mathlib.Decide.{decLt}
-use native.Mathlib.Nat.{le-trans, mul-add, mul-le-mul}
+use native.Mathlib.Nat.{mul-add}
 use native.Mathlib.Omega.{arith}
 use mathlib.Core.Bool.{Bool, _||_, false, true}
 use mathlib.Core.List.{List}
 use mathlib.Core.Path.{_∙_, _≡_, ap, ap₂, refl, subst, sym}
 use lib.Dec.{eqb}
 use lib.ListN.{getD}
-use borrow.Author.Count.{below-more, below-none}
+use borrow.Author.Count.{below-more}
 use borrow.Author.Tests.{eq-eqb}
 use Rattle.laws.specs.Bits.{bit}
 use Rattle.laws.specs.Bounded.{one}
@@ -19,7 +19,6 @@ use Rattle.growing.specs.World.{World}
 use Rattle.growing.specs.Demand.{extras}
 use Rattle.weights.specs.declared.Gain.{Gain}
 use Rattle.weights.specs.declared.Scale.{Scale}
-use Rattle.weights.specs.declared.Shortage.{Shortage}
 use Rattle.weights.specs.declared.Weight.{Weight}
 use Rattle.weights.specs.Numbers.{limitAt, numberAt, numberBy}
 use Rattle.weights.specs.Sums.{sum}
@@ -101,9 +100,9 @@ module _ (a b : ℕ → ℕ → ℕ) (a′ b′ : ℕ → ℕ) (later : (o t : �
           let x = sum-ext (λ o. a o (w .kind o)) (λ o. a o (getD types o 0)) k (λ o i. ap (a o) (s .kept o i)) in
           let y = sum-ext (λ o. b o (w .kind o)) (λ o. b o (getD types o 0)) k (λ o i. ap (b o) (s .kept o i)) in
           let d = extra-balance (λ o. a o (w .kind o)) (λ o. b o (w .kind o)) k (w .size) (gain .most) (λ o. bit (w .kind o) (gain .g)) (s .many) l
-              (λ o i j. let p = later o (w .kind o) (omega arith) in
-              let q = later′ o (w .kind o) (omega arith) in
-              let r = gains .at (w .kind o) (s .known o j) (s .extra o i j) in omega arith) in
+          (λ o i j. let p = later o (w .kind o) (omega arith) in
+          let q = later′ o (w .kind o) (omega arith) in
+          let r = gains .at (w .kind o) (s .known o j) (s .extra o i j) in omega arith) in
           let z = times (extras (gain .g) k w) h in absurd (omega arith)
 
 -- of the numbers by types

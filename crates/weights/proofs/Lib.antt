@@ -4,3 +4,4 @@ pub mod NumberLaws
 pub mod LackLaws
 pub mod OwnLaws
 pub mod FairLaws
+pub mod ScaleLaws

@@ -1,9 +1,9 @@
 -- Laws of the numbers by types: how the code finds them, and what they are by each way.
 -- Assumes nothing.
-use Prim.Native.Nat.{_*_, _+_, _<_, _≤_, max, min, suc, ℕ}
+use Prim.Native.Nat.{_*_, _+_, _<_, _≤_, max, min, ℕ}
 use native.Mathlib.Numerals.{add-one}
 use native.Mathlib.Omega.{arith}
-use mathlib.Core.Bool.{Bool, _&&_, _||_, cond, false, true}
+use mathlib.Core.Bool.{Bool, _&&_, cond, false, true}
 use mathlib.Core.List.{List}
 use mathlib.Core.Path.{_∙_, _≡_, ap, ap₂, refl, sym}
 use lib.Bits.{bitAnd, bitOr}

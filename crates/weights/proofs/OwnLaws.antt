@@ -1,6 +1,6 @@
 -- What a query asks of the first object holds of its row and of its column.
 -- Assumes nothing.
-use Prim.Native.Nat.{_<_, _≤_, zero-le, ℕ}
+use Prim.Native.Nat.{_<_, _≤_, ℕ}
 use native.Mathlib.Nat.{le-trans}
 use native.Mathlib.Omega.{arith}
 use mathlib.Core.Bool.{Bool, _&&_, cond, false, true}

@@ -1,12 +1,11 @@
 -- Pairs of weights that balance: in each world that the tables allow, the numbers a of all objects are together not above the numbers b.
 -- Assumes nothing.
-use Prim.Native.Nat.{_*_, _+_, _<_, _≤_, max, min, ℕ}
-use mathlib.Core.Bool.{Bool, _&&_, cond}
+use Prim.Native.Nat.{_<_, _≤_, max, min, ℕ}
+use mathlib.Core.Bool.{_&&_, cond}
 use mathlib.Core.List.{List}
 use mathlib.Core.Path.{_≡_}
 use lib.Bits.{bitAnd}
 use lib.Dec.{eqb, ltb}
-use lib.ListN.{getD}
 use Rattle.growing.specs.World.{World}
 use Rattle.worlds.specs.declared.Lines.{Lines}
 use Rattle.worlds.specs.declared.Query.{Query}

@@ -49,6 +49,7 @@ struct Own {
     most: u8,
 }
 
+// Types for which one number is above another, and by how much at most.
 struct Gain {
     g: u32,
     most: u8,
@@ -56,24 +57,28 @@ struct Gain {
 
 // ---- numbers
 
+// The larger of two numbers.
 fn larger(x: u8, y: u8) -> u8
     ensures { λ r. ⌜ r ≡ max x y ⌝ }
 {
     if x < y { y } else { x }
 }
 
+// The smaller of two numbers.
 fn smaller(x: u8, y: u8) -> u8
     ensures { λ r. ⌜ r ≡ min x y ⌝ }
 {
     if x < y { x } else { y }
 }
 
+// x where the test holds, else y.
 fn pick(b: bool, x: u8, y: u8) -> u8
     ensures { λ r. ⌜ r ≡ cond b x y ⌝ }
 {
     if b { x } else { y }
 }
 
+// A number with room for sums.
 fn double(x: u8) -> u16
     ensures { λ r. ⌜ (r ≡ x) × (r ≤ 255) ⌝ }
 {
@@ -129,7 +134,15 @@ fn whole_row<'a>(
     let i = laws::wide(j);
     let s = slots[i];
     let low = at8(lows, t, s);
-    line_number(froms[i], tos[i], at32(targets, t, s), low, slot == s, limit, t)
+    line_number(
+        froms[i],
+        tos[i],
+        at32(targets, t, s),
+        low,
+        slot == s,
+        limit,
+        t,
+    )
 }
 
 // The largest of these.
@@ -149,7 +162,10 @@ fn whole_low<'a>(
     let mut n: u8 = 0;
     let mut j: u8 = 0;
     while j < 16 {
-        n = larger(n, whole_row(targets, lows, slots, froms, tos, slot, limit, t, j));
+        n = larger(
+            n,
+            whole_row(targets, lows, slots, froms, tos, slot, limit, t, j),
+        );
         j += 1;
     }
     n
@@ -168,8 +184,16 @@ fn slot_number<'a>(
     ensures { λ r. ⌜ r ≡ slotNumber (now (targets .entry)) (now (lows .entry)) (now (highs .entry)) w limit t ⌝ }
 {
     let s = w.slot;
-    let low = pick(is_inside(at32(targets, t, s), w.to), larger(at8(lows, t, s), limit), 0);
-    pick(w.way == 2, limit, pick(w.way == 1, smaller(at8(highs, t, s), limit), low))
+    let low = pick(
+        is_inside(at32(targets, t, s), w.to),
+        larger(at8(lows, t, s), limit),
+        0,
+    );
+    pick(
+        w.way == 2,
+        limit,
+        pick(w.way == 1, smaller(at8(highs, t, s), limit), low),
+    )
 }
 
 // The number of type t.
@@ -222,7 +246,17 @@ fn total<'a>(
     let mut o: u8 = 0;
     while o < k {
         let t = types[laws::wide(o)];
-        n += double(number_of(targets, lows, highs, slots, froms, tos, w, limit_at(w, o), t));
+        n += double(number_of(
+            targets,
+            lows,
+            highs,
+            slots,
+            froms,
+            tos,
+            w,
+            limit_at(w, o),
+            t,
+        ));
         o += 1;
     }
     n
@@ -328,28 +362,40 @@ fn lacking<'a>(
 
 // ---- pairs of weights
 
+// How many targets the first object has in slot s at least.
 fn row_least(own: Own, s: u8) -> u8
     ensures { λ r. ⌜ r ≡ rowLeast own s ⌝ }
 {
     pick(own.asked & (own.row == s), own.low, 0)
 }
 
+// How many it has at most.
 fn row_most(own: Own, s: u8) -> u8
     ensures { λ r. ⌜ r ≡ rowMost own s ⌝ }
 {
     pick(own.asked & (own.row == s), own.high, 255)
 }
 
+// How many sources of the types `from` the first object has in slot s at least; only types of the mask `may` can have links to it.
 fn column_least(own: Own, s: u8, from: u32, may: u32) -> u8
     ensures { λ r. ⌜ r ≡ columnLeast own s from may ⌝ }
 {
-    pick(own.asked & (own.column == s) & is_inside(own.from & may, from), own.least, 0)
+    pick(
+        own.asked & (own.column == s) & is_inside(own.from & may, from),
+        own.least,
+        0,
+    )
 }
 
+// How many it has at most.
 fn column_most(own: Own, s: u8, from: u32, may: u32) -> u8
     ensures { λ r. ⌜ r ≡ columnMost own s from may ⌝ }
 {
-    pick(own.asked & (own.column == s) & is_inside(from & may, own.from), own.most, 255)
+    pick(
+        own.asked & (own.column == s) & is_inside(from & may, own.from),
+        own.most,
+        255,
+    )
 }
 
 // Rows of sources `from` against columns of targets `to` with at most `high` sources.
@@ -467,19 +513,47 @@ fn scale_of<'a>(sources: &'a [u32; 768], lines: worlds::Lines, own: Own, t: u8, 
         let s = lines.columnslot[j];
         let may = at32(sources, t, s);
         if v < 16 {
-            return rows_scale(own, s, lines.columnfrom[j], lines.columnto[j], lines.columnhigh[j], may);
+            return rows_scale(
+                own,
+                s,
+                lines.columnfrom[j],
+                lines.columnto[j],
+                lines.columnhigh[j],
+                may,
+            );
         }
-        return columns_scale(own, s, lines.columnfrom[j], lines.columnto[j], lines.columnlow[j], may);
+        return columns_scale(
+            own,
+            s,
+            lines.columnfrom[j],
+            lines.columnto[j],
+            lines.columnlow[j],
+            may,
+        );
     }
     if v < 64 {
         let right = lines.mirrorright[j];
         let left = lines.mirrorleft[j];
         if v < 48 {
             let may = at32(sources, t, right);
-            return mirror_scale(own, right, left, lines.mirrorfrom[j], lines.mirrorto[j], may);
+            return mirror_scale(
+                own,
+                right,
+                left,
+                lines.mirrorfrom[j],
+                lines.mirrorto[j],
+                may,
+            );
         }
         let may = at32(sources, t, left);
-        return mirror_scale(own, left, right, lines.mirrorto[j], lines.mirrorfrom[j], may);
+        return mirror_scale(
+            own,
+            left,
+            right,
+            lines.mirrorto[j],
+            lines.mirrorfrom[j],
+            may,
+        );
     }
     whole_scale(own, joined(&lines.wholefrom), joined(&lines.wholeto))
 }

@@ -2,28 +2,19 @@ use Rattle.weights.proofs.LackLaws.{gained-more}
 use borrow.Author.Needs.{needs}
 use Rattle.weights.proofs.added.Statement.{statement}
 use Rattle.weights.proofs.added.Tie as tie
-use Rattle.weights.proofs.added.Reads as reads
-use Rattle.weights.proofs.added.Lts as lts
-use Rattle.laws.proofs.with32.Reads as with32-reads
-use Rattle.weights.proofs.larger.Reads as larger-reads
 
--- src/lib.rt:217:9
 returns : tie.Need-returns
 returns c = search needs
 
--- src/lib.rt:220:12
 with32-requires : tie.Need-with32-requires
 with32-requires c κs = search needs
 
--- src/lib.rt:221:33
 sub-larger : tie.Need-sub-larger
 sub-larger c = search needs
 
--- src/lib.rt:221:15
 larger-requires : tie.Need-larger-requires
 larger-requires c κs = search needs
 
--- src/lib.rt:212:1
 returns-2 : tie.Need-returns-2
 returns-2 c = gained-more _ _ _ _ _ _ (c .before .with32 .ensures) (c .larger .ensures) (search needs)
 

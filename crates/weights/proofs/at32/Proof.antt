@@ -1,35 +1,25 @@
 use borrow.Author.Needs.{needs}
 use Rattle.weights.proofs.at32.Statement.{statement}
 use Rattle.weights.proofs.at32.Tie as tie
-use Rattle.weights.proofs.at32.Reads as reads
-use Rattle.weights.proofs.at32.Lts as lts
-use Rattle.laws.proofs.wide.Reads as wide-reads
 
--- src/lib.rt:95:11
 wide-requires : tie.Need-wide-requires
 wide-requires c κs = search needs
 
--- src/lib.rt:95:11
 mul-result : tie.Need-mul-result
 mul-result c = search needs
 
--- src/lib.rt:95:32
 wide-requires-2 : tie.Need-wide-requires-2
 wide-requires-2 c κs = search needs
 
--- src/lib.rt:95:11
 add-result : tie.Need-add-result
 add-result c = search needs
 
--- src/lib.rt:95:5
 mul-result-2 : tie.Need-mul-result-2
 mul-result-2 c = search needs
 
--- src/lib.rt:95:5
 element-copy-out-result : tie.Need-element-copy-out-result
 element-copy-out-result c = search needs
 
--- src/lib.rt:91:1
 returns : tie.Need-returns
 returns c = cc
 

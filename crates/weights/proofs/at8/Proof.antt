@@ -1,31 +1,22 @@
 use borrow.Author.Needs.{needs}
 use Rattle.weights.proofs.at8.Statement.{statement}
 use Rattle.weights.proofs.at8.Tie as tie
-use Rattle.weights.proofs.at8.Reads as reads
-use Rattle.weights.proofs.at8.Lts as lts
-use Rattle.laws.proofs.wide.Reads as wide-reads
 
--- src/lib.rt:88:11
 wide-requires : tie.Need-wide-requires
 wide-requires c κs = search needs
 
--- src/lib.rt:88:11
 mul-result : tie.Need-mul-result
 mul-result c = search needs
 
--- src/lib.rt:88:32
 wide-requires-2 : tie.Need-wide-requires-2
 wide-requires-2 c κs = search needs
 
--- src/lib.rt:88:11
 add-result : tie.Need-add-result
 add-result c = search needs
 
--- src/lib.rt:88:5
 element-copy-out-result : tie.Need-element-copy-out-result
 element-copy-out-result c = search needs
 
--- src/lib.rt:84:1
 returns : tie.Need-returns
 returns c = cc
 

@@ -1,11 +1,7 @@
 use Rattle.weights.specs.Numbers.{inMask}
-use borrow.Author.Needs.{needs}
 use Rattle.weights.proofs.is_inside.Statement.{statement}
 use Rattle.weights.proofs.is_inside.Tie as tie
-use Rattle.weights.proofs.is_inside.Reads as reads
-use Rattle.weights.proofs.is_inside.Lts as lts
 
--- src/lib.rt:84:1
 returns : tie.Need-returns
 unfolding inMask
 returns c = cc

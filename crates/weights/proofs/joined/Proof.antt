@@ -9,9 +9,6 @@ use Rattle.weights.proofs.NumberLaws.{mask-more}
 use borrow.Author.Needs.{needs}
 use Rattle.weights.proofs.joined.Statement.{statement}
 use Rattle.weights.proofs.joined.Tie as tie
-use Rattle.weights.proofs.joined.Reads as reads
-use Rattle.weights.proofs.joined.Lts as lts
-use Rattle.laws.proofs.wide.Reads as wide-reads
 
 abbrev Inv-loop : tie.InvT-loop
 Inv-loop masks m₀ j₀ m j = (j ≤ 16) × ((i : ℕ) → i < j → (t : ℕ) → bit t (getD masks i 0) ≡ true → bit t m ≡ true)
@@ -19,35 +16,27 @@ Inv-loop masks m₀ j₀ m j = (j ≤ 16) × ((i : ℕ) → i < j → (t : ℕ) 
 abbrev μ-loop : tie.MeasureT-loop
 μ-loop masks m₀ j₀ m j = 16 - j
 
--- src/lib.rt:431:5
 loop-holds : tie.Need-loop-holds Inv-loop μ-loop
 loop-holds c = (search needs, below-none _)
 
--- src/lib.rt:432:23
 wide-requires : tie.Need-wide-requires Inv-loop μ-loop
 wide-requires c κs = search needs
 
--- src/lib.rt:432:17
 mul-m : tie.Need-mul-m Inv-loop μ-loop
 mul-m c = search needs
 
--- src/lib.rt:432:17
 element-copy-out-m : tie.Need-element-copy-out-m Inv-loop μ-loop
 element-copy-out-m c = search needs
 
--- src/lib.rt:433:9
 add-j : tie.Need-add-j Inv-loop μ-loop
 add-j c = search needs
 
--- src/lib.rt:431:5
 loop-less : tie.Need-loop-less Inv-loop μ-loop
 loop-less c = search needs
 
--- src/lib.rt:431:5
 loop-again : tie.Need-loop-again Inv-loop μ-loop
 loop-again c = let l = c .before .before .before .loop in (search needs, mask-more (c .before .before .before .before .args .masks .now) (l .j) (l .m) (c .before .wide .result) (c .before .wide .ensures .0) (l .inv .1))
 
--- src/lib.rt:426:1
 returns : tie.Need-returns Inv-loop μ-loop
 returns c = λ i t l. c .before .loop .inv .1 i (omega arith) t
 

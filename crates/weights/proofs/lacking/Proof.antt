@@ -2,41 +2,28 @@ use Rattle.weights.proofs.LackLaws.{lacks-by}
 use borrow.Author.Needs.{needs}
 use Rattle.weights.proofs.lacking.Statement.{statement}
 use Rattle.weights.proofs.lacking.Tie as tie
-use Rattle.weights.proofs.lacking.Reads as reads
-use Rattle.weights.proofs.lacking.Lts as lts
-use Rattle.weights.proofs.gains.Reads as gains-reads
-use Rattle.weights.proofs.times.Reads as times-reads
-use Rattle.weights.proofs.total.Reads as total-reads
 
--- src/lib.rt:312:9
 returns : tie.Need-returns
 returns c = search needs
 
--- src/lib.rt:314:9
 total-requires : tie.Need-total-requires
 total-requires c κs = search needs
 
--- src/lib.rt:316:9
 returns-2 : tie.Need-returns-2
 returns-2 c = search needs
 
--- src/lib.rt:318:9
 total-requires-2 : tie.Need-total-requires-2
 total-requires-2 c κs = search needs
 
--- src/lib.rt:320:9
 returns-3 : tie.Need-returns-3
 returns-3 c = search needs
 
--- src/lib.rt:322:9
 gains-requires : tie.Need-gains-requires
 gains-requires c κs = search needs
 
--- src/lib.rt:325:12
 times-requires : tie.Need-times-requires
 times-requires c κs = search needs
 
--- src/lib.rt:294:1
 returns-4 : tie.Need-returns-4
 returns-4 c = lacks-by _ _ _ _ _ _ _ _ _ _ (c .before .gains .result) _ _ (c .times .result) (c .before .before .before .before .before .before .before .before .before .before .pre .0) (c .before .before .before .before .before .total .ensures .0) (c .before .before .before .total2 .ensures .0) (c .before .gains .ensures) (c .times .ensures)
 

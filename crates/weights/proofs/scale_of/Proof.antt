@@ -1,163 +1,117 @@
 use native.Mathlib.Omega.{arith}
-use Rattle.weights.proofs.FairLaws.{columns-fair, left-fair, right-fair, rows-fair, whole-fair}
+use Rattle.weights.proofs.ScaleLaws.{columns-fair, left-fair, right-fair, rows-fair, whole-fair}
 use borrow.Author.Needs.{needs}
 use Rattle.weights.proofs.scale_of.Statement.{statement}
 use Rattle.weights.proofs.scale_of.Tie as tie
-use Rattle.weights.proofs.scale_of.Reads as reads
-use Rattle.weights.proofs.scale_of.Lts as lts
-use Rattle.laws.proofs.wide.Reads as wide-reads
-use Rattle.weights.proofs.at32.Reads as at32-reads
-use Rattle.weights.proofs.columns_scale.Reads as columns-scale-reads
-use Rattle.weights.proofs.joined.Reads as joined-reads
-use Rattle.weights.proofs.mirror_scale.Reads as mirror-scale-reads
-use Rattle.weights.proofs.rows_scale.Reads as rows-scale-reads
-use Rattle.weights.proofs.whole_scale.Reads as whole-scale-reads
 
--- src/lib.rt:465:9
 wide-requires : tie.Need-wide-requires
 wide-requires c κs = search needs
 
--- src/lib.rt:467:17
 element-copy-out-s : tie.Need-element-copy-out-s
 element-copy-out-s c = search needs
 
--- src/lib.rt:468:13
 at32-requires : tie.Need-at32-requires
 at32-requires c κs = (search needs, c .before .before .before .pre .0 .column (c .before .before .wide .result) (omega arith))
 
--- src/lib.rt:470:39
 mul-rows-scale : tie.Need-mul-rows-scale
 mul-rows-scale c = search needs
 
--- src/lib.rt:470:39
 element-copy-out-rows-scale : tie.Need-element-copy-out-rows-scale
 element-copy-out-rows-scale c = search needs
 
--- src/lib.rt:470:60
 mul-rows-scale-2 : tie.Need-mul-rows-scale-2
 mul-rows-scale-2 c = search needs
 
--- src/lib.rt:470:60
 element-copy-out-rows-scale-2 : tie.Need-element-copy-out-rows-scale-2
 element-copy-out-rows-scale-2 c = search needs
 
--- src/lib.rt:470:79
 element-copy-out-rows-scale-3 : tie.Need-element-copy-out-rows-scale-3
 element-copy-out-rows-scale-3 c = search needs
 
--- src/lib.rt:470:13
 rows-scale-requires : tie.Need-rows-scale-requires
 rows-scale-requires c κs = search needs
 
--- src/lib.rt:470:13
 returns : tie.Need-returns
 returns c = rows-fair _ _ _ _ (c .before .before .before .before .before .before .before .before .wide .result) _ _ (omega arith) (c .before .before .before .before .before .before .before .before .before .pre .0) (c .before .before .before .before .before .at32 .ensures) (c .rows-scale .ensures)
 
--- src/lib.rt:472:38
 mul-columns-scale : tie.Need-mul-columns-scale
 mul-columns-scale c = search needs
 
--- src/lib.rt:472:38
 element-copy-out-columns-scale : tie.Need-element-copy-out-columns-scale
 element-copy-out-columns-scale c = search needs
 
--- src/lib.rt:472:59
 mul-columns-scale-2 : tie.Need-mul-columns-scale-2
 mul-columns-scale-2 c = search needs
 
--- src/lib.rt:472:59
 element-copy-out-columns-scale-2 : tie.Need-element-copy-out-columns-scale-2
 element-copy-out-columns-scale-2 c = search needs
 
--- src/lib.rt:472:78
 element-copy-out-columns-scale-3 : tie.Need-element-copy-out-columns-scale-3
 element-copy-out-columns-scale-3 c = search needs
 
--- src/lib.rt:472:9
 columns-scale-requires : tie.Need-columns-scale-requires
 columns-scale-requires c κs = search needs
 
--- src/lib.rt:472:9
 returns-2 : tie.Need-returns-2
 returns-2 c = columns-fair _ _ _ _ (c .before .before .before .before .before .before .before .before .wide .result) _ _ (omega arith) (c .before .before .before .before .before .before .before .before .before .pre .0) (c .before .before .before .before .before .at32 .ensures) (c .columns-scale .ensures)
 
--- src/lib.rt:475:21
 element-copy-out-right : tie.Need-element-copy-out-right
 element-copy-out-right c = search needs
 
--- src/lib.rt:476:20
 element-copy-out-left : tie.Need-element-copy-out-left
 element-copy-out-left c = search needs
 
--- src/lib.rt:478:17
 at32-requires-2 : tie.Need-at32-requires-2
 at32-requires-2 c κs = (search needs, c .before .before .before .before .before .before .pre .0 .right (c .before .before .before .before .before .wide .result) (omega arith))
 
--- src/lib.rt:479:51
 mul-mirror-scale : tie.Need-mul-mirror-scale
 mul-mirror-scale c = search needs
 
--- src/lib.rt:479:51
 element-copy-out-mirror-scale : tie.Need-element-copy-out-mirror-scale
 element-copy-out-mirror-scale c = search needs
 
--- src/lib.rt:479:72
 mul-mirror-scale-2 : tie.Need-mul-mirror-scale-2
 mul-mirror-scale-2 c = search needs
 
--- src/lib.rt:479:72
 element-copy-out-mirror-scale-2 : tie.Need-element-copy-out-mirror-scale-2
 element-copy-out-mirror-scale-2 c = search needs
 
--- src/lib.rt:479:13
 mirror-scale-requires : tie.Need-mirror-scale-requires
 mirror-scale-requires c κs = search needs
 
--- src/lib.rt:479:13
 returns-3 : tie.Need-returns-3
 returns-3 c = right-fair _ _ _ _ (c .before .before .before .before .before .before .before .before .before .wide .result) _ _ (omega arith) (c .before .before .before .before .before .before .before .before .before .before .pre .0) (c .before .before .before .at322 .ensures) (c .mirror-scale .ensures)
 
--- src/lib.rt:481:13
 at32-requires-3 : tie.Need-at32-requires-3
 at32-requires-3 c κs = (search needs, c .before .before .before .before .before .before .pre .0 .left (c .before .before .before .before .before .wide .result) (omega arith))
 
--- src/lib.rt:482:47
 mul-mirror-scale-3 : tie.Need-mul-mirror-scale-3
 mul-mirror-scale-3 c = search needs
 
--- src/lib.rt:482:47
 element-copy-out-mirror-scale-3 : tie.Need-element-copy-out-mirror-scale-3
 element-copy-out-mirror-scale-3 c = search needs
 
--- src/lib.rt:482:66
 mul-mirror-scale-4 : tie.Need-mul-mirror-scale-4
 mul-mirror-scale-4 c = search needs
 
--- src/lib.rt:482:66
 element-copy-out-mirror-scale-4 : tie.Need-element-copy-out-mirror-scale-4
 element-copy-out-mirror-scale-4 c = search needs
 
--- src/lib.rt:482:9
 mirror-scale-requires-2 : tie.Need-mirror-scale-requires-2
 mirror-scale-requires-2 c κs = search needs
 
--- src/lib.rt:482:9
 returns-4 : tie.Need-returns-4
 returns-4 c = left-fair _ _ _ _ (c .before .before .before .before .before .before .before .before .before .wide .result) _ _ (omega arith) (c .before .before .before .before .before .before .before .before .before .before .pre .0) (c .before .before .before .at323 .ensures) (c .mirror-scale2 .ensures)
 
--- src/lib.rt:484:22
 joined-requires : tie.Need-joined-requires
 joined-requires c κs = search needs
 
--- src/lib.rt:484:48
 joined-requires-2 : tie.Need-joined-requires-2
 joined-requires-2 c κs = search needs
 
--- src/lib.rt:484:5
 whole-scale-requires : tie.Need-whole-scale-requires
 whole-scale-requires c κs = search needs
 
--- src/lib.rt:461:1
 returns-5 : tie.Need-returns-5
 returns-5 c = whole-fair _ _ _ _ _ _ _ (c .before .before .before .before .before .before .before .before .before .before .pre .0) (c .before .before .before .before .before .before .before .before .before .before .pre .1) (c .before .joined2 .ensures) (c .whole-scale .ensures)
 

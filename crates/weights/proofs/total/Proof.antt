@@ -1,5 +1,4 @@
 use Prim.Native.Nat.{_*_, _-_, _≤_}
-use native.Mathlib.Omega.{arith}
 use mathlib.Core.Path.{_≡_}
 use lib.ListN.{getD}
 use Rattle.weights.specs.Numbers.{numberAt}
@@ -8,12 +7,6 @@ use Rattle.weights.proofs.LackLaws.{sum-begin, sum-done, total-next}
 use borrow.Author.Needs.{needs}
 use Rattle.weights.proofs.total.Statement.{statement}
 use Rattle.weights.proofs.total.Tie as tie
-use Rattle.weights.proofs.total.Reads as reads
-use Rattle.weights.proofs.total.Lts as lts
-use Rattle.laws.proofs.wide.Reads as wide-reads
-use Rattle.weights.proofs.double.Reads as double-reads
-use Rattle.weights.proofs.limit_at.Reads as limit-at-reads
-use Rattle.weights.proofs.number_of.Reads as number-of-reads
 
 abbrev Inv-loop : tie.InvT-loop
 Inv-loop targets lows highs slots froms tos w k types n₀ o₀ n o =
@@ -22,48 +15,37 @@ Inv-loop targets lows highs slots froms tos w k types n₀ o₀ n o =
 abbrev μ-loop : tie.MeasureT-loop
 μ-loop targets lows highs slots froms tos w k types n₀ o₀ n o = k - o
 
--- src/lib.rt:208:5
 loop-holds : tie.Need-loop-holds Inv-loop μ-loop
 loop-holds c = (search needs, search needs, sum-begin _)
 
--- src/lib.rt:209:23
 wide-requires : tie.Need-wide-requires Inv-loop μ-loop
 wide-requires c κs = search needs
 
--- src/lib.rt:209:17
 array-read-t : tie.Need-array-read-t Inv-loop μ-loop
 array-read-t c = search needs
 
--- src/lib.rt:210:75
 limit-at-requires : tie.Need-limit-at-requires Inv-loop μ-loop
 limit-at-requires c κs = search needs
 
--- src/lib.rt:210:21
 number-of-requires : tie.Need-number-of-requires Inv-loop μ-loop
 number-of-requires c κs = (c .before .before .before .before .pre .3 (c .before .wide .result), search needs, search needs)
 
--- src/lib.rt:210:14
 double-requires : tie.Need-double-requires Inv-loop μ-loop
 double-requires c κs = search needs
 
--- src/lib.rt:210:9
 add-n : tie.Need-add-n Inv-loop μ-loop
 add-n c = search needs
 
--- src/lib.rt:211:9
 add-o : tie.Need-add-o Inv-loop μ-loop
 add-o c = search needs
 
--- src/lib.rt:208:5
 loop-less : tie.Need-loop-less Inv-loop μ-loop
 loop-less c = search needs
 
--- src/lib.rt:208:5
 loop-again : tie.Need-loop-again Inv-loop μ-loop
 loop-again c = let l = c .before .before .before .before .before .loop in
     (search needs, search needs, total-next _ _ _ _ _ _ _ (c .before .before .before .before .before .before .args .t8) (l .o) (l .inv .2) (c .before .before .limit-at .ensures) (c .before .before .before .wide .ensures .0) (c .before .number-of .ensures) (c .double .ensures .0))
 
--- src/lib.rt:192:1
 returns : tie.Need-returns Inv-loop μ-loop
 returns c = (sum-done _ _ _ (search needs) (search needs) (c .before .loop .inv .2), search needs)
 

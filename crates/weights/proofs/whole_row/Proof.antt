@@ -3,50 +3,34 @@ use Rattle.weights.proofs.NumberLaws.{row-by}
 use borrow.Author.Needs.{needs}
 use Rattle.weights.proofs.whole_row.Statement.{statement}
 use Rattle.weights.proofs.whole_row.Tie as tie
-use Rattle.weights.proofs.whole_row.Reads as reads
-use Rattle.weights.proofs.whole_row.Lts as lts
-use Rattle.laws.proofs.wide.Reads as wide-reads
-use Rattle.weights.proofs.at32.Reads as at32-reads
-use Rattle.weights.proofs.at8.Reads as at8-reads
-use Rattle.weights.proofs.line_number.Reads as line-number-reads
 
--- src/lib.rt:129:9
 wide-requires : tie.Need-wide-requires
 wide-requires c κs = search needs
 
--- src/lib.rt:130:13
 element-copy-out-s : tie.Need-element-copy-out-s
 element-copy-out-s c = search needs
 
--- src/lib.rt:131:9
 at8-requires : tie.Need-at8-requires
 at8-requires c κs = (search needs, c .before .before .pre .2 (c .before .wide .result) (omega arith))
 
--- src/lib.rt:132:17
 mul-line-number : tie.Need-mul-line-number
 mul-line-number c = search needs
 
--- src/lib.rt:132:17
 element-copy-out-line-number : tie.Need-element-copy-out-line-number
 element-copy-out-line-number c = search needs
 
--- src/lib.rt:132:27
 mul-line-number-2 : tie.Need-mul-line-number-2
 mul-line-number-2 c = search needs
 
--- src/lib.rt:132:27
 element-copy-out-line-number-2 : tie.Need-element-copy-out-line-number-2
 element-copy-out-line-number-2 c = search needs
 
--- src/lib.rt:132:35
 at32-requires : tie.Need-at32-requires
 at32-requires c κs = (search needs, c .before .before .before .before .before .pre .2 (c .before .before .before .before .wide .result) (omega arith))
 
--- src/lib.rt:132:5
 line-number-requires : tie.Need-line-number-requires
 line-number-requires c κs = search needs
 
--- src/lib.rt:115:1
 returns : tie.Need-returns
 returns c = row-by _ _ (c .before .before .before .before .before .before .before .args .slots .now) _ _ _ _ _ _ (c .before .before .before .before .before .before .wide .ensures .0) (c .before .at32 .ensures) (c .before .before .before .before .at8 .ensures) (c .line-number .ensures)
 
