@@ -4,8 +4,8 @@
 use Prim.Native.Nat.{_*_, _+_, _-_, _<_, _≤_, suc, zero, ℕ}
 use native.Mathlib.Nat.{le-refl, le-step, lt-suc-self, mul-add}
 use native.Mathlib.Omega.{arith}
-use mathlib.Core.Bool.{Bool, false, true}
-use mathlib.Core.Path.{_∙_, _≡_, ap, ap₂, refl, subst, sym}
+use mathlib.Core.Bool.{Bool}
+use mathlib.Core.Path.{_∙_, _≡_, ap, ap₂, refl, sym}
 use Rattle.laws.specs.Bounded.{one, tally}
 use Rattle.growing.specs.Demand.{from}
 use Rattle.weights.specs.Sums.{sum}

@@ -1,1 +1,4 @@
 pub mod Sums
+pub mod Numbers
+pub mod Scales
+pub mod Weigh

@@ -1,0 +1,26 @@
+use borrow.Author.Needs.{needs}
+use Rattle.weights.proofs.at8.Statement.{statement}
+use Rattle.weights.proofs.at8.Tie as tie
+
+wide-requires : tie.Need-wide-requires
+wide-requires c κs = search needs
+
+mul-result : tie.Need-mul-result
+mul-result c = search needs
+
+wide-requires-2 : tie.Need-wide-requires-2
+wide-requires-2 c κs = search needs
+
+add-result : tie.Need-add-result
+add-result c = search needs
+
+element-copy-out-result : tie.Need-element-copy-out-result
+element-copy-out-result c = search needs
+
+returns : tie.Need-returns
+returns c = cc
+
+pub at8-spec : {M : Type 1} → statement M
+at8-spec =
+    tie.close
+    (tie.spec wide-requires mul-result wide-requires-2 add-result element-copy-out-result returns)
