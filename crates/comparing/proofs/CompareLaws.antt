@@ -5,7 +5,6 @@
 use Prim.Native.Nat.{_≤_, min, ℕ}
 use native.Mathlib.Omega.{arith}
 use mathlib.Core.Bool.{Bool, cond, false, true}
-use mathlib.Core.List.{List}
 use mathlib.Core.Option.{none, some}
 use mathlib.Core.Path.{_≡_, refl}
 use Rattle.files.specs.Diagram.{Diagram}
@@ -13,31 +12,15 @@ use Rattle.files.specs.Record.{objectCount}
 use Rattle.files.specs.RecordBytes.{writeRecord}
 use Rattle.files.specs.WellFormedDiagram.{WfDiagram}
 use Rattle.files.proofs.RecordWellFormed.{read-wf}
-use Rattle.diagrams.specs.declared.StoredDiagram.{StoredDiagram}
-use Rattle.diagrams.specs.View.{diagramOf}
 use Rattle.records.specs.declared.MemoryRecord.{MemoryRecord}
 use Rattle.records.specs.Written.{recordOf}
 use Rattle.records.proofs.WrittenLaws.{written-count}
 use Rattle.writing.proofs.WrittenLaws.{written-read-back}
 use Rattle.fillings.specs.Wanted.{Witness}
-use Rattle.type_tables.specs.TypeTables.{Dues, Highs, Lows, Targets, TypeTables}
-use Rattle.type_tables.proofs.StoredLaws.{stored-kinds, stored-sizes}
 use Rattle.searching.specs.declared.Found.{Found}
 use Rattle.comparing.specs.Compared.{Compares, witnessIn}
 use Rattle.comparing.specs.Difference.{Finds, Gap, Least, NoneUpTo}
 use Rattle.comparing.specs.Sought.{Sought}
-
--- the tables of a stored diagram, two of which it holds itself
-pub tables-of : (d : StoredDiagram) {dues targets lows highs : List ℕ} → Dues (diagramOf d) dues → Targets (diagramOf d) targets → Lows (diagramOf d) lows
-    → Highs (diagramOf d) highs → TypeTables (diagramOf d) (d .types .kinds) (d .values .sizes) dues targets lows highs
-tables-of d a b c e = record {
-  of-kinds = stored-kinds d;
-  of-sizes = stored-sizes d;
-  of-dues = a;
-  of-targets = b;
-  of-lows = c;
-  of-highs = e;
-}
 
 pub few-objects : (bound most : ℕ) → most ≡ min 8 bound → most ≤ 8
 few-objects bound most e = omega arith

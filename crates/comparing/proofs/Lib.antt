@@ -1,4 +1,5 @@
 pub mod SoughtLaws
+pub mod ReadyLaws
 pub mod CompareLaws
 pub mod HandOutLaws
 pub mod WitnessLaws

@@ -10,10 +10,10 @@ use Rattle.comparing.proofs.least.Lts as lts
 use Rattle.searching.proofs.search.Reads as search-reads
 
 abbrev Inv-loop : tie.InvT-loop
-Inv-loop old new kinds sizes dues targets lows highs most n₀ n = (n ≤ most) × NoneBelow (diagramOf old) (diagramOf new) n
+Inv-loop old new dues targets sources lows highs lines usable singles bad singles2 missing targets2 lows2 highs2 lines2 most n₀ n = (n ≤ most) × NoneBelow (diagramOf old) (diagramOf new) n
 
 abbrev μ-loop : tie.MeasureT-loop
-μ-loop old new kinds sizes dues targets lows highs most n₀ n = most - n
+μ-loop old new dues targets sources lows highs lines usable singles bad singles2 missing targets2 lows2 highs2 lines2 most n₀ n = most - n
 
 loop-holds : tie.Need-loop-holds Inv-loop μ-loop
 loop-holds c = search (needs, none-first)
