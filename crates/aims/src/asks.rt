@@ -29,8 +29,8 @@ pub fn ask_types<'a>(
     lines: Lines,
     usable: u32,
     singles: u32,
-    n: u8,
     a: u32,
+    n: u8,
 ) -> Built
     requires { ⌜ Slotted lines × Turned (now targets) (now sources) × (n ≤ 8) ⌝ }
     ensures { λ r. ⌜ Breaks (sheet usable singles (now (targets .entry)) (now (lows .entry)) (now (highs .entry)) lines) (TypesAvoided a) n (r .ok) (worldBuilt n r) ⌝ }
@@ -69,8 +69,8 @@ pub fn ask_absent<'a>(
     lines: Lines,
     usable: u32,
     singles: u32,
-    n: u8,
     a: u32,
+    n: u8,
 ) -> Built
     requires { ⌜ Slotted lines × Turned (now targets) (now sources) × (n ≤ 8) ⌝ }
     ensures { λ r. ⌜ Breaks (sheet usable singles (now (targets .entry)) (now (lows .entry)) (now (highs .entry)) lines) (λ w. TypesAvoided a w → ⊥) n (r .ok) (worldBuilt n r) ⌝ }
@@ -88,8 +88,8 @@ pub fn ask_pairs<'a>(
     lines: Lines,
     usable: u32,
     singles: u32,
-    n: u8,
     a: u32,
+    n: u8,
 ) -> Built
     requires { ⌜ Slotted lines × Turned (now targets) (now sources) × (n ≤ 8) ⌝ }
     ensures { λ r. ⌜ Breaks (sheet usable singles (now (targets .entry)) (now (lows .entry)) (now (highs .entry)) lines) (PairsAvoided a) n (r .ok) (worldBuilt n r) ⌝ }
@@ -110,10 +110,10 @@ pub fn ask_links<'a>(
     lines: Lines,
     usable: u32,
     singles: u32,
-    n: u8,
     s: u8,
     a: u32,
     b: u32,
+    n: u8,
 ) -> Built
     requires { ⌜ Slotted lines × Turned (now targets) (now sources) × (n ≤ 8) × (s < 32) ⌝ }
     ensures { λ r. ⌜ Breaks (sheet usable singles (now (targets .entry)) (now (lows .entry)) (now (highs .entry)) lines) (LinksAvoided s a b) n (r .ok) (worldBuilt n r) ⌝ }
@@ -137,9 +137,9 @@ pub fn ask_loops<'a>(
     lines: Lines,
     usable: u32,
     singles: u32,
-    n: u8,
     s: u8,
     a: u32,
+    n: u8,
 ) -> Built
     requires { ⌜ Slotted lines × Turned (now targets) (now sources) × (n ≤ 8) × (s < 32) ⌝ }
     ensures { λ r. ⌜ Breaks (sheet usable singles (now (targets .entry)) (now (lows .entry)) (now (highs .entry)) lines) (LoopsAvoided s a) n (r .ok) (worldBuilt n r) ⌝ }
@@ -160,11 +160,11 @@ pub fn ask_rows<'a>(
     lines: Lines,
     usable: u32,
     singles: u32,
-    n: u8,
     s: u8,
     a: u32,
     low: u8,
     high: u8,
+    n: u8,
 ) -> Built
     requires { ⌜ Slotted lines × Turned (now targets) (now sources) × (n ≤ 8) × (s < 32) ⌝ }
     ensures { λ r. ⌜ Breaks (sheet usable singles (now (targets .entry)) (now (lows .entry)) (now (highs .entry)) lines) (RowsAvoided s a low high) n (r .ok) (worldBuilt n r) ⌝ }
@@ -185,12 +185,12 @@ pub fn ask_columns<'a>(
     lines: Lines,
     usable: u32,
     singles: u32,
-    n: u8,
     s: u8,
     a: u32,
     from: u32,
     low: u8,
     high: u8,
+    n: u8,
 ) -> Built
     requires { ⌜ Slotted lines × Turned (now targets) (now sources) × (n ≤ 8) × (s < 32) ⌝ }
     ensures { λ r. ⌜ Breaks (sheet usable singles (now (targets .entry)) (now (lows .entry)) (now (highs .entry)) lines) (ColumnsAvoided s a from low high) n (r .ok) (worldBuilt n r) ⌝ }
@@ -211,11 +211,11 @@ pub fn ask_halves<'a>(
     lines: Lines,
     usable: u32,
     singles: u32,
-    n: u8,
     s: u8,
     u: u8,
     a: u32,
     b: u32,
+    n: u8,
 ) -> Built
     requires { ⌜ Slotted lines × Turned (now targets) (now sources) × (n ≤ 8) × (s < 32) × (u < 32) ⌝ }
     ensures { λ r. ⌜ Breaks (sheet usable singles (now (targets .entry)) (now (lows .entry)) (now (highs .entry)) lines) (HalvesAvoided s u a b) n (r .ok) (worldBuilt n r) ⌝ }
@@ -244,10 +244,10 @@ pub fn ask_half_loops<'a>(
     lines: Lines,
     usable: u32,
     singles: u32,
-    n: u8,
     s: u8,
     u: u8,
     a: u32,
+    n: u8,
 ) -> Built
     requires { ⌜ Slotted lines × Turned (now targets) (now sources) × (n ≤ 8) × (s < 32) × (u < 32) ⌝ }
     ensures { λ r. ⌜ Breaks (sheet usable singles (now (targets .entry)) (now (lows .entry)) (now (highs .entry)) lines) (HalfLoopsAvoided s u a) n (r .ok) (worldBuilt n r) ⌝ }
@@ -273,12 +273,12 @@ pub fn ask_parts<'a>(
     lines: Lines,
     usable: u32,
     singles: u32,
-    n: u8,
     s: u8,
     u: u8,
     a: u32,
     b: u32,
     c: u32,
+    n: u8,
 ) -> Built
     requires { ⌜ Slotted lines × Turned (now targets) (now sources) × (n ≤ 8) × (s < 32) × (u < 32) ⌝ }
     ensures { λ r. ⌜ Breaks (sheet usable singles (now (targets .entry)) (now (lows .entry)) (now (highs .entry)) lines) (PartsAvoided s u a b c) n (r .ok) (worldBuilt n r) ⌝ }
@@ -310,11 +310,11 @@ pub fn ask_own_parts<'a>(
     lines: Lines,
     usable: u32,
     singles: u32,
-    n: u8,
     s: u8,
     u: u8,
     a: u32,
     b: u32,
+    n: u8,
 ) -> Built
     requires { ⌜ Slotted lines × Turned (now targets) (now sources) × (n ≤ 8) × (s < 32) × (u < 32) ⌝ }
     ensures { λ r. ⌜ Breaks (sheet usable singles (now (targets .entry)) (now (lows .entry)) (now (highs .entry)) lines) (OwnPartsAvoided s u a b) n (r .ok) (worldBuilt n r) ⌝ }

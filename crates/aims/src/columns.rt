@@ -18,11 +18,11 @@ fn find_few<'a>(
     lines: Lines,
     usable: u32,
     singles: u32,
-    n: u8,
     s: u8,
     a: u32,
     from: u32,
     low: u8,
+    n: u8,
 ) -> Built
     requires { ⌜ Slotted lines × Turned (now targets) (now sources) × (n ≤ 8) ⌝ }
     ensures { λ r. ⌜ Breaks (sheet usable singles (now (targets .entry)) (now (lows .entry)) (now (highs .entry)) lines) (LeastKept s a from low) n (r .ok) (worldBuilt n r) ⌝ }
@@ -31,7 +31,7 @@ fn find_few<'a>(
         return nothing();
     }
     if 32 <= s {
-        return ask_types(targets, sources, lows, highs, lines, usable, singles, n, a);
+        return ask_types(targets, sources, lows, highs, lines, usable, singles, a, n);
     }
     ask_columns(
         targets,
@@ -41,12 +41,12 @@ fn find_few<'a>(
         lines,
         usable,
         singles,
-        n,
         s,
         a,
         from,
         0,
         low - 1,
+        n,
     )
 }
 
@@ -59,11 +59,11 @@ fn find_many<'a>(
     lines: Lines,
     usable: u32,
     singles: u32,
-    n: u8,
     s: u8,
     a: u32,
     from: u32,
     high: u8,
+    n: u8,
 ) -> Built
     requires { ⌜ Slotted lines × Turned (now targets) (now sources) × (n ≤ 8) ⌝ }
     ensures { λ r. ⌜ Breaks (sheet usable singles (now (targets .entry)) (now (lows .entry)) (now (highs .entry)) lines) (MostKept s a from high) n (r .ok) (worldBuilt n r) ⌝ }
@@ -82,12 +82,12 @@ fn find_many<'a>(
         lines,
         usable,
         singles,
-        n,
         s,
         a,
         from,
         high + 1,
         8,
+        n,
     )
 }
 
@@ -100,9 +100,9 @@ fn find_column<'a>(
     lines: Lines,
     usable: u32,
     singles: u32,
-    n: u8,
     j: usize,
     others: Lines,
+    n: u8,
 ) -> Built
     requires { ⌜ Slotted lines × Turned (now targets) (now sources) × (n ≤ 8) × (j < 16) ⌝ }
     ensures { λ r. ⌜ Breaks (sheet usable singles (now (targets .entry)) (now (lows .entry)) (now (highs .entry)) lines) (ColumnKept others j) n (r .ok) (worldBuilt n r) ⌝ }
@@ -118,11 +118,11 @@ fn find_column<'a>(
         lines,
         usable,
         singles,
-        n,
         s,
         a,
         f,
         others.columnlow[j],
+        n,
     );
     if r.ok {
         return r;
@@ -135,11 +135,11 @@ fn find_column<'a>(
         lines,
         usable,
         singles,
-        n,
         s,
         a,
         f,
         others.columnhigh[j],
+        n,
     )
 }
 
@@ -152,8 +152,8 @@ pub fn find_columns<'a>(
     lines: Lines,
     usable: u32,
     singles: u32,
-    n: u8,
     others: Lines,
+    n: u8,
 ) -> Built
     requires { ⌜ Slotted lines × Turned (now targets) (now sources) × (n ≤ 8) ⌝ }
     ensures { λ r. ⌜ Breaks (sheet usable singles (now (targets .entry)) (now (lows .entry)) (now (highs .entry)) lines) (ColumnsKept others) n (r .ok) (worldBuilt n r) ⌝ }
@@ -168,9 +168,9 @@ pub fn find_columns<'a>(
             lines,
             usable,
             singles,
-            n,
             j,
             others,
+            n,
         );
         if r.ok {
             return r;

@@ -24,8 +24,8 @@ fn find_any<'a>(
     lines: Lines,
     usable: u32,
     singles: u32,
-    n: u8,
     missing: bool,
+    n: u8,
 ) -> Built
     requires { ⌜ Slotted lines × Turned (now targets) (now sources) × (n ≤ 8) ⌝ }
     ensures { λ r. ⌜ Breaks (sheet usable singles (now (targets .entry)) (now (lows .entry)) (now (highs .entry)) lines) (λ _. missing ≡ false) n (r .ok) (worldBuilt n r) ⌝ }
@@ -45,8 +45,8 @@ fn find_lines<'a>(
     lines: Lines,
     usable: u32,
     singles: u32,
-    n: u8,
     lines2: Lines,
+    n: u8,
 ) -> Built
     requires { ⌜ Slotted lines × Turned (now targets) (now sources) × (n ≤ 8) ⌝ }
     ensures { λ r. ⌜ Breaks (sheet usable singles (now (targets .entry)) (now (lows .entry)) (now (highs .entry)) lines) (LinesKept lines2) n (r .ok) (worldBuilt n r) ⌝ }
@@ -59,8 +59,8 @@ fn find_lines<'a>(
         lines,
         usable,
         singles,
-        n,
         lines2,
+        n,
     );
     if columns.ok {
         return columns;
@@ -73,8 +73,8 @@ fn find_lines<'a>(
         lines,
         usable,
         singles,
-        n,
         lines2,
+        n,
     );
     if mirrors.ok {
         return mirrors;
@@ -87,8 +87,8 @@ fn find_lines<'a>(
         lines,
         usable,
         singles,
-        n,
         lines2,
+        n,
     )
 }
 
@@ -101,7 +101,6 @@ pub fn find_break<'a>(
     lines: Lines,
     usable: u32,
     singles: u32,
-    n: u8,
     bad: u32,
     singles2: u32,
     missing: bool,
@@ -109,6 +108,7 @@ pub fn find_break<'a>(
     lows2: &'a [u8; 768],
     highs2: &'a [u8; 768],
     lines2: Lines,
+    n: u8,
 ) -> Built
     requires { ⌜ Slotted lines × Turned (now targets) (now sources) × (n ≤ 8) ⌝ }
     ensures { λ r. ⌜ Breaks (sheet usable singles (now (targets .entry)) (now (lows .entry)) (now (highs .entry)) lines) (Keeps bad singles2 missing (now (targets2 .entry)) (now (lows2 .entry)) (now (highs2 .entry)) lines2) n (r .ok) (worldBuilt n r) ⌝ }
@@ -121,8 +121,8 @@ pub fn find_break<'a>(
         lines,
         usable,
         singles,
-        n,
         missing,
+        n,
     );
     if any.ok {
         return any;
@@ -135,8 +135,8 @@ pub fn find_break<'a>(
         lines,
         usable,
         singles,
-        n,
         bad,
+        n,
     );
     if typed.ok {
         return typed;
@@ -149,8 +149,8 @@ pub fn find_break<'a>(
         lines,
         usable,
         singles,
-        n,
         singles2,
+        n,
     );
     if single.ok {
         return single;
@@ -163,10 +163,10 @@ pub fn find_break<'a>(
         lines,
         usable,
         singles,
-        n,
         targets2,
         lows2,
         highs2,
+        n,
     );
     if rows.ok {
         return rows;
@@ -179,7 +179,7 @@ pub fn find_break<'a>(
         lines,
         usable,
         singles,
-        n,
         lines2,
+        n,
     )
 }

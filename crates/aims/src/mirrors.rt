@@ -19,11 +19,11 @@ fn find_halves<'a>(
     lines: Lines,
     usable: u32,
     singles: u32,
-    n: u8,
     s: u8,
     u: u8,
     a: u32,
     b: u32,
+    n: u8,
 ) -> Built
     requires { ⌜ Slotted lines × Turned (now targets) (now sources) × (n ≤ 8) ⌝ }
     ensures { λ r. ⌜ Breaks (sheet usable singles (now (targets .entry)) (now (lows .entry)) (now (highs .entry)) lines) (AllHalvesAvoided s u a b) n (r .ok) (worldBuilt n r) ⌝ }
@@ -40,10 +40,10 @@ fn find_halves<'a>(
             lines,
             usable,
             singles,
-            n,
             s,
             a,
             b,
+            n,
         );
     }
     let r = ask_halves(
@@ -54,11 +54,11 @@ fn find_halves<'a>(
         lines,
         usable,
         singles,
-        n,
         s,
         u,
         a,
         b,
+        n,
     );
     if r.ok {
         return r;
@@ -71,10 +71,10 @@ fn find_halves<'a>(
         lines,
         usable,
         singles,
-        n,
         s,
         u,
         queries::common(a, b),
+        n,
     )
 }
 
@@ -87,9 +87,9 @@ fn find_mirror<'a>(
     lines: Lines,
     usable: u32,
     singles: u32,
-    n: u8,
     j: usize,
     others: Lines,
+    n: u8,
 ) -> Built
     requires { ⌜ Slotted lines × Turned (now targets) (now sources) × (n ≤ 8) × (j < 16) ⌝ }
     ensures { λ r. ⌜ Breaks (sheet usable singles (now (targets .entry)) (now (lows .entry)) (now (highs .entry)) lines) (MirrorKept others j) n (r .ok) (worldBuilt n r) ⌝ }
@@ -106,11 +106,11 @@ fn find_mirror<'a>(
         lines,
         usable,
         singles,
-        n,
         s,
         u,
         a,
         b,
+        n,
     );
     if r.ok {
         return r;
@@ -123,11 +123,11 @@ fn find_mirror<'a>(
         lines,
         usable,
         singles,
-        n,
         u,
         s,
         b,
         a,
+        n,
     )
 }
 
@@ -140,8 +140,8 @@ pub fn find_mirrors<'a>(
     lines: Lines,
     usable: u32,
     singles: u32,
-    n: u8,
     others: Lines,
+    n: u8,
 ) -> Built
     requires { ⌜ Slotted lines × Turned (now targets) (now sources) × (n ≤ 8) ⌝ }
     ensures { λ r. ⌜ Breaks (sheet usable singles (now (targets .entry)) (now (lows .entry)) (now (highs .entry)) lines) (MirrorsKept others) n (r .ok) (worldBuilt n r) ⌝ }
@@ -156,9 +156,9 @@ pub fn find_mirrors<'a>(
             lines,
             usable,
             singles,
-            n,
             j,
             others,
+            n,
         );
         if r.ok {
             return r;

@@ -38,10 +38,10 @@ pub fn find_links<'a>(
     lines: Lines,
     usable: u32,
     singles: u32,
-    n: u8,
     s: u8,
     a: u32,
     b: u32,
+    n: u8,
 ) -> Built
     requires { ⌜ Slotted lines × Turned (now targets) (now sources) × (n ≤ 8) × (s < 32) ⌝ }
     ensures { λ r. ⌜ Breaks (sheet usable singles (now (targets .entry)) (now (lows .entry)) (now (highs .entry)) lines) (AllLinksAvoided s a b) n (r .ok) (worldBuilt n r) ⌝ }
@@ -54,10 +54,10 @@ pub fn find_links<'a>(
         lines,
         usable,
         singles,
-        n,
         s,
         a,
         b,
+        n,
     );
     if r.ok {
         return r;
@@ -70,9 +70,9 @@ pub fn find_links<'a>(
         lines,
         usable,
         singles,
-        n,
         s,
         queries::common(a, b),
+        n,
     )
 }
 
@@ -85,9 +85,9 @@ fn find_target<'a>(
     lines: Lines,
     usable: u32,
     singles: u32,
-    n: u8,
     i: usize,
     others: &'a [u32; 768],
+    n: u8,
 ) -> Built
     requires { ⌜ Slotted lines × Turned (now targets) (now sources) × (n ≤ 8) × (i < 768) ⌝ }
     ensures { λ r. ⌜ Breaks (sheet usable singles (now (targets .entry)) (now (lows .entry)) (now (highs .entry)) lines) (TargetsKept (now (others .entry)) i) n (r .ok) (worldBuilt n r) ⌝ }
@@ -104,10 +104,10 @@ fn find_target<'a>(
         lines,
         usable,
         singles,
-        n,
         slot_at(i),
         type_at(i),
         b,
+        n,
     )
 }
 
@@ -120,9 +120,9 @@ fn find_low<'a>(
     lines: Lines,
     usable: u32,
     singles: u32,
-    n: u8,
     i: usize,
     others: &'a [u8; 768],
+    n: u8,
 ) -> Built
     requires { ⌜ Slotted lines × Turned (now targets) (now sources) × (n ≤ 8) × (i < 768) ⌝ }
     ensures { λ r. ⌜ Breaks (sheet usable singles (now (targets .entry)) (now (lows .entry)) (now (highs .entry)) lines) (LowsKept (now (others .entry)) i) n (r .ok) (worldBuilt n r) ⌝ }
@@ -139,11 +139,11 @@ fn find_low<'a>(
         lines,
         usable,
         singles,
-        n,
         slot_at(i),
         type_at(i),
         0,
         low - 1,
+        n,
     )
 }
 
@@ -156,9 +156,9 @@ fn find_high<'a>(
     lines: Lines,
     usable: u32,
     singles: u32,
-    n: u8,
     i: usize,
     others: &'a [u8; 768],
+    n: u8,
 ) -> Built
     requires { ⌜ Slotted lines × Turned (now targets) (now sources) × (n ≤ 8) × (i < 768) ⌝ }
     ensures { λ r. ⌜ Breaks (sheet usable singles (now (targets .entry)) (now (lows .entry)) (now (highs .entry)) lines) (HighsKept (now (others .entry)) i) n (r .ok) (worldBuilt n r) ⌝ }
@@ -178,11 +178,11 @@ fn find_high<'a>(
         lines,
         usable,
         singles,
-        n,
         slot_at(i),
         type_at(i),
         high + 1,
         8,
+        n,
     )
 }
 
@@ -195,11 +195,11 @@ fn find_row<'a>(
     lines: Lines,
     usable: u32,
     singles: u32,
-    n: u8,
     i: usize,
     targets2: &'a [u32; 768],
     lows2: &'a [u8; 768],
     highs2: &'a [u8; 768],
+    n: u8,
 ) -> Built
     requires { ⌜ Slotted lines × Turned (now targets) (now sources) × (n ≤ 8) × (i < 768) ⌝ }
     ensures { λ r. ⌜ Breaks (sheet usable singles (now (targets .entry)) (now (lows .entry)) (now (highs .entry)) lines) (RowKept (now (targets2 .entry)) (now (lows2 .entry)) (now (highs2 .entry)) i) n (r .ok) (worldBuilt n r) ⌝ }
@@ -212,9 +212,9 @@ fn find_row<'a>(
         lines,
         usable,
         singles,
-        n,
         i,
         targets2,
+        n,
     );
     if a.ok {
         return a;
@@ -227,9 +227,9 @@ fn find_row<'a>(
         lines,
         usable,
         singles,
-        n,
         i,
         lows2,
+        n,
     );
     if b.ok {
         return b;
@@ -242,9 +242,9 @@ fn find_row<'a>(
         lines,
         usable,
         singles,
-        n,
         i,
         highs2,
+        n,
     )
 }
 
@@ -305,10 +305,10 @@ pub fn find_rows<'a>(
     lines: Lines,
     usable: u32,
     singles: u32,
-    n: u8,
     targets2: &'a [u32; 768],
     lows2: &'a [u8; 768],
     highs2: &'a [u8; 768],
+    n: u8,
 ) -> Built
     requires { ⌜ Slotted lines × Turned (now targets) (now sources) × (n ≤ 8) ⌝ }
     ensures { λ r. ⌜ Breaks (sheet usable singles (now (targets .entry)) (now (lows .entry)) (now (highs .entry)) lines) (RowsKept (now (targets2 .entry)) (now (lows2 .entry)) (now (highs2 .entry))) n (r .ok) (worldBuilt n r) ⌝ }
@@ -323,11 +323,11 @@ pub fn find_rows<'a>(
             lines,
             usable,
             singles,
-            n,
             i,
             targets2,
             lows2,
             highs2,
+            n,
         );
         if r.ok {
             return r;

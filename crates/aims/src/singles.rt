@@ -18,9 +18,9 @@ fn find_single<'a>(
     lines: Lines,
     usable: u32,
     singles: u32,
-    n: u8,
     t: u32,
     others: u32,
+    n: u8,
 ) -> Built
     requires { ⌜ Slotted lines × Turned (now targets) (now sources) × (n ≤ 8) × (t < 24) ⌝ }
     ensures { λ r. ⌜ Breaks (sheet usable singles (now (targets .entry)) (now (lows .entry)) (now (highs .entry)) lines) (SingleKept others t) n (r .ok) (worldBuilt n r) ⌝ }
@@ -32,11 +32,11 @@ fn find_single<'a>(
         return nothing();
     }
     let a = queries::only(t);
-    let r = ask_absent(targets, sources, lows, highs, lines, usable, singles, n, a);
+    let r = ask_absent(targets, sources, lows, highs, lines, usable, singles, a, n);
     if r.ok {
         return r;
     }
-    ask_pairs(targets, sources, lows, highs, lines, usable, singles, n, a)
+    ask_pairs(targets, sources, lows, highs, lines, usable, singles, a, n)
 }
 
 // A world with no object of a type of the set, or two.
@@ -48,8 +48,8 @@ pub fn find_singles<'a>(
     lines: Lines,
     usable: u32,
     singles: u32,
-    n: u8,
     others: u32,
+    n: u8,
 ) -> Built
     requires { ⌜ Slotted lines × Turned (now targets) (now sources) × (n ≤ 8) ⌝ }
     ensures { λ r. ⌜ Breaks (sheet usable singles (now (targets .entry)) (now (lows .entry)) (now (highs .entry)) lines) (SinglesKept others) n (r .ok) (worldBuilt n r) ⌝ }
@@ -64,9 +64,9 @@ pub fn find_singles<'a>(
             lines,
             usable,
             singles,
-            n,
             t,
             others,
+            n,
         );
         if r.ok {
             return r;

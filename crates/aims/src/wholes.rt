@@ -20,12 +20,12 @@ fn find_parts<'a>(
     lines: Lines,
     usable: u32,
     singles: u32,
-    n: u8,
     s: u8,
     u: u8,
     a: u32,
     b: u32,
     c: u32,
+    n: u8,
 ) -> Built
     requires { ⌜ Slotted lines × Turned (now targets) (now sources) × (n ≤ 8) × (s < 32) × (u < 32) ⌝ }
     ensures { λ r. ⌜ Breaks (sheet usable singles (now (targets .entry)) (now (lows .entry)) (now (highs .entry)) lines) (AllPartsAvoided s u a b c) n (r .ok) (worldBuilt n r) ⌝ }
@@ -38,12 +38,12 @@ fn find_parts<'a>(
         lines,
         usable,
         singles,
-        n,
         s,
         u,
         a,
         b,
         c,
+        n,
     );
     if r.ok {
         return r;
@@ -56,11 +56,11 @@ fn find_parts<'a>(
         lines,
         usable,
         singles,
-        n,
         s,
         u,
         queries::common(a, b),
         c,
+        n,
     );
     if v.ok {
         return v;
@@ -73,11 +73,11 @@ fn find_parts<'a>(
         lines,
         usable,
         singles,
-        n,
         u,
         s,
         queries::common(a, c),
         b,
+        n,
     )
 }
 
@@ -90,9 +90,9 @@ fn find_pair<'a>(
     lines: Lines,
     usable: u32,
     singles: u32,
-    n: u8,
     i: usize,
     others: Lines,
+    n: u8,
 ) -> Built
     requires { ⌜ Slotted lines × Turned (now targets) (now sources) × (n ≤ 8) × (i < 256) ⌝ }
     ensures { λ r. ⌜ Breaks (sheet usable singles (now (targets .entry)) (now (lows .entry)) (now (highs .entry)) lines) (PairApart others i) n (r .ok) (worldBuilt n r) ⌝ }
@@ -119,12 +119,12 @@ fn find_pair<'a>(
         lines,
         usable,
         singles,
-        n,
         s,
         u,
         a,
         others.wholefrom[j],
         others.wholefrom[k],
+        n,
     )
 }
 
@@ -174,8 +174,8 @@ pub fn find_wholes<'a>(
     lines: Lines,
     usable: u32,
     singles: u32,
-    n: u8,
     others: Lines,
+    n: u8,
 ) -> Built
     requires { ⌜ Slotted lines × Turned (now targets) (now sources) × (n ≤ 8) ⌝ }
     ensures { λ r. ⌜ Breaks (sheet usable singles (now (targets .entry)) (now (lows .entry)) (now (highs .entry)) lines) (WholesKept others) n (r .ok) (worldBuilt n r) ⌝ }
@@ -190,9 +190,9 @@ pub fn find_wholes<'a>(
             lines,
             usable,
             singles,
-            n,
             i,
             others,
+            n,
         );
         if r.ok {
             return r;

@@ -12,10 +12,10 @@ use Rattle.aims.proofs.columns.find_columns.Statement.{statement}
 use Rattle.aims.proofs.columns.find_columns.Tie as tie
 
 abbrev Inv-loop : tie.InvT-loop
-Inv-loop targets sources lows highs lines usable singles n others j₀ j = (j ≤ 16) × ((k : ℕ) → k < j → Throughout (sheet usable singles targets lows highs lines) (ColumnKept others k) n)
+Inv-loop targets sources lows highs lines usable singles others n j₀ j = (j ≤ 16) × ((k : ℕ) → k < j → Throughout (sheet usable singles targets lows highs lines) (ColumnKept others k) n)
 
 abbrev μ-loop : tie.MeasureT-loop
-μ-loop targets sources lows highs lines usable singles n others j₀ j = 16 - j
+μ-loop targets sources lows highs lines usable singles others n j₀ j = 16 - j
 
 loop-holds : tie.Need-loop-holds Inv-loop μ-loop
 loop-holds c = (omega arith, λ k l. absurd (omega arith))

@@ -12,10 +12,10 @@ use Rattle.aims.proofs.rows.find_rows.Statement.{statement}
 use Rattle.aims.proofs.rows.find_rows.Tie as tie
 
 abbrev Inv-loop : tie.InvT-loop
-Inv-loop targets sources lows highs lines usable singles n targets2 lows2 highs2 i₀ i = (i ≤ 768) × ((k : ℕ) → k < i → Throughout (sheet usable singles targets lows highs lines) (RowKept targets2 lows2 highs2 k) n)
+Inv-loop targets sources lows highs lines usable singles targets2 lows2 highs2 n i₀ i = (i ≤ 768) × ((k : ℕ) → k < i → Throughout (sheet usable singles targets lows highs lines) (RowKept targets2 lows2 highs2 k) n)
 
 abbrev μ-loop : tie.MeasureT-loop
-μ-loop targets sources lows highs lines usable singles n targets2 lows2 highs2 i₀ i = 768 - i
+μ-loop targets sources lows highs lines usable singles targets2 lows2 highs2 n i₀ i = 768 - i
 
 next-row-requires : tie.Need-next-row-requires Inv-loop μ-loop
 next-row-requires c κs = search needs

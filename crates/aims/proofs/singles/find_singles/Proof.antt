@@ -12,10 +12,10 @@ use Rattle.aims.proofs.singles.find_singles.Statement.{statement}
 use Rattle.aims.proofs.singles.find_singles.Tie as tie
 
 abbrev Inv-loop : tie.InvT-loop
-Inv-loop targets sources lows highs lines usable singles n others t₀ t = (t ≤ 24) × ((k : ℕ) → k < t → Throughout (sheet usable singles targets lows highs lines) (SingleKept others k) n)
+Inv-loop targets sources lows highs lines usable singles others n t₀ t = (t ≤ 24) × ((k : ℕ) → k < t → Throughout (sheet usable singles targets lows highs lines) (SingleKept others k) n)
 
 abbrev μ-loop : tie.MeasureT-loop
-μ-loop targets sources lows highs lines usable singles n others t₀ t = 24 - t
+μ-loop targets sources lows highs lines usable singles others n t₀ t = 24 - t
 
 loop-holds : tie.Need-loop-holds Inv-loop μ-loop
 loop-holds c = (omega arith, λ k l. absurd (omega arith))

@@ -43,7 +43,7 @@ loop-again c =
     let e = c .before .before .before .before in
     let l = e .before .before .before .loop in
     let a = e .before .before .before .before .before .before .before .before .args in
-    let below = below-more (λ (k : ℕ). Throughout (sheet (a .usable) (a .singles) (a .targets .now) (a .lows .now) (a .highs .now) (a .lines)) (PairApart (a .t9) k) (a .n)) (l .i) (l .inv .1) (e .before .find-pair .ensures .kept (e .if1 .left)) in
+    let below = below-more (λ (k : ℕ). Throughout (sheet (a .usable) (a .singles) (a .targets .now) (a .lows .now) (a .highs .now) (a .lines)) (PairApart (a .t8) k) (a .n)) (l .i) (l .inv .1) (e .before .find-pair .ensures .kept (e .if1 .left)) in
     (c .next-pair2 .ensures .few, pairs-on _ _ _ (l .i + 1) _ below (c .next-pair2 .ensures))
 
 nothing-requires : tie.Need-nothing-requires Inv-loop μ-loop
