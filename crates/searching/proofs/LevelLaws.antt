@@ -26,7 +26,7 @@ use Rattle.searching.specs.Answer.{Level}
 use Rattle.searching.specs.Ready.{Ready}
 use Rattle.searching.specs.declared.Found.{Found}
 
-module _ {old new : Diagram} {dues : List ℕ} {x : Sheet} {sources : List ℕ} {bad singles : ℕ} {missing : Bool} {targets lows highs : List ℕ} {y : Lines} {n : ℕ} {b : Built}
+module _ {old new : Diagram} {dues : List ℕ} {x : Sheet} {sources : List ℕ} {bad singles : ℕ} {missing : Bool} {targets lows highs : List ℕ} {y : Lines} (n : ℕ) (b : Built)
     (wo : WfDiagram old) (wn : WfDiagram new) (ready : Ready old new dues x sources bad singles missing targets lows highs y)
     (breaks : Breaks x (worlds.Keeps bad singles missing targets lows highs y) n (b .ok) (worldBuilt n b)) where
   -- a record has as many objects in memory

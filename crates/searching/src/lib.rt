@@ -1,5 +1,7 @@
 // The search for a record of n objects that is legal for the old diagram and illegal for the new one, by types: an allowed world that does
 // not keep the new diagram's tables, and values for its objects.
+ghost use mathlib.Core.Path.{_≡_};
+ghost use mathlib.Core.Bool.{false};
 ghost use Prim.Native.Nat.{_≤_};
 ghost use Rattle.diagrams.specs.View.{diagramOf};
 ghost use Rattle.diagrams.specs.Held.{Held};
@@ -18,7 +20,9 @@ pub struct Found {
 }
 
 // No record.
-fn nothing() -> Found {
+fn nothing() -> Found
+    ensures { λ f. ⌜ f .ok ≡ false ⌝ }
+{
     Found {
         ok: false,
         witness: MemoryRecord {
@@ -66,7 +70,6 @@ pub fn search<'a>(
         lines,
         usable,
         singles,
-        n,
         bad,
         singles2,
         missing,
@@ -74,6 +77,7 @@ pub fn search<'a>(
         lows2,
         highs2,
         lines2,
+        n,
     );
     if !b.ok {
         return nothing();
