@@ -19,7 +19,7 @@ use Rattle.type_values.specs.Bad.{BadTypes}
 use Rattle.sheets.proofs.SheetLaws.{sheet-of}
 use Rattle.searching.specs.Ready.{Ready}
 
-module _ {old new : StoredDiagram} {dues targets sources lows highs targets2 lows2 highs2 : List ℕ} {lines lines2 : Lines} {usable singles singles2 values roles : ℕ} {missing : Bool} where
+module _ (old new : StoredDiagram) {dues targets sources lows highs targets2 lows2 highs2 : List ℕ} {lines lines2 : Lines} {usable singles singles2 values roles : ℕ} {missing : Bool} where
   pub ready : Held old → Dues (diagramOf old) dues → RowTables (diagramOf old) (diagramOf old) targets lows highs → Turned targets sources → LinesOf (diagramOf old) (diagramOf old) lines
       → UsableTypes (diagramOf old) usable → SingleTypes (diagramOf old) (diagramOf old) singles → RowTables (diagramOf old) (diagramOf new) targets2 lows2 highs2
       → LinesOf (diagramOf old) (diagramOf new) lines2 → SingleTypes (diagramOf old) (diagramOf new) singles2 → missing ≡ singleMissing (diagramOf old) (diagramOf new)
