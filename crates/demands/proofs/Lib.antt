@@ -3,6 +3,8 @@ pub mod NeedLaws
 pub mod RowLaws
 pub mod ColumnLaws
 pub mod SingleLaws
+pub mod OwnLaws
+pub mod WeightLaws
 pub mod StartLaws
 pub mod SolutionLaws
 pub mod BitsLaws

@@ -7,8 +7,8 @@ use Rattle.growing.specs.World.{World}
 use Rattle.growing.specs.Growth.{Extends, Nowhere}
 use Rattle.link_search.specs.Nets.{Within}
 use Rattle.worlds.specs.declared.Query.{Query}
-use Rattle.worlds.specs.Asked.{Solution}
-use Rattle.worlds.specs.Kept.{ColumnsKept, Sheet, SinglesKept, Turned}
+use Rattle.worlds.specs.Asked.{Asked, Solution}
+use Rattle.worlds.specs.Kept.{Allowed, ColumnsKept, Sheet, SinglesKept, Turned, sheet}
 use Rattle.demands.specs.declared.Start.{Start}
 use Rattle.demands.specs.declared.Wish.{Wish}
 use Rattle.demands.specs.Wishes.{Sharpens}
@@ -34,19 +34,17 @@ module _ (x : Sheet) (q : Query) (n : ℕ) where
     pub by-rows : Sharpens (RowsOpen (x .targets) (x .lows) (x .highs) (q .shut)) s a b → Sharpens (Solution x q n) s a b
     by-rows = sharp-from s a b (λ w _ h. rows-open w h)
 
-    pub by-own-row : 0 < q .seeds
-        → Sharpens (λ w. RowsOpen (x .targets) (x .lows) (x .highs) (q .shut) w × Within (q .low) (q .high) (targetCount w (q .row) 0)) s a b
+    pub by-weights : ((usable singles : ℕ) → Sharpens (λ w. Allowed (sheet usable singles (x .targets) (x .lows) (x .highs) (x .lines)) w × Asked q w) s a b)
         → Sharpens (Solution x q n) s a b
-    by-own-row some = sharp-from s a b (λ w _ h. (rows-open w h, h .asked .row some))
+    by-weights f = sharp-from s a b (λ w _ h. (h .allowed, h .asked)) (f (x .usable) (x .singles))
 
     module _ (sources : List ℕ) (turned : Turned (x .targets) sources) where
       pub by-columns : Sharpens (λ w. SourcesKept sources w × ColumnsKept (x .lines) w) s a b → Sharpens (Solution x q n) s a b
       by-columns = sharp-from s a b (λ w _ h. (sources-kept sources turned w h, h .allowed .columns))
 
-      pub by-own-column : 0 < q .seeds
-          → Sharpens (λ w. SourcesKept sources w × Within (q .least) (q .most) (sourceCount w (q .column) (q .from) 0)) s a b
+      pub by-own : Sharpens (λ w. RowsOpen (x .targets) (x .lows) (x .highs) (q .shut) w × SourcesKept sources w × Asked q w) s a b
           → Sharpens (Solution x q n) s a b
-      by-own-column some = sharp-from s a b (λ w _ h. (sources-kept sources turned w h, h .asked .column some))
+      by-own = sharp-from s a b (λ w _ h. (rows-open w h, sources-kept sources turned w h, h .asked))
 
   -- ---- a property of solutions that refutes
 

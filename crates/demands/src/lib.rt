@@ -13,9 +13,11 @@ mod columns;
 mod counts;
 mod mirrors;
 mod needs;
+mod own;
 mod rows;
 mod sets;
 mod singles;
+mod weighing;
 mod wholes;
 
 // dead: no world that is looked for starts with the given types. Else one more object has a type of the mask g.
@@ -72,11 +74,14 @@ pub fn demand<'a>(
         return row;
     }
     let column = columns::with_columns(row, s, sources, lines);
-    if column.dead | (q.seeds == 0) {
+    if column.dead {
         return column;
     }
-    let own = rows::with_first_row(column, s, targets, lows, highs, &shut, q.row, q.low, q.high);
-    columns::with_sources(own, s, sources, q.column, q.from, q.least, q.most, 0)
+    let own = own::with_own(column, s, targets, sources, lows, highs, q);
+    if own.dead {
+        return own;
+    }
+    weighing::with_weights(own, s, here, targets, sources, lows, highs, lines, q)
 }
 
 // Whether the query contradicts the tables, where its seeds have the given types.

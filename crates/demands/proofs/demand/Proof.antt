@@ -1,12 +1,9 @@
 -- `demand` meets its contract: what is known with no count, sharpened by one family of needs after the other.
 -- Assumes nothing.
-use Prim.Native.Nat.{_-_, _<_}
+use Prim.Native.Nat.{_-_}
 use mathlib.Core.Bool.{false}
-use mathlib.Core.Path.{_≡_}
 use native.Mathlib.Omega.{arith}
-use lib.Dec.{eqb, ltb}
-use borrow.Author.Tests.{eqb-false}
-use Rattle.laws.proofs.ConnectiveLaws.{or-no-right}
+use lib.Dec.{ltb}
 use Rattle.growing.specs.Growth.{Demanded}
 use Rattle.worlds.specs.Asked.{Solution}
 use Rattle.worlds.specs.Kept.{Sheet, sheet}
@@ -15,19 +12,19 @@ use Rattle.demands.specs.declared.Wish.{Wish}
 use Rattle.demands.specs.Wishes.{Known, Sharpens}
 use Rattle.demands.proofs.NeedLaws.{sharp-trans}
 use Rattle.demands.proofs.StartLaws.{demanded}
-use Rattle.demands.proofs.SolutionLaws.{by-columns, by-own-column, by-own-row, by-rows, by-singles}
+use Rattle.demands.proofs.SolutionLaws.{by-columns, by-own, by-rows, by-singles, by-weights}
 use borrow.Author.Needs.{needs}
 use Rattle.demands.proofs.demand.Statement.{statement}
 use Rattle.demands.proofs.demand.Tie as tie
 use Rattle.demands.proofs.demand.Reads as reads
 use Rattle.demands.proofs.demand.Lts as lts
 use Rattle.demands.proofs.columns.with_columns.Reads as with-columns-reads
-use Rattle.demands.proofs.columns.with_sources.Reads as with-sources-reads
-use Rattle.demands.proofs.rows.with_first_row.Reads as with-first-row-reads
+use Rattle.demands.proofs.own.with_own.Reads as with-own-reads
 use Rattle.demands.proofs.rows.with_rows.Reads as with-rows-reads
 use Rattle.demands.proofs.sets.types_free.Reads as types-free-reads
 use Rattle.demands.proofs.sets.types_present.Reads as types-present-reads
 use Rattle.demands.proofs.singles.with_singles.Reads as with-singles-reads
+use Rattle.demands.proofs.weighing.with_weights.Reads as with-weights-reads
 
 -- ---- what is known at each place
 
@@ -72,22 +69,13 @@ after-columns c =
     sharp-trans (startOf d) _ (e .with-rows .result) (c .with-columns .result) (after-rows e)
     (by-columns (sheetOf b) (b .args .q) (b .args .n) (startOf d) (e .with-rows .result) (c .with-columns .result) (b .args .sources .now) (b .pre .1) (c .with-columns .ensures))
 
--- there is a first seed
-seeded : (c : tie.Else3) → let e = c .before .before .before in 0 < e .before .before .before .before .before .before .before .before .before .before .args .q .seeds
-seeded c =
-    let e = c .before .before .before in
-    let q = e .before .before .before .before .before .before .before .before .before .before .args .q in
-    let z : q .seeds ≡ 0 → ⊥ = eqb-false (q .seeds) 0 (or-no-right (e .with-columns .result .dead) (eqb (q .seeds) 0) (c .if3 .left)) in
-    omega arith
-
-after-own-row : (c : tie.After-with-first-row) → let e = c .before .before .before .before .before in Sharp (e .before .before .before .before .before .before .before) (c .with-first-row .result)
-after-own-row c =
-    let f = c .before .before in
-    let e = f .before .before .before in
+after-own : (c : tie.After-with-own) → Sharp (c .before .before .before .before .before .before .before .before .before) (c .with-own .result)
+after-own c =
+    let e = c .before .before in
     let d = e .before .before .before .before .before .before .before in
     let b = d .before .before .before in
-    sharp-trans (startOf d) _ (e .with-columns .result) (c .with-first-row .result) (after-columns e)
-    (by-own-row (sheetOf b) (b .args .q) (b .args .n) (startOf d) (e .with-columns .result) (c .with-first-row .result) (seeded f) (c .with-first-row .ensures))
+    sharp-trans (startOf d) _ (e .with-columns .result) (c .with-own .result) (after-columns e)
+    (by-own (sheetOf b) (b .args .q) (b .args .n) (startOf d) (e .with-columns .result) (c .with-own .result) (b .args .sources .now) (b .pre .1) (c .with-own .ensures))
 
 types-present-requires : tie.Need-types-present-requires
 types-present-requires c κs = search needs
@@ -114,33 +102,31 @@ with-columns-requires : tie.Need-with-columns-requires
 with-columns-requires c κs = search needs
 
 returns-3 : tie.Need-returns-3
-returns-3 c = let e = c .before .before .before in ends (e .before .before .before .before .before .before .before) (e .with-columns .result) (after-columns e)
+returns-3 c = let e = c .before in ends (e .before .before .before .before .before .before .before) (e .with-columns .result) (after-columns e)
 
-with-first-row-requires : tie.Need-with-first-row-requires
-with-first-row-requires c κs =
-    let f = c .before in
-    let d = f .before .before .before .before .before .before .before .before .before .before in
+with-own-requires : tie.Need-with-own-requires
+with-own-requires c κs =
+    let d = c .before .before .before .before .before .before .before .before in
     let b = d .before .before .before in
-    let some = seeded f in
-    (known d, omega (arith, b .pre .3), b .pre .2 .row)
-
-with-sources-requires : tie.Need-with-sources-requires
-with-sources-requires c κs =
-    let f = c .before .before in
-    let d = f .before .before .before .before .before .before .before .before .before .before in
-    let b = d .before .before .before in
-    let some = seeded f in
-    (known d, b .pre .2 .column, omega (arith, b .pre .3))
+    (known d, b .pre .2, b .pre .3)
 
 returns-4 : tie.Need-returns-4
-returns-4 c =
-    let g = c .before in
-    let f = g .before .before in
-    let d = f .before .before .before .before .before .before .before .before .before .before in
+returns-4 c = let e = c .before in ends (e .before .before .before .before .before .before .before .before .before) (e .with-own .result) (after-own e)
+
+with-weights-requires : tie.Need-with-weights-requires
+with-weights-requires c κs =
+    let d = c .before .before .before .before .before .before .before .before .before .before in
     let b = d .before .before .before in
-    ends d (c .with-sources .result)
-    (sharp-trans (startOf d) _ (g .with-first-row .result) (c .with-sources .result) (after-own-row g)
-    (by-own-column (sheetOf b) (b .args .q) (b .args .n) (startOf d) (g .with-first-row .result) (c .with-sources .result) (b .args .sources .now) (b .pre .1) (seeded f) (c .with-sources .ensures)))
+    (known d, b .pre .0, b .pre .1, b .pre .2, b .pre .3)
+
+returns-5 : tie.Need-returns-5
+returns-5 c =
+    let e = c .before .before in
+    let d = e .before .before .before .before .before .before .before .before .before in
+    let b = d .before .before .before in
+    ends d (c .with-weights .result)
+    (sharp-trans (startOf d) _ (e .with-own .result) (c .with-weights .result) (after-own e)
+    (by-weights (sheetOf b) (b .args .q) (b .args .n) (startOf d) (e .with-own .result) (c .with-weights .result) (c .with-weights .ensures)))
 
 pub demand-spec : {M : Type 1} → statement M
 demand-spec =
@@ -155,6 +141,7 @@ demand-spec =
     returns-2
     with-columns-requires
     returns-3
-    with-first-row-requires
-    with-sources-requires
-    returns-4)
+    with-own-requires
+    returns-4
+    with-weights-requires
+    returns-5)
