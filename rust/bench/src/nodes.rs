@@ -9,7 +9,7 @@ use std::process::Command;
 use std::time::Duration;
 
 /// The functions of the search, as their names end in the library.
-const FUNCTIONS: [&str; 3] = ["fill", "grow", "links"];
+const FUNCTIONS: [&str; 2] = ["grow", "links"];
 
 /// Counting takes some fifty times as long as the compare; it is given up after this time.
 const LIMIT: Duration = Duration::from_secs(60);
