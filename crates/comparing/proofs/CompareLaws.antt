@@ -16,7 +16,7 @@ use Rattle.records.specs.declared.MemoryRecord.{MemoryRecord}
 use Rattle.records.specs.Written.{recordOf}
 use Rattle.records.proofs.WrittenLaws.{written-count}
 use Rattle.writing.proofs.WrittenLaws.{written-read-back}
-use Rattle.fillings.specs.Wanted.{Witness}
+use Rattle.fillings.specs.Witness.{Witness}
 use Rattle.searching.specs.declared.Found.{Found}
 use Rattle.comparing.specs.Compared.{Compares, witnessIn}
 use Rattle.comparing.specs.Difference.{Finds, Gap, Least, NoneUpTo}

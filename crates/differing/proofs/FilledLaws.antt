@@ -21,7 +21,7 @@ use Rattle.records.specs.Slots.{attributeSlot, ownAttribute}
 use Rattle.records.specs.Written.{recordOf, valueIn}
 use Rattle.records.specs.declared.MemoryRecord.{MemoryRecord}
 use Rattle.memory_rules.proofs.SlotLaws.{attribute-known}
-use Rattle.fillings.specs.Wanted.{Witness}
+use Rattle.fillings.specs.Witness.{Witness}
 use Rattle.type_tables.specs.Due.{declaresFor, due}
 use Rattle.worlds.specs.Kept as worlds
 use Rattle.worlds.specs.Kept.{Allowed, Sheet, worldIn, worldOf}

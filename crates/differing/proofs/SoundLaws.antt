@@ -25,7 +25,7 @@ use Rattle.memory_rules.specs.JudgeIn.{lowestIn, rule3In, rule5In}
 use Rattle.memory_rules.specs.SiteIn.{siteIn}
 use Rattle.memory_rules.specs.Stands.{Stands}
 use Rattle.memory_rules.proofs.JudgeInLaws.{judge-in}
-use Rattle.fillings.specs.Wanted.{Witness}
+use Rattle.fillings.specs.Witness.{Witness}
 use Rattle.standing.specs.Clean.{Clean}
 use Rattle.standing.proofs.StandingLaws.{written-stands}
 use Rattle.worlds.specs.Kept as worlds

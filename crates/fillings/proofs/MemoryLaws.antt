@@ -16,8 +16,7 @@ use Rattle.records.specs.Represents.{linkBit, valueByte}
 use Rattle.records.specs.Slots.{typeIndex}
 use Rattle.memory_rules.specs.Stands.{Stands}
 use Rattle.fillings.specs.Memory.{memoryOf}
-use Rattle.fillings.specs.Spots.{Sized}
-use Rattle.laws.proofs.JoinedLaws.{getD-each, length-each}
+use Rattle.laws.proofs.JoinedLaws.{getD-each}
 use Rattle.laws.proofs.MaskLaws.{mask-bit}
 
 -- a bit of a mask of 8
@@ -75,7 +74,3 @@ module _ (d : Diagram) (r : Record) where
       stray-links = refl;
     };
   }
-
-  pub memory-sized : Sized (memoryOf d r)
-  unfolding memoryOf
-  memory-sized = record { types = length-each _ 0 8; values = length-each _ 0 256; links = length-each _ 0 256 }

@@ -1,4 +1,3 @@
 pub mod Memory
 pub mod Ordered
-pub mod Spots
-pub mod Wanted
+pub mod Witness

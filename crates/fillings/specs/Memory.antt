@@ -1,6 +1,6 @@
 -- A record of names in memory, as one diagram sees it: the one record in memory that stands for it (proofs/MemoryLaws).
 -- Assumes nothing.
-use Prim.Native.Nat.{_%_, _/_, ℕ}
+use Prim.Native.Nat.{_%_, _/_}
 use mathlib.Core.Bool.{cond}
 use lib.Dec.{ltb}
 use Rattle.laws.specs.Bits.{maskOf}

@@ -1,1 +1,1 @@
-// Records in memory as rows of spots that a search fills, as definitions and laws about them.
+// Records of names in memory, witnesses, and the size of legal records, as definitions and laws about them.

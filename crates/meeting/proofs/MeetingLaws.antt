@@ -2,15 +2,14 @@
 -- name, of old or not, its site answers as the record does: its types and roles are old's, so that of other names both say no. So
 -- another diagram's rules on types and links say the same of both.
 -- Assumes nothing.
-use Prim.Native.Nat.{_*_, _<_, _≤_, ℕ}
+use Prim.Native.Nat.{_*_, _<_, ℕ}
 use native.Mathlib.Decide.{decLt}
 use native.Mathlib.Omega.{arith}
-use mathlib.Core.Bool.{Bool, false, false≢true, true}
+use mathlib.Core.Bool.{Bool, true}
 use mathlib.Core.Path.{_∙_, _≡_, ap, subst, sym}
 
 use lib.ListN.{getD, length}
 use borrow.Author.Tests.{eq-eqb, eqb-true, ltb-true}
-use Rattle.laws.specs.Bounded.{all}
 use Rattle.laws.specs.Connective.{imp}
 use Rattle.files.specs.Diagram.{Diagram, typeAt}
 use Rattle.files.specs.Membership.{hasLink}
@@ -46,7 +45,7 @@ module _ (old : Diagram) (r : Record) (m : MemoryRecord) (h : Stands old r m) (l
   unfolding typedIn siteOf
   typed-met o w l =
       let below : o < objectCount r = subst (λ (n : ℕ). o < n) (h .count) l in
-      let known : typeIndex old (objectType r o) < length (old .types) = known-type old r (h .wf-record) (h .wf-diagram) legal o below in
+      let known : typeIndex old (objectType r o) < length (old .types) = known-type old r legal o below in
       let at : getD (m .types) o 0 ≡ typeIndex old (objectType r o) = h .represents .types o below in
       same-test _ _
       (λ e.

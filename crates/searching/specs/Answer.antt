@@ -7,7 +7,7 @@ use Rattle.files.specs.Diagram.{Diagram}
 use Rattle.files.specs.Record.{Record, objectCount}
 use Rattle.files.specs.WellFormedRecord.{WfRecord}
 use Rattle.rules.specs.Judge.{Illegal, Legal}
-use Rattle.fillings.specs.Wanted.{Witness}
+use Rattle.fillings.specs.Witness.{Witness}
 use Rattle.searching.specs.declared.Found.{Found}
 
 -- f answers "find a site record of n objects that is legal for old and illegal for new"

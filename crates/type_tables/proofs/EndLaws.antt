@@ -3,17 +3,13 @@
 use Prim.Native.Nat.{_%_, _*_, _+_, _-_, _/_, _<_, ℕ}
 use native.Mathlib.Decide.{decLt}
 use native.Mathlib.Omega.{arith}
-use mathlib.Core.Path.{_≡_, ap, ap₂, subst}
-use lib.Dec.{eqb}
+use mathlib.Core.Path.{_≡_, subst}
 use lib.ListN.{length}
-use Rattle.laws.specs.Connective.{both}
-use Rattle.files.specs.Ancestor.{reaches}
-use Rattle.files.specs.Diagram.{Diagram, End, associationAt}
-use Rattle.files.specs.Name.{Name}
-use Rattle.records.specs.Slots.{roleCount, roleSlot}
+use Rattle.files.specs.Diagram.{Diagram, associationAt}
+use Rattle.records.specs.Slots.{roleCount}
 use Rattle.rules.specs.Arrow.{Side, carries, r1, r2, source, target}
-use Rattle.memory_rules.proofs.SlotLaws.{end-role, endOf}
-use Rattle.type_tables.specs.Rows.{carriedTo, endAt, leads, opposite}
+use Rattle.memory_rules.proofs.SlotLaws.{endOf}
+use Rattle.type_tables.specs.Rows.{carriedTo, endAt, opposite}
 
 module _ (d : Diagram) where
   pub end-at : (s : Side) (a : ℕ) → endAt d (endOf d s a) ≡ target s (associationAt d a)
@@ -45,14 +41,6 @@ module _ (d : Diagram) where
       let half : a * 2 / 2 ≡ a = omega arith in
       let even : a * 2 % 2 ≡ 0 = omega arith in
       rw (even, half)
-
-  -- which links a side's end leads, by the association
-  pub leads-by : (t slot : ℕ) (s : Side) (a : ℕ)
-      → leads d t slot (endOf d s a) ≡ both (carries s (associationAt d a)) (both (eqb (roleSlot d (target s (associationAt d a) .role)) slot) (reaches d t (source s (associationAt d a) .type)))
-  unfolding leads
-  leads-by t slot s a =
-      ap₂ both (carried-to s a)
-      (ap₂ both (ap (λ (w : Name). eqb (roleSlot d w) slot) (end-role d s a)) (ap (λ (e : End). reaches d t (e .type)) (end-opposite s a)))
 
   -- what holds of each side's end holds of each end
   pub each-end : (P : ℕ → Type 0) → ((s : Side) (a : ℕ) → a < length (d .associations) → P (endOf d s a)) → (e : ℕ) → e < roleCount d → P e

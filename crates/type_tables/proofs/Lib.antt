@@ -1,15 +1,7 @@
 pub mod PassedLaws
-pub mod TypeSpotLaws
-pub mod DueLaws
-pub mod ValueSpotLaws
 pub mod EndLaws
 pub mod LimitLaws
-pub mod RowSpotLaws
-pub mod SpotLaws
 pub mod StoredLaws
 pub mod DueInLaws
-pub mod GatherLaws
 pub mod EndStepLaws
-pub mod SharedLaws
 pub mod EndAtLaws
-pub mod RowTableLaws

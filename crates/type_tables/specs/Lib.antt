@@ -1,6 +1,5 @@
 pub mod Due
 pub mod Rows
-pub mod Fits
 pub mod TypeTables
 pub mod ValuesIn
 pub mod RowsIn

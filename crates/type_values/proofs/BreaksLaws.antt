@@ -27,11 +27,10 @@ use Rattle.records.specs.Slots.{ownAttribute}
 use Rattle.records.specs.Written.{attributePlace, recordOf, valueIn, valueIs, valueOn}
 use Rattle.records.proofs.PlaceLaws.{attribute-placed}
 use Rattle.records.proofs.WrittenLaws.{written-count, written-object}
-use Rattle.rules.specs.Judge.{Illegal, Legal}
+use Rattle.rules.specs.Judge.{Legal}
 use Rattle.rules.specs.Site.{siteOf}
 use Rattle.rules.specs.TypeRules.{rule1, rule1At}
 use Rattle.rules.specs.ValueRules.{declared, declares, rule3, rule3At, rule3For, rule4, rule4At}
-use Rattle.rules.proofs.JudgeLaws.{legal-keeps}
 use Rattle.type_tables.specs.Due.{due}
 use Rattle.type_values.specs.Bad.{allowed, alone, badBy, codeKept, codedValue, codesKept, nameKept, namesKept, typeKept}
 use Rattle.type_values.specs.Filled.{Filled, UsableObjects, chosenCode}
@@ -195,8 +194,3 @@ module _ (old new : Diagram) (wold : WfDiagram old) (wnew : WfDiagram new) (type
     -- an object of a bad type: one of the three rules is broken
     pub filled-breaks : (o : ℕ) → o < m .count → badBy old new (getD (m .types) o 0) ≡ true → KeepsValues new (recordOf old m) → ⊥
     filled-breaks o l bad keeps = true-false bad (kept-good keeps o l)
-
-    pub filled-illegal : (o : ℕ) → o < m .count → badBy old new (getD (m .types) o 0) ≡ true → Illegal new (recordOf old m)
-    filled-illegal o l bad e =
-        let k = legal-keeps new (recordOf old m) e in
-        filled-breaks o l bad (record { first = k .first; third = k .third; fourth = k .fourth })

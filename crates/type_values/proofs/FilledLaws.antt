@@ -1,4 +1,4 @@
--- A record that is filled with values for usable types keeps rules 1, 3 and 4 of old, and old has an index for each of its types and
+-- A record that is filled with values for usable types keeps rules 3 and 4 of old, and old has an index for each of its types and
 -- values.
 -- Assumes nothing.
 use Prim.Native.Nat.{_%_, _*_, _+_, _-_, _/_, _<_, _≤_, ℕ}
@@ -14,20 +14,19 @@ use Rattle.laws.specs.Connective.{both}
 use Rattle.laws.proofs.BoundedLaws.{all-at, all-of}
 use Rattle.laws.proofs.ConnectiveLaws.{both-left, both-of, both-right, imp-of, known, same-test}
 use Rattle.laws.proofs.ForallLaws.{same-iff}
-use Rattle.files.specs.Diagram.{Diagram, attributeAt, isConcrete, typeAt, valueTypeAt}
+use Rattle.files.specs.Diagram.{Diagram, attributeAt, typeAt, valueTypeAt}
 use Rattle.files.specs.Name.{Name, sameName}
 use Rattle.files.specs.WellFormedDiagram.{WfDiagram}
 use Rattle.files.proofs.NameLaws.{same-equal, same-self}
 use Rattle.records.specs.declared.MemoryRecord.{MemoryRecord}
-use Rattle.records.specs.Slots.{attributeSlot, ownAttribute, roleCount, typeIndex}
-use Rattle.records.specs.Written.{IsValue, Within, linkIn, valueIn}
-use Rattle.rules.specs.TypeRules.{rule1, rule1At}
+use Rattle.records.specs.Slots.{attributeSlot, ownAttribute, typeIndex}
+use Rattle.records.specs.Written.{IsValue, valueIn}
 use Rattle.rules.specs.ValueRules.{belongs, declared, rule3, rule3At, rule3For, rule4, rule4At}
 use Rattle.memory_rules.specs.JudgeIn.{rule3In}
 use Rattle.memory_rules.specs.SiteIn.{keptValue, siteIn, typedIn, valueKept, valuedIn}
 use Rattle.memory_rules.proofs.SlotLaws.{index-name, index-of, own-below, own-slot}
 use Rattle.tables.proofs.BelongLaws.{belongs-known}
-use Rattle.tables.proofs.OwnLaws.{any-type, attribute-below}
+use Rattle.tables.proofs.OwnLaws.{attribute-below}
 use Rattle.type_tables.specs.Due.{due}
 use Rattle.worlds.specs.Tables.{possible}
 use Rattle.type_values.specs.Bad.{alone, codedValue}
@@ -104,17 +103,6 @@ module _ (old new : Diagram) (wold : WfDiagram old) (wnew : WfDiagram new) (type
 
     slot-small : (s : ℕ) → s < length (old .attributes) → s < 32
     slot-small s l = let k = wold .few-attributes in omega arith
-
-    -- ---- rule 1
-
-    pub filled-rule1 : rule1 old (siteIn old m) ≡ true
-    unfolding rule1
-    filled-rule1 = all-of _ _ each
-      where
-        each : (o : ℕ) → o < siteIn old m .count → rule1At old (siteIn old m) o ≡ true
-        each o l = unfold rule1At siteIn in
-            any-type old wold m (λ i. isConcrete (typeAt old i)) o
-            ∙ both-of _ _ (lt-ltb _ _ (filled-type o l)) (subst (λ (t : ℕ). isConcrete (typeAt old t) ≡ true) (type-is o) (usable .concrete o (object-in o l)))
 
     -- ---- rule 3
 
@@ -197,12 +185,3 @@ module _ (old new : Diagram) (wold : WfDiagram old) (wnew : WfDiagram new) (type
         let is : valueIn m o s ≡ 1 + chosenCode old new v = filled-some o s l small d in
         let code : valueIn m o s - 1 ≡ chosenCode old new v = omega arith in
         subst (IsValue old) (sym code) (chosen-value old new wold wnew v (due-type o s l small d))
-
-    -- where each link leads to an object
-    pub filled-within : ((o s p : ℕ) → o < m .count → s < roleCount old → p < 8 → linkIn m o s p ≡ true → p < m .count) → Within old m
-    filled-within targets = record {
-      few = subst (λ (k : ℕ). k ≤ 8) (sym (filled .count-is)) few;
-      types = filled-type;
-      values = filled-is-value;
-      targets = targets;
-    }

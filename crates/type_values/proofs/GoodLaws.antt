@@ -1,11 +1,10 @@
 -- A record that is legal for old keeps rules 1, 3 and 4 of new where no object's type is bad.
 -- Assumes nothing.
 use Prim.Native.Nat.{_+_, _/_, _<_, ℕ}
-use mathlib.Core.Bool.{false, not, true}
+use mathlib.Core.Bool.{false, true}
 use mathlib.Core.Path.{_∙_, _≡_, ap, subst, sym}
 use lib.ListN.{getD, length}
 use borrow.Author.Tests.{eq-eqb, not-false}
-use Rattle.laws.specs.Bounded.{all}
 use Rattle.laws.specs.Connective.{both}
 use Rattle.laws.proofs.BoundedLaws.{all-at, all-of}
 use Rattle.laws.proofs.ConnectiveLaws.{both-left, both-of, both-right, imp-use, same-test}
@@ -93,11 +92,11 @@ module _ (old new : Diagram) (r : Record) (m : MemoryRecord) (stands : Stands ol
 
     type-below : (o : ℕ) → o < objectCount r → typeOf o < length (old .types)
     type-below o l =
-        subst (λ (n : ℕ). n < length (old .types)) (sym (type-index o l)) (known-type old r (stands .wf-record) (stands .wf-diagram) legal o l)
+        subst (λ (n : ℕ). n < length (old .types)) (sym (type-index o l)) (known-type old r legal o l)
 
     type-name : (o : ℕ) → o < objectCount r → typeAt old (typeOf o) .name ≡ objectType r o
     type-name o l =
-        ap (λ (n : ℕ). typeAt old n .name) (type-index o l) ∙ index-name old (objectType r o) (known-type old r (stands .wf-record) (stands .wf-diagram) legal o l)
+        ap (λ (n : ℕ). typeAt old n .name) (type-index o l) ∙ index-name old (objectType r o) (known-type old r legal o l)
 
     -- ---- rule 1
 

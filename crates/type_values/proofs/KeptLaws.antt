@@ -11,7 +11,7 @@ use lib.Dec.{eqb}
 use lib.ListN.{length}
 use borrow.Author.Tests.{eq-eqb, eqb-false, eqb-true, ne-eqb, not-true}
 use Rattle.laws.specs.Bounded.{all}
-use Rattle.laws.specs.Connective.{both, either, same}
+use Rattle.laws.specs.Connective.{both, either}
 use Rattle.laws.proofs.BoundedLaws.{all-at, all-of, any-at}
 use Rattle.laws.proofs.ConnectiveLaws.{both-left, both-of, both-right, either-cases, either-left, either-right, imp-of, imp-use, known, same-test}
 use Rattle.laws.proofs.ForallLaws.{same-iff}

@@ -66,9 +66,6 @@ module _ (old new : Diagram) (wf : WfDiagram new) where
 
   -- ---- codes of v
 
-  code-type : (v c : ℕ) → c < 8 → (v * 8 + c) / 8 ≡ v
-  code-type v c l = omega arith
-
   pub shared-belongs : (s k j : ℕ) → j < length (new .valueTypes) → valueTypeAt new j .name ≡ valueTypeAt old (k / 8) .name → shared old new k ≡ true
       → belongs (codedValue old s k) (valueTypeAt new j) ≡ true
   unfolding shared

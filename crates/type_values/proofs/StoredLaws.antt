@@ -44,10 +44,6 @@ module _ (d : StoredDiagram) where
   unfolding typeIn
   type-name t l = ap (λ (x : TypeDef). x .name) (type-at d t l)
 
-  pub type-kind : (t : ℕ) → t < d .types .count → typeAt (diagramOf d) t .kind ≡ getD (d .types .kinds) t 0
-  unfolding typeIn
-  type-kind t l = ap (λ (x : TypeDef). x .kind) (type-at d t l)
-
   -- ---- constants
 
   abbrev sizeOf : ℕ → ℕ
