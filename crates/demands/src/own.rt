@@ -25,6 +25,16 @@ pub fn with_own<'a>(
         return best;
     }
     let shut = q.shut;
-    let row = crate::rows::with_first_row(best, s, targets, lows, highs, &shut, q.row, q.low, q.high);
+    let row = crate::rows::with_first_row(
+        best,
+        s,
+        targets,
+        lows,
+        highs,
+        &shut,
+        q.row,
+        q.low,
+        q.high,
+    );
     crate::columns::with_sources(row, s, sources, q.column, q.from, q.least, q.most, 0)
 }
