@@ -1,4 +1,1 @@
 pub mod ExchangeLaws
-pub mod AlikeLaws
-pub mod ExchangedInLaws
-pub mod ExchangedMemory

@@ -1,3 +1,1 @@
 pub mod Exchange
-pub mod Alike
-pub mod ExchangedIn
