@@ -5,7 +5,8 @@
 -- Assumes nothing.
 use Prim.Native.Nat.{_<_, ℕ}
 use mathlib.Core.Bool.{Bool}
-use mathlib.Core.Path.{_∙_, _≡_, ap, ap₂}
+use mathlib.Core.Logic.{_↔_}
+use mathlib.Core.Path.{_∙_, _≡_, ap, ap₂, refl, sym}
 use lib.Dec.{eqb, leb}
 use lib.ListN.{length}
 use Rattle.laws.specs.Bounded.{all}
@@ -26,6 +27,11 @@ use Rattle.laws.proofs.BoundedLaws.{all-ext}
 use Rattle.laws.proofs.SwapLaws.{all-swap, swap-twice, tally-swap}
 
 module _ (d : Diagram) (x : Site) (i j : ℕ) where
+  -- an object of the exchanged site is an instance of what the one that it goes to is
+  pub instance-exchanged : (t o : ℕ) → isInstance d (exchanged i j x) t o ≡ isInstance d x t (swap i j o)
+  unfolding isInstance hasType
+  instance-exchanged t o = refl
+
   pub rule4At-exchanged : (v : Value) → rule4At d (exchanged i j x) (exchangedValue i j v) ≡ rule4At d x v
   unfolding rule4At declares belongs isInstance hasType
   rule4At-exchanged v =
@@ -132,3 +138,7 @@ lowest-same d x y h = rw (h .first, h .second, h .third, h .fourth, h .fifth, h 
 
 pub exchange-keeps : ExchangeKeeps
 exchange-keeps d x i j hi hj = lowest-same d (exchanged i j x) x (exchange-keeps-rules d x i j hi hj)
+
+-- a site is legal exactly when the exchanged one is
+pub exchange-legal : (d : Diagram) (x : Site) (i j : ℕ) → i < x .count → j < x .count → (lowestBroken d (exchanged i j x) ≡ 0) ↔ (lowestBroken d x ≡ 0)
+exchange-legal d x i j hi hj = let e = exchange-keeps d x i j hi hj in (λ h. sym e ∙ h, λ h. e ∙ h)

@@ -1,1 +1,4 @@
 pub mod ExchangeLaws
+pub mod AlikeLaws
+pub mod ExchangedInLaws
+pub mod ExchangedMemory

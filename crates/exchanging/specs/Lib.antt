@@ -1,1 +1,3 @@
 pub mod Exchange
+pub mod Alike
+pub mod ExchangedIn
