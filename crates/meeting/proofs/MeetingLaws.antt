@@ -7,7 +7,6 @@ use native.Mathlib.Decide.{decLt}
 use native.Mathlib.Omega.{arith}
 use mathlib.Core.Bool.{Bool, true}
 use mathlib.Core.Path.{_∙_, _≡_, ap, subst, sym}
-
 use lib.ListN.{getD, length}
 use borrow.Author.Tests.{eq-eqb, eqb-true, ltb-true}
 use Rattle.laws.specs.Connective.{imp}

@@ -8,7 +8,6 @@ ghost use Rattle.diagrams.specs.Held.{Held};
 ghost use Rattle.worlds.specs.Kept.{sheet};
 ghost use Rattle.searching.specs.Answer.{Level};
 ghost use Rattle.searching.specs.Ready.{Ready};
-
 use diagrams::StoredDiagram;
 use records::MemoryRecord;
 use worlds::Lines;

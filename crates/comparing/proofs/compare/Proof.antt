@@ -70,12 +70,14 @@ least-requires c κs =
     let sources = lines .before in
     let rows = sources .before .before .before in
     let dues = rows .before in
-    let start = dues .before in
-    (start .pre .0, start .pre .1,
-    ready (start .args .old) (start .args .new) (start .pre .0) (dues .due-values .ensures) (rows .rows-by .ensures) (sources .sources-of .ensures) (lines .lines-by .ensures)
-    (usable .usable-types .ensures) (singles .single-types .ensures) (rows2 .rows-by2 .ensures) (lines2 .lines-by2 .ensures) (singles2 .single-types2 .ensures)
-    (missing .single-missing .ensures) (bad .bad-types .ensures) (links .missing-links .ensures),
-    few-objects (start .args .bound) (c .at-most-8 .result) (c .at-most-8 .ensures))
+    let start = dues .before in (
+      start .pre .0,
+      start .pre .1,
+      ready (start .args .old) (start .args .new) (start .pre .0) (dues .due-values .ensures) (rows .rows-by .ensures) (sources .sources-of .ensures) (lines .lines-by .ensures)
+          (usable .usable-types .ensures) (singles .single-types .ensures) (rows2 .rows-by2 .ensures) (lines2 .lines-by2 .ensures) (singles2 .single-types2 .ensures)
+          (missing .single-missing .ensures) (bad .bad-types .ensures) (links .missing-links .ensures),
+      few-objects (start .args .bound) (c .at-most-8 .result) (c .at-most-8 .ensures),
+    )
 
 returns : tie.Need-returns
 returns c =

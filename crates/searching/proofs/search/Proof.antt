@@ -28,10 +28,12 @@ returns c =
 with-values-requires : tie.Need-with-values-requires
 with-values-requires c κs =
     let at = c .before .before .before .before in
-    let p = at .before .pre in
-    (((p .0, p .1), p .2 .dues-are), λ o l.
-    subst (λ (k : ℕ). getD (at .find-break .result .types) o 0 < k) (type-count (at .before .args .old))
-    (built-known (at .before .args .n) (at .find-break .result) (p .0 .wf) (p .1 .wf) (p .2) (at .find-break .ensures) (not-false _ (c .before .before .if1 .left)) o l))
+    let p = at .before .pre in (
+      ((p .0, p .1), p .2 .dues-are),
+      λ o l.
+          subst (λ (k : ℕ). getD (at .find-break .result .types) o 0 < k) (type-count (at .before .args .old))
+          (built-known (at .before .args .n) (at .find-break .result) (p .0 .wf) (p .1 .wf) (p .2) (at .find-break .ensures) (not-false _ (c .before .before .if1 .left)) o l),
+    )
 
 returns-2 : tie.Need-returns-2
 returns-2 c =
