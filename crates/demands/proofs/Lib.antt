@@ -2,6 +2,7 @@ pub mod SetLaws
 pub mod NeedLaws
 pub mod RowLaws
 pub mod ColumnLaws
+pub mod WholeLimitLaws
 pub mod SingleLaws
 pub mod OwnLaws
 pub mod WeightLaws

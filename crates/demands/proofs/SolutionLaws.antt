@@ -8,7 +8,7 @@ use Rattle.growing.specs.Growth.{Extends, Nowhere}
 use Rattle.link_search.specs.Nets.{Within}
 use Rattle.worlds.specs.declared.Query.{Query}
 use Rattle.worlds.specs.Asked.{Asked, Solution}
-use Rattle.worlds.specs.Kept.{Allowed, ColumnsKept, Sheet, SinglesKept, Turned, sheet}
+use Rattle.worlds.specs.Kept.{Allowed, ColumnsKept, Sheet, SinglesKept, Turned, WholesKept, sheet}
 use Rattle.demands.specs.declared.Start.{Start}
 use Rattle.demands.specs.declared.Wish.{Wish}
 use Rattle.demands.specs.Wishes.{Sharpens}
@@ -33,6 +33,9 @@ module _ (x : Sheet) (q : Query) (n : ℕ) where
 
     pub by-rows : Sharpens (RowsOpen (x .targets) (x .lows) (x .highs) (q .shut)) s a b → Sharpens (Solution x q n) s a b
     by-rows = sharp-from s a b (λ w _ h. rows-open w h)
+
+    pub by-wholes : Sharpens (λ w. ColumnsKept (x .lines) w × WholesKept (x .lines) w) s a b → Sharpens (Solution x q n) s a b
+    by-wholes = sharp-from s a b (λ w _ h. (h .allowed .columns, h .allowed .wholes))
 
     pub by-weights : ((usable singles : ℕ) → Sharpens (λ w. Allowed (sheet usable singles (x .targets) (x .lows) (x .highs) (x .lines)) w × Asked q w) s a b)
         → Sharpens (Solution x q n) s a b

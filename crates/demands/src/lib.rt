@@ -14,6 +14,7 @@ mod counts;
 mod mirrors;
 mod needs;
 mod own;
+mod parts;
 mod rows;
 mod sets;
 mod singles;
@@ -77,7 +78,11 @@ pub fn demand<'a>(
     if column.dead {
         return column;
     }
-    let own = own::with_own(column, s, targets, sources, lows, highs, q);
+    let part = parts::with_wholes(column, s, lines);
+    if part.dead {
+        return part;
+    }
+    let own = own::with_own(part, s, targets, sources, lows, highs, q);
     if own.dead {
         return own;
     }

@@ -12,7 +12,7 @@ use Rattle.demands.specs.declared.Wish.{Wish}
 use Rattle.demands.specs.Wishes.{Known, Sharpens}
 use Rattle.demands.proofs.NeedLaws.{sharp-trans}
 use Rattle.demands.proofs.StartLaws.{demanded}
-use Rattle.demands.proofs.SolutionLaws.{by-columns, by-own, by-rows, by-singles, by-weights}
+use Rattle.demands.proofs.SolutionLaws.{by-columns, by-own, by-rows, by-singles, by-weights, by-wholes}
 use borrow.Author.Needs.{needs}
 use Rattle.demands.proofs.demand.Statement.{statement}
 use Rattle.demands.proofs.demand.Tie as tie
@@ -20,6 +20,7 @@ use Rattle.demands.proofs.demand.Reads as reads
 use Rattle.demands.proofs.demand.Lts as lts
 use Rattle.demands.proofs.columns.with_columns.Reads as with-columns-reads
 use Rattle.demands.proofs.own.with_own.Reads as with-own-reads
+use Rattle.demands.proofs.parts.with_wholes.Reads as with-wholes-reads
 use Rattle.demands.proofs.rows.with_rows.Reads as with-rows-reads
 use Rattle.demands.proofs.sets.types_free.Reads as types-free-reads
 use Rattle.demands.proofs.sets.types_present.Reads as types-present-reads
@@ -69,13 +70,21 @@ after-columns c =
     sharp-trans (startOf d) _ (e .with-rows .result) (c .with-columns .result) (after-rows e)
     (by-columns (sheetOf b) (b .args .q) (b .args .n) (startOf d) (e .with-rows .result) (c .with-columns .result) (b .args .sources .now) (b .pre .1) (c .with-columns .ensures))
 
-after-own : (c : tie.After-with-own) → Sharp (c .before .before .before .before .before .before .before .before .before) (c .with-own .result)
-after-own c =
+after-wholes : (c : tie.After-with-wholes) → Sharp (c .before .before .before .before .before .before .before .before .before) (c .with-wholes .result)
+after-wholes c =
     let e = c .before .before in
     let d = e .before .before .before .before .before .before .before in
     let b = d .before .before .before in
-    sharp-trans (startOf d) _ (e .with-columns .result) (c .with-own .result) (after-columns e)
-    (by-own (sheetOf b) (b .args .q) (b .args .n) (startOf d) (e .with-columns .result) (c .with-own .result) (b .args .sources .now) (b .pre .1) (c .with-own .ensures))
+    sharp-trans (startOf d) _ (e .with-columns .result) (c .with-wholes .result) (after-columns e)
+    (by-wholes (sheetOf b) (b .args .q) (b .args .n) (startOf d) (e .with-columns .result) (c .with-wholes .result) (c .with-wholes .ensures))
+
+after-own : (c : tie.After-with-own) → Sharp (c .before .before .before .before .before .before .before .before .before .before .before) (c .with-own .result)
+after-own c =
+    let e = c .before .before in
+    let d = e .before .before .before .before .before .before .before .before .before in
+    let b = d .before .before .before in
+    sharp-trans (startOf d) _ (e .with-wholes .result) (c .with-own .result) (after-wholes e)
+    (by-own (sheetOf b) (b .args .q) (b .args .n) (startOf d) (e .with-wholes .result) (c .with-own .result) (b .args .sources .now) (b .pre .1) (c .with-own .ensures))
 
 types-present-requires : tie.Need-types-present-requires
 types-present-requires c κs = search needs
@@ -83,8 +92,8 @@ types-present-requires c κs = search needs
 types-free-requires : tie.Need-types-free-requires
 types-free-requires c κs = search needs
 
-sub-t25 : tie.Need-sub-t25
-sub-t25 c = search needs
+sub-t26 : tie.Need-sub-t26
+sub-t26 c = search needs
 
 with-singles-requires : tie.Need-with-singles-requires
 with-singles-requires c κs = search needs
@@ -104,25 +113,31 @@ with-columns-requires c κs = search needs
 returns-3 : tie.Need-returns-3
 returns-3 c = let e = c .before in ends (e .before .before .before .before .before .before .before) (e .with-columns .result) (after-columns e)
 
+with-wholes-requires : tie.Need-with-wholes-requires
+with-wholes-requires c κs = search needs
+
+returns-4 : tie.Need-returns-4
+returns-4 c = let e = c .before in ends (e .before .before .before .before .before .before .before .before .before) (e .with-wholes .result) (after-wholes e)
+
 with-own-requires : tie.Need-with-own-requires
 with-own-requires c κs =
-    let d = c .before .before .before .before .before .before .before .before in
+    let d = c .before .before .before .before .before .before .before .before .before .before in
     let b = d .before .before .before in
     (known d, b .pre .2, b .pre .3)
 
-returns-4 : tie.Need-returns-4
-returns-4 c = let e = c .before in ends (e .before .before .before .before .before .before .before .before .before) (e .with-own .result) (after-own e)
+returns-5 : tie.Need-returns-5
+returns-5 c = let e = c .before in ends (e .before .before .before .before .before .before .before .before .before .before .before) (e .with-own .result) (after-own e)
 
 with-weights-requires : tie.Need-with-weights-requires
 with-weights-requires c κs =
-    let d = c .before .before .before .before .before .before .before .before .before .before in
+    let d = c .before .before .before .before .before .before .before .before .before .before .before .before in
     let b = d .before .before .before in
     (known d, b .pre .0, b .pre .1, b .pre .2, b .pre .3)
 
-returns-5 : tie.Need-returns-5
-returns-5 c =
+returns-6 : tie.Need-returns-6
+returns-6 c =
     let e = c .before .before in
-    let d = e .before .before .before .before .before .before .before .before .before in
+    let d = e .before .before .before .before .before .before .before .before .before .before .before in
     let b = d .before .before .before in
     ends d (c .with-weights .result)
     (sharp-trans (startOf d) _ (e .with-own .result) (c .with-weights .result) (after-own e)
@@ -134,14 +149,16 @@ demand-spec =
     (tie.spec
     types-present-requires
     types-free-requires
-    sub-t25
+    sub-t26
     with-singles-requires
     returns
     with-rows-requires
     returns-2
     with-columns-requires
     returns-3
-    with-own-requires
+    with-wholes-requires
     returns-4
+    with-own-requires
+    returns-5
     with-weights-requires
-    returns-5)
+    returns-6)
