@@ -92,7 +92,7 @@ fn find_target<'a>(
     requires { ⌜ Slotted lines × Turned (now targets) (now sources) × (n ≤ 8) × (i < 768) ⌝ }
     ensures { λ r. ⌜ Breaks (sheet usable singles (now (targets .entry)) (now (lows .entry)) (now (highs .entry)) lines) (TargetsKept (now (others .entry)) i) n (r .ok) (worldBuilt n r) ⌝ }
 {
-    let b = queries::without(targets[i], others[i]);
+    let b = type_tables::without(targets[i], others[i]);
     if b == 0 {
         return nothing();
     }
@@ -261,7 +261,7 @@ fn is_new_row<'a>(
     requires { ⌜ i < 768 ⌝ }
     ensures { λ r. ⌜ (r ≡ false → RowWithin (now (targets .entry)) (now (lows .entry)) (now (highs .entry)) (now (targets2 .entry)) (now (lows2 .entry)) (now (highs2 .entry)) i) ⌝ }
 {
-    if queries::without(targets[i], targets2[i]) != 0 {
+    if type_tables::without(targets[i], targets2[i]) != 0 {
         return true;
     }
     if lows[i] < lows2[i] {

@@ -3,7 +3,6 @@ ghost use mathlib.Core.Path.{_≡_};
 ghost use mathlib.Core.Bool.{true};
 ghost use Prim.Native.Nat.{ℕ, _<_};
 ghost use lib.ListN.{getD};
-ghost use Rattle.laws.specs.Bits.{bit};
 ghost use Rattle.worlds.specs.declared.Lines.{Lines};
 ghost use Rattle.common_wholes.specs.Common.{Common};
 
@@ -11,13 +10,6 @@ ghost use Rattle.common_wholes.specs.Common.{Common};
 pub struct Shared {
     pub some: bool,
     pub mask: u32,
-}
-
-// All of a is in b.
-fn is_inside(a: u32, b: u32) -> bool
-    ensures { λ r. ⌜ (r ≡ true → (t : ℕ) → bit t a ≡ true → bit t b ≡ true) ⌝ }
-{
-    a & b == a
 }
 
 // Whether composition j gives each object of type t its whole: it asks for a source, and its sources are wholes.
@@ -33,7 +25,7 @@ fn is_giving(lines: worlds::Lines, t: u32, j: usize) -> bool
     }
     laws::has32(lines.columnto[j], t)
         & laws::has32(lines.wholeto[j], t)
-        & is_inside(lines.columnfrom[j], lines.wholefrom[j])
+        & type_tables::is_inside(lines.columnfrom[j], lines.wholefrom[j])
 }
 
 // What is known of the whole, with one more mask for its type.

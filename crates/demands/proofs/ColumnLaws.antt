@@ -17,7 +17,8 @@ use Rattle.worlds.specs.Kept.{ColumnsKept}
 use Rattle.demands.specs.declared.Start.{Start}
 use Rattle.demands.specs.declared.Wish.{Wish}
 use Rattle.demands.specs.Wishes.{Limited, Sharpens, Started}
-use Rattle.demands.specs.Families.{ColumnKept, SourcesKept, sourceCount}
+use Rattle.clashes.specs.Counts.{SourcesKept, sourceCount}
+use Rattle.demands.specs.Families.{ColumnKept}
 
 module _ (s : Start) (sources : List ℕ) (best r : Wish) where
   -- x: where the table has the sources of object p in the slot

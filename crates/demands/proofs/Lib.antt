@@ -8,8 +8,3 @@ pub mod OwnLaws
 pub mod WeightLaws
 pub mod StartLaws
 pub mod SolutionLaws
-pub mod BitsLaws
-pub mod ClashLaws
-pub mod MirrorLaws
-pub mod PartLaws
-pub mod FirstLaws

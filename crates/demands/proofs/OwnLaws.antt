@@ -9,7 +9,8 @@ use Rattle.worlds.specs.Asked.{Asked}
 use Rattle.demands.specs.declared.Start.{Start}
 use Rattle.demands.specs.declared.Wish.{Wish}
 use Rattle.demands.specs.Wishes.{Sharpens}
-use Rattle.demands.specs.Families.{RowsOpen, SourcesKept, sourceCount, targetCount}
+use Rattle.clashes.specs.Counts.{SourcesKept, sourceCount, targetCount}
+use Rattle.demands.specs.Families.{RowsOpen}
 use Rattle.demands.proofs.NeedLaws.{sharp-from, sharp-trans}
 
 pub own-sharp : (targets sources lows highs : List ℕ) (q : Query) (s : Start) (a b c : Wish) → 0 < q .seeds

@@ -14,7 +14,8 @@ use Rattle.link_search.specs.Nets.{Within}
 use Rattle.demands.specs.declared.Start.{Start}
 use Rattle.demands.specs.declared.Wish.{Wish}
 use Rattle.demands.specs.Wishes.{Known, Limited, Sharpens, Started}
-use Rattle.demands.specs.Families.{RowsOpen, targetCount}
+use Rattle.clashes.specs.Counts.{targetCount}
+use Rattle.demands.specs.Families.{RowsOpen}
 
 -- both limits hold
 pub within-both : (a b c d low high n : ℕ) → low ≡ max a c → high ≡ min b d → Within a b n → Within c d n → Within low high n

@@ -14,17 +14,6 @@ use Rattle.laws.proofs.BoundedLaws.{any-more}
 use Rattle.laws.proofs.LoopLaws.{any-begin}
 use Rattle.demands.specs.Wishes.{available, present}
 
--- b put into a and turned over
-pub bit-without : (a b j : ℕ) → bit j (bitXor (bitOr a b) b) ≡ bit j a && not (bit j b)
-unfolding same
-bit-without a b j = bit-xor j (bitOr a b) b ∙ ap (λ (x : Bool). not (same x (bit j b))) (bit-or j a b) ∙ go (bit j a) (bit j b)
-  where
-    go : (x y : Bool) → not (same (x || y) y) ≡ x && not y
-    go true true = refl
-    go true false = refl
-    go false true = refl
-    go false false = refl
-
 module _ (types : List ℕ) where
   pub present-begin : (t : ℕ) → bit t 0 ≡ present types 0 t
   present-begin t = bit-zero t ∙ sym (any-begin (λ o. eqb t (getD types o 0)))

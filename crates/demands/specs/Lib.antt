@@ -1,4 +1,2 @@
 pub mod Wishes
 pub mod Families
-pub mod Refuted
-pub mod Clashes

@@ -5,7 +5,8 @@ ghost use Rattle.growing.specs.World.{World};
 ghost use Rattle.link_search.specs.Nets.{Within};
 ghost use Rattle.worlds.specs.Kept.{ColumnsKept, Slotted};
 ghost use Rattle.demands.specs.Wishes.{Known, Sharpens};
-ghost use Rattle.demands.specs.Families.{ColumnKept, SourcesKept, sourceCount};
+ghost use Rattle.clashes.specs.Counts.{SourcesKept, sourceCount};
+ghost use Rattle.demands.specs.Families.{ColumnKept};
 use crate::Start;
 use crate::Wish;
 
@@ -24,7 +25,7 @@ pub fn with_sources(
     ensures { λ r. ⌜ Sharpens (λ w. SourcesKept (now (sources .entry)) w × Within low high (sourceCount w slot mask p)) s best r ⌝ }
 {
     let types = s.types;
-    let x = crate::rows::rows_at(&types, p) + laws::wide(slot);
+    let x = clashes::rows_at(&types, p) + laws::wide(slot);
     crate::needs::with_limits(best, s, mask & sources[x], 0, low, high)
 }
 
@@ -47,7 +48,7 @@ fn with_column(
     let mut wish = best;
     let mut p: u8 = 0;
     while p < k {
-        if laws::has32(to, crate::sets::type_of(&types, p)) {
+        if laws::has32(to, clashes::type_of(&types, p)) {
             wish = with_sources(wish, s, sources, slot, mask, low, high, p);
         }
         p += 1;

@@ -1,17 +1,13 @@
-// Which types one more object must have, and which queries have no solution at all: what a search by types asks before it looks at links.
+// Which types one more object must have: what a search by types asks before it looks at links.
 ghost use mathlib.Core.Path.{_≡_};
-ghost use mathlib.Core.Bool.{_&&_, not, true};
 ghost use Prim.Native.Nat.{ℕ, _<_, _≤_};
 ghost use lib.Dec.{ltb};
 ghost use lib.ListN.{getD};
-ghost use Rattle.growing.specs.Growth.{Demanded, Nowhere};
+ghost use Rattle.growing.specs.Growth.{Demanded};
 ghost use Rattle.worlds.specs.Kept.{Slotted, Turned, sheet};
 ghost use Rattle.worlds.specs.Asked.{Sane, Solution};
 
-mod bits;
 mod columns;
-mod counts;
-mod mirrors;
 mod needs;
 mod own;
 mod parts;
@@ -19,7 +15,6 @@ mod rows;
 mod sets;
 mod singles;
 mod weighing;
-mod wholes;
 
 // dead: no world that is looked for starts with the given types. Else one more object has a type of the mask g.
 pub struct Wish {
@@ -87,52 +82,4 @@ pub fn demand<'a>(
         return own;
     }
     weighing::with_weights(own, s, here, targets, sources, lows, highs, lines, q)
-}
-
-// Whether the query contradicts the tables, where its seeds have the given types.
-pub fn is_implied<'a>(
-    targets: &'a [u32; 768],
-    sources: &'a [u32; 768],
-    lows: &'a [u8; 768],
-    highs: &'a [u8; 768],
-    lines: worlds::Lines,
-    usable: u32,
-    singles: u32,
-    q: worlds::Query,
-    types: [u8; 8],
-    n: u8,
-) -> bool
-    requires { ⌜ Slotted lines × Turned (now targets) (now sources) × Sane q × (n ≤ 8) × ((o : ℕ) → getD types o 0 < 24) ⌝ }
-    ensures { λ b. ⌜ (b ≡ true → Nowhere (Solution (sheet usable singles (now (targets .entry)) (now (lows .entry)) (now (highs .entry)) lines) q n) types (q .seeds) (q .never) n) ⌝ }
-{
-    let seeds = q.seeds;
-    if seeds == 0 {
-        return false;
-    }
-    let must = q.must;
-    let shut = q.shut;
-    if bits::is_bad_bit(targets, &must, &shut, &types, seeds) {
-        return true;
-    }
-    if mirrors::is_bad_turn(lines, &must, &shut, &types, seeds) {
-        return true;
-    }
-    if wholes::is_bad_part(lines, &must, &types, seeds) {
-        return true;
-    }
-    if rows::is_bad_first_row(lows, highs, &types, q.row, q.low, q.high) {
-        return true;
-    }
-    counts::is_bad_first_column(
-        targets,
-        sources,
-        lows,
-        highs,
-        lines,
-        &types,
-        q.column,
-        q.from,
-        q.least,
-        q.most,
-    )
 }

@@ -43,7 +43,7 @@ fn count_candidates(s: Start, mask: u32, shut: u8) -> u8
     let mut n: u8 = 0;
     let mut o: u8 = 0;
     while o < k {
-        if laws::has32(mask, crate::sets::type_of(&types, o)) & !laws::has8(shut, o) {
+        if laws::has32(mask, clashes::type_of(&types, o)) & !laws::has8(shut, o) {
             n += 1;
         }
         o += 1;

@@ -4,7 +4,8 @@ ghost use Prim.Native.Nat.{_≤_};
 ghost use Rattle.growing.specs.World.{World};
 ghost use Rattle.worlds.specs.Asked.{Asked, Sane};
 ghost use Rattle.demands.specs.Wishes.{Known, Sharpens};
-ghost use Rattle.demands.specs.Families.{RowsOpen, SourcesKept};
+ghost use Rattle.clashes.specs.Counts.{SourcesKept};
+ghost use Rattle.demands.specs.Families.{RowsOpen};
 use crate::Start;
 use crate::Wish;
 

@@ -13,7 +13,7 @@ fn with_whole(best: Wish, s: Start, lines: worlds::Lines, p: u8) -> Wish
     ensures { λ r. ⌜ Sharpens (λ w. ColumnsKept lines w × WholesKept lines w) s best r ⌝ }
 {
     let types = s.types;
-    let whole = common_wholes::common_whole(lines, crate::sets::type_of(&types, p));
+    let whole = common_wholes::common_whole(lines, clashes::type_of(&types, p));
     if !whole.some {
         return best;
     }

@@ -1,25 +1,13 @@
 // Needs by rows: how many targets an object has in a role slot.
-ghost use mathlib.Core.Bool.{true};
-ghost use mathlib.Core.List.{List};
 ghost use mathlib.Core.Path.{_≡_};
 ghost use Prim.Native.Nat.{ℕ, _*_, _<_, _≤_, max, min};
-ghost use lib.ListN.{getD};
 ghost use Rattle.growing.specs.World.{World};
 ghost use Rattle.link_search.specs.Nets.{Within};
-ghost use Rattle.worlds.specs.Kept.{RowsKept};
-ghost use Rattle.demands.specs.Refuted.{Refuted};
+ghost use Rattle.clashes.specs.Counts.{targetCount};
 ghost use Rattle.demands.specs.Wishes.{Known, Sharpens};
-ghost use Rattle.demands.specs.Families.{RowsOpen, targetCount};
+ghost use Rattle.demands.specs.Families.{RowsOpen};
 use crate::Start;
 use crate::Wish;
-
-// Where the table has the rows of object o.
-pub fn rows_at(types: &[u8; 8], o: u8) -> usize
-    requires { ⌜ (o < 8) × ((o : ℕ) → getD (now types) o 0 < 24) ⌝ }
-    ensures { λ r. ⌜ (r ≡ getD (now (types .entry)) o 0 * 32) × (r ≤ 736) ⌝ }
-{
-    laws::wide(types[laws::wide(o)]) * 32
-}
 
 // The rows of object o.
 fn with_rows_of<'a>(
@@ -35,7 +23,7 @@ fn with_rows_of<'a>(
     ensures { λ r. ⌜ Sharpens (RowsOpen (now (targets .entry)) (now (lows .entry)) (now (highs .entry)) (now (shut .entry))) s best r ⌝ }
 {
     let types = s.types;
-    let x = rows_at(&types, o);
+    let x = clashes::rows_at(&types, o);
     let y = laws::wide(o) * 32;
     let mut wish = best;
     let mut i: usize = 0;
@@ -81,18 +69,6 @@ pub fn with_rows<'a>(
     wish
 }
 
-pub fn larger(a: u8, b: u8) -> u8
-    ensures { λ r. ⌜ r ≡ max a b ⌝ }
-{
-    if a < b { b } else { a }
-}
-
-pub fn smaller(a: u8, b: u8) -> u8
-    ensures { λ r. ⌜ r ≡ min a b ⌝ }
-{
-    if a < b { a } else { b }
-}
-
 // The row of the first object in one slot, with limits of its own.
 pub fn with_first_row<'a>(
     best: Wish,
@@ -110,29 +86,13 @@ pub fn with_first_row<'a>(
 {
     let types = s.types;
     let i = laws::wide(row);
-    let x = rows_at(&types, 0) + i;
+    let x = clashes::rows_at(&types, 0) + i;
     crate::needs::with_limits(
         best,
         s,
         targets[x],
         shut[i],
-        larger(lows[x], low),
-        smaller(highs[x], high),
+        type_tables::larger(lows[x], low),
+        type_tables::smaller(highs[x], high),
     )
-}
-
-// Whether no number is within the limits of the first object's row and within these.
-pub fn is_bad_first_row<'a>(
-    lows: &'a [u8; 768],
-    highs: &'a [u8; 768],
-    types: &'a [u8; 8],
-    row: u8,
-    low: u8,
-    high: u8,
-) -> bool
-    requires { ⌜ (row < 32) × ((o : ℕ) → getD (now types) o 0 < 24) ⌝ }
-    ensures { λ r. ⌜ (r ≡ true → (targets : List ℕ) (seeds : ℕ) → 0 < seeds → Refuted (λ w. RowsKept targets (now (lows .entry)) (now (highs .entry)) w × Within low high (targetCount w row 0)) (now (types .entry)) seeds) ⌝ }
-{
-    let x = rows_at(types, 0) + laws::wide(row);
-    smaller(highs[x], high) < larger(lows[x], low)
 }

@@ -7,21 +7,6 @@ ghost use lib.ListN.{getD};
 ghost use Rattle.laws.specs.Bits.{bit};
 ghost use Rattle.demands.specs.Wishes.{available, present};
 
-// What is in a and not in b.
-pub fn without(a: u32, b: u32) -> u32
-    ensures { λ r. ⌜ ((j : ℕ) → bit j r ≡ bit j a && not (bit j b)) ⌝ }
-{
-    (a | b) ^ b
-}
-
-// The type of object o.
-pub fn type_of(types: &[u8; 8], o: u8) -> u32
-    requires { ⌜ (o < 8) × ((o : ℕ) → getD (now types) o 0 < 24) ⌝ }
-    ensures { λ r. ⌜ (r ≡ getD (now (types .entry)) o 0) × (r < 24) ⌝ }
-{
-    types[laws::wide(o)] as u32
-}
-
 // The types of the first k objects.
 pub fn types_present(types: &[u8; 8], k: u8) -> u32
     requires { ⌜ (k ≤ 8) × ((o : ℕ) → getD (now types) o 0 < 24) ⌝ }
@@ -30,7 +15,7 @@ pub fn types_present(types: &[u8; 8], k: u8) -> u32
     let mut mask: u32 = 0;
     let mut o: u8 = 0;
     while o < k {
-        mask = laws::with32(mask, type_of(types, o));
+        mask = laws::with32(mask, clashes::type_of(types, o));
         o += 1;
     }
     mask
@@ -40,5 +25,5 @@ pub fn types_present(types: &[u8; 8], k: u8) -> u32
 pub fn types_free(usable: u32, singles: u32, forb: u32, here: u32) -> u32
     ensures { λ r. ⌜ ((types : List ℕ) (k : ℕ) → ((t : ℕ) → bit t here ≡ present types k t) → (t : ℕ) → bit t r ≡ available usable singles forb types k t) ⌝ }
 {
-    without(without(usable, forb), singles & here)
+    type_tables::without(type_tables::without(usable, forb), singles & here)
 }

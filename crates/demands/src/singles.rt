@@ -12,7 +12,7 @@ pub fn with_singles(best: Wish, s: Start, singles: u32, here: u32) -> Wish
     requires { ⌜ ((t : ℕ) → bit t here ≡ present (s .types) (s .k) t) ⌝ }
     ensures { λ r. ⌜ Sharpens (SinglesKept singles) s best r ⌝ }
 {
-    let missing = crate::sets::without(singles, here);
+    let missing = type_tables::without(singles, here);
     if missing == 0 {
         return best;
     }

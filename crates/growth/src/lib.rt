@@ -133,7 +133,7 @@ fn seed<'a>(
     ensures { λ r. ⌜ Grown (Solution (sheet usable singles (now (targets .entry)) (now (lows .entry)) (now (highs .entry)) lines) q n) types k 0 n (r .ok) (worldBuilt n r) ⌝ }
 {
     if k == q.seeds {
-        if demands::is_implied(
+        if clashes::is_implied(
             targets,
             sources,
             lows,

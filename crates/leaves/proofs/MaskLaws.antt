@@ -1,27 +1,15 @@
 -- Masks of objects: of no type, without some, and the first seed alone.
 -- Assumes nothing.
 use Prim.Native.Nat.{ℕ}
-use mathlib.Core.Bool.{Bool, _&&_, _||_, and-assoc, and-false, cond, false, not, true}
-use mathlib.Core.Path.{_≡_, _∙_, ap, refl, sym}
-use lib.Bits.{bitOr, bitXor}
+use mathlib.Core.Bool.{Bool, _&&_, and-assoc, and-false, cond, false, not, true}
+use mathlib.Core.Path.{_≡_, _∙_, ap, sym}
 use lib.Dec.{eqb, ltb}
 use Rattle.laws.specs.Bits.{Marks, bit}
-use Rattle.laws.specs.Connective.{same}
-use Rattle.laws.proofs.BitLaws.{bit-or, bit-pow, bit-xor, bit-zero}
+use Rattle.laws.proofs.BitLaws.{bit-pow, bit-zero}
 
 -- nothing is in the empty set
 pub none-marked : (q : ℕ → ℕ) (n set : ℕ) → set ≡ 0 → Marks (λ o. bit (q o) set) n 0
 none-marked q n set e j = bit-zero j ∙ sym (and-false (ltb j n)) ∙ ap (λ (b : Bool). ltb j n && b) (sym (ap (bit (q j)) e ∙ bit-zero (q j)))
-
-less : (a b : Bool) → not (same (a || b) b) ≡ a && not b
-unfolding same
-less true true = refl
-less true false = refl
-less false true = refl
-less false false = refl
-
-pub bit-without : (m s j : ℕ) → bit j (bitXor (bitOr m s) s) ≡ bit j m && not (bit j s)
-bit-without m s j = bit-xor j (bitOr m s) s ∙ ap (λ (b : Bool). not (same b (bit j s))) (bit-or j m s) ∙ less (bit j m) (bit j s)
 
 -- those that are marked, without some
 pub marks-without : (q : ℕ → Bool) (n m s r : ℕ) → Marks q n m → ((j : ℕ) → bit j r ≡ bit j m && not (bit j s)) → Marks (λ p. q p && not (bit p s)) n r

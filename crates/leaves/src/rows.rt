@@ -1,7 +1,7 @@
 // What is asked of rows: their limits, and the objects that they may go to.
 ghost use mathlib.Core.Path.{_≡_};
 ghost use mathlib.Core.Bool.{_&&_, not};
-ghost use Prim.Native.Nat.{ℕ, _<_, _≤_, max, min};
+ghost use Prim.Native.Nat.{ℕ, _<_, _≤_};
 ghost use Rattle.laws.specs.Bits.{bit, Marks};
 ghost use Rattle.leaves.specs.Fitting.{Small};
 ghost use Rattle.leaves.specs.Arrays.{Mays, RowLimits, RowsAsk, allCovered, covered, mayGo, spotOf};
@@ -32,19 +32,6 @@ fn row_limits<'a>(table: &'a [u8; 768], types: &'a [u8; 8], n: u8, d: u8) -> [u8
     r
 }
 
-// The larger and the smaller one.
-fn larger(x: u8, y: u8) -> u8
-    ensures { λ r. ⌜ r ≡ max x y ⌝ }
-{
-    if x < y { y } else { x }
-}
-
-fn smaller(x: u8, y: u8) -> u8
-    ensures { λ r. ⌜ r ≡ min x y ⌝ }
-{
-    if x < y { x } else { y }
-}
-
 // The limits of all rows, with the query's for the first seed.
 pub fn row_arrays<'a>(
     lows: &'a [u8; 768],
@@ -59,8 +46,8 @@ pub fn row_arrays<'a>(
     let at = laws::wide(q.row);
     let mut l = row_limits(lows, types, n, 0);
     let mut h = row_limits(highs, types, n, 8);
-    l[at] = larger(l[at], pick(0 < q.seeds, q.low, 0));
-    h[at] = smaller(h[at], pick(0 < q.seeds, q.high, 8));
+    l[at] = type_tables::larger(l[at], pick(0 < q.seeds, q.low, 0));
+    h[at] = type_tables::smaller(h[at], pick(0 < q.seeds, q.high, 8));
     RowArrays { low: l, high: h }
 }
 

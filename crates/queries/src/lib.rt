@@ -24,13 +24,6 @@ pub fn common(a: u32, b: u32) -> u32
     a & b
 }
 
-// The types of a that are not of b.
-pub fn without(a: u32, b: u32) -> u32
-    ensures { λ r. ⌜ ((j : ℕ) → bit j r ≡ bit j a && not (bit j b)) ⌝ }
-{
-    (a | b) ^ b
-}
-
 // Whether the sets may have a type in common.
 pub fn meets(a: u32, b: u32) -> bool
     ensures { λ r. ⌜ (r ≡ false → (j : ℕ) → bit j a ≡ true → bit j b ≡ true → ⊥) ⌝ }

@@ -33,7 +33,7 @@ fn is_among(set: u32, s: u8, t: u8) -> bool
     (s < 32) & laws::has32(set, t as u32)
 }
 
-// The larger of each lower limit and this one, the lesser of each upper limit and this one, in slot s of each type of the set.
+// The larger of each lower limit and this one, the smaller of each upper limit and this one, in slot s of each type of the set.
 fn limit_slot(
     lows: &mut [u8; 768],
     highs: &mut [u8; 768],
@@ -52,7 +52,7 @@ fn limit_slot(
             let at = laws::wide(t) * 32 + laws::wide(s);
             let m = type_tables::larger(lows[at], low);
             lows[at] = m;
-            let n = type_tables::lesser(highs[at], high);
+            let n = type_tables::smaller(highs[at], high);
             highs[at] = n;
         }
         t += 1;

@@ -1,3 +1,4 @@
+pub mod SetLaws
 pub mod PassedLaws
 pub mod EndLaws
 pub mod LimitLaws

@@ -1,5 +1,6 @@
 // What one diagram asks of values, by an object's type, as a table; and what tables of links are made of: types, ends and limits.
 ghost use mathlib.Core.Path.{_≡_};
+ghost use mathlib.Core.Bool.{_&&_, not, true};
 ghost use Prim.Native.Nat.{ℕ, _%_, _/_, _<_, _≤_, max, min};
 ghost use lib.ListN.{getD};
 ghost use Rattle.laws.specs.Bits.{Marks, bit};
@@ -10,7 +11,7 @@ ghost use Rattle.type_tables.specs.ValuesIn.{declaresIn, dueAt, dueIn, d
 ghost use Rattle.type_tables.specs.RowsIn.{carriedIn, isSubtype, setOf};
 ghost use Rattle.type_tables.specs.TypeTables.{Dues};
 
-// ---- values
+// ---- sets of types
 
 // Type k is in the set.
 pub fn is_in(set: u32, k: u8) -> bool
@@ -21,6 +22,22 @@ pub fn is_in(set: u32, k: u8) -> bool
     }
     false
 }
+
+// All of a is in b.
+pub fn is_inside(a: u32, b: u32) -> bool
+    ensures { λ r. ⌜ (r ≡ true → (k : ℕ) → bit k a ≡ true → bit k b ≡ true) ⌝ }
+{
+    a & b == a
+}
+
+// What is in a and not in b.
+pub fn without(a: u32, b: u32) -> u32
+    ensures { λ r. ⌜ ((k : ℕ) → bit k r ≡ bit k a && not (bit k b)) ⌝ }
+{
+    (a | b) ^ b
+}
+
+// ---- values
 
 // The owner of attribute a is in the set, and its name in slot s.
 fn is_declaring<'a>(set: u32, owners: &'a [u8; 32], slots: &'a [u8; 32], s: u8, a: u8) -> bool
@@ -182,8 +199,8 @@ pub fn larger(a: u8, b: u8) -> u8
     if a < b { b } else { a }
 }
 
-// The lesser of two numbers.
-pub fn lesser(a: u8, b: u8) -> u8
+// The smaller of two numbers.
+pub fn smaller(a: u8, b: u8) -> u8
     ensures { λ r. ⌜ r ≡ min a b ⌝ }
 {
     if b < a { b } else { a }

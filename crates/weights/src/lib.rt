@@ -2,7 +2,7 @@
 // site ask for more than they have room for, further objects must have room for the rest.
 ghost use mathlib.Core.Path.{_≡_};
 ghost use mathlib.Core.Bool.{cond, true};
-ghost use Prim.Native.Nat.{ℕ, _<_, _≤_, _+_, _*_, max, min};
+ghost use Prim.Native.Nat.{ℕ, _<_, _≤_, _+_, _*_};
 ghost use lib.ListN.{getD};
 ghost use Rattle.laws.specs.Bits.{bit};
 ghost use Rattle.worlds.specs.Asked.{Sane};
@@ -57,20 +57,6 @@ struct Gain {
 
 // ---- numbers
 
-// The larger of two numbers.
-fn larger(x: u8, y: u8) -> u8
-    ensures { λ r. ⌜ r ≡ max x y ⌝ }
-{
-    if x < y { y } else { x }
-}
-
-// The smaller of two numbers.
-fn smaller(x: u8, y: u8) -> u8
-    ensures { λ r. ⌜ r ≡ min x y ⌝ }
-{
-    if x < y { x } else { y }
-}
-
 // x where the test holds, else y.
 fn pick(b: bool, x: u8, y: u8) -> u8
     ensures { λ r. ⌜ r ≡ cond b x y ⌝ }
@@ -113,7 +99,7 @@ fn line_number(from: u32, to: u32, target: u32, low: u8, own: bool, limit: u8, t
     ensures { λ r. ⌜ r ≡ lineNumber from to target low own limit t ⌝ }
 {
     let counts = laws::has32(from, t as u32) & is_inside(target, to);
-    pick(counts, pick(own, larger(low, limit), low), 0)
+    pick(counts, pick(own, type_tables::larger(low, limit), low), 0)
 }
 
 // How many links to parts an object of type t has at least by line j.
@@ -162,7 +148,7 @@ fn whole_low<'a>(
     let mut n: u8 = 0;
     let mut j: u8 = 0;
     while j < 16 {
-        n = larger(
+        n = type_tables::larger(
             n,
             whole_row(targets, lows, slots, froms, tos, slot, limit, t, j),
         );
@@ -186,13 +172,17 @@ fn slot_number<'a>(
     let s = w.slot;
     let low = pick(
         is_inside(at32(targets, t, s), w.to),
-        larger(at8(lows, t, s), limit),
+        type_tables::larger(at8(lows, t, s), limit),
         0,
     );
     pick(
         w.way == 2,
         limit,
-        pick(w.way == 1, smaller(at8(highs, t, s), limit), low),
+        pick(
+            w.way == 1,
+            type_tables::smaller(at8(highs, t, s), limit),
+            low,
+        ),
     )
 }
 
@@ -274,7 +264,7 @@ fn added(gain: Gain, t: u8, x: u8, y: u8) -> Gain
     }
     Gain {
         g: laws::with32(gain.g, t as u32),
-        most: larger(gain.most, y - x),
+        most: type_tables::larger(gain.most, y - x),
     }
 }
 
@@ -416,7 +406,7 @@ fn rows_scale(own: Own, s: u8, from: u32, to: u32, high: u8, may: u32) -> Scale
         to: 0,
         slot: s,
         limit: high,
-        first: smaller(high, column_most(own, s, from, may)),
+        first: type_tables::smaller(high, column_most(own, s, from, may)),
     };
     Scale { a, b }
 }
@@ -431,7 +421,7 @@ fn columns_scale(own: Own, s: u8, from: u32, to: u32, low: u8, may: u32) -> Scal
         to: 0,
         slot: s,
         limit: low,
-        first: larger(low, column_least(own, s, from, may)),
+        first: type_tables::larger(low, column_least(own, s, from, may)),
     };
     let b = Weight {
         way: 1,
@@ -462,7 +452,7 @@ fn mirror_scale(own: Own, s: u8, back: u8, from: u32, to: u32, may: u32) -> Scal
         to: 0,
         slot: back,
         limit: 255,
-        first: smaller(row_most(own, back), column_most(own, s, from, may)),
+        first: type_tables::smaller(row_most(own, back), column_most(own, s, from, may)),
     };
     Scale { a, b }
 }

@@ -10,7 +10,7 @@ use Rattle.common_wholes.proofs.is_giving.Statement.{statement}
 use Rattle.common_wholes.proofs.is_giving.Tie as tie
 use Rattle.common_wholes.proofs.is_giving.Reads as reads
 use Rattle.common_wholes.proofs.is_giving.Lts as lts
-use Rattle.common_wholes.proofs.is_inside.Reads as is-inside-reads
+use Rattle.type_tables.proofs.is_inside.Reads as is-inside-reads
 use Rattle.laws.proofs.has32.Reads as has32-reads
 
 element-copy-out-if1 : tie.Need-element-copy-out-if1

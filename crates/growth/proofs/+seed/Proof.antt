@@ -19,7 +19,7 @@ use borrow.Fn.PlainCycle.{Measures, is, falls, and}
 use Rattle.growth.proofs.seed.Reads as seed
 use Rattle.growth.proofs.seed.Kinds as seed-kinds
 use Rattle.growth.proofs.+seed.Lts-seed as seed-lts
-use Rattle.demands.proofs.is_implied.Reads as is-implied-reads
+use Rattle.clashes.proofs.is_implied.Reads as is-implied-reads
 use Rattle.growth.proofs.grow.Reads as grow-reads
 use Rattle.growth.proofs.is_common.Reads as is-common-reads
 use Rattle.growth.proofs.nothing.Reads as nothing-reads

@@ -7,7 +7,8 @@ use native.Mathlib.Omega.{arith}
 use Rattle.laws.specs.Bits.{bit}
 use Rattle.growing.specs.World.{World}
 use Rattle.demands.specs.Wishes.{Sharpens}
-use Rattle.demands.specs.Families.{ColumnKept, SourcesKept}
+use Rattle.clashes.specs.Counts.{SourcesKept}
+use Rattle.demands.specs.Families.{ColumnKept}
 use Rattle.demands.proofs.NeedLaws.{sharp-same, sharp-trans}
 use Rattle.demands.proofs.ColumnLaws.{column-sharp}
 use borrow.Author.Needs.{needs}
@@ -16,7 +17,7 @@ use Rattle.demands.proofs.columns.with_column.Tie as tie
 use Rattle.demands.proofs.columns.with_column.Reads as reads
 use Rattle.demands.proofs.columns.with_column.Lts as lts
 use Rattle.demands.proofs.columns.with_sources.Reads as with-sources-reads
-use Rattle.demands.proofs.sets.type_of.Reads as type-of-reads
+use Rattle.clashes.proofs.type_of.Reads as type-of-reads
 use Rattle.laws.proofs.has32.Reads as has32-reads
 
 abbrev Inv-loop : tie.InvT-loop

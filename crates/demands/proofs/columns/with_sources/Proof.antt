@@ -9,7 +9,7 @@ use Rattle.demands.proofs.columns.with_sources.Tie as tie
 use Rattle.demands.proofs.columns.with_sources.Reads as reads
 use Rattle.demands.proofs.columns.with_sources.Lts as lts
 use Rattle.demands.proofs.needs.with_limits.Reads as with-limits-reads
-use Rattle.demands.proofs.rows.rows_at.Reads as rows-at-reads
+use Rattle.clashes.proofs.rows_at.Reads as rows-at-reads
 use Rattle.laws.proofs.wide.Reads as wide-reads
 
 rows-at-requires : tie.Need-rows-at-requires

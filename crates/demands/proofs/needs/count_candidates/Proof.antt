@@ -15,7 +15,7 @@ use Rattle.demands.proofs.needs.count_candidates.Statement.{statement}
 use Rattle.demands.proofs.needs.count_candidates.Tie as tie
 use Rattle.demands.proofs.needs.count_candidates.Reads as reads
 use Rattle.demands.proofs.needs.count_candidates.Lts as lts
-use Rattle.demands.proofs.sets.type_of.Reads as type-of-reads
+use Rattle.clashes.proofs.type_of.Reads as type-of-reads
 use Rattle.laws.proofs.has32.Reads as has32-reads
 use Rattle.laws.proofs.has8.Reads as has8-reads
 

@@ -12,7 +12,7 @@ use Rattle.demands.proofs.parts.with_whole.Reads as reads
 use Rattle.demands.proofs.parts.with_whole.Lts as lts
 use Rattle.common_wholes.proofs.common_whole.Reads as common-whole-reads
 use Rattle.demands.proofs.needs.with_limits.Reads as with-limits-reads
-use Rattle.demands.proofs.sets.type_of.Reads as type-of-reads
+use Rattle.clashes.proofs.type_of.Reads as type-of-reads
 
 type-of-requires : tie.Need-type-of-requires
 type-of-requires c κs = search needs

@@ -5,7 +5,8 @@ use mathlib.Core.Path.{subst}
 use native.Mathlib.Omega.{arith}
 use Rattle.link_search.specs.Nets.{Within}
 use Rattle.demands.specs.Wishes.{Sharpens}
-use Rattle.demands.specs.Families.{RowsOpen, targetCount}
+use Rattle.clashes.specs.Counts.{targetCount}
+use Rattle.demands.specs.Families.{RowsOpen}
 use Rattle.demands.proofs.RowLaws.{own-sharp}
 use borrow.Author.Needs.{needs}
 use Rattle.demands.proofs.rows.with_first_row.Statement.{statement}
@@ -13,9 +14,9 @@ use Rattle.demands.proofs.rows.with_first_row.Tie as tie
 use Rattle.demands.proofs.rows.with_first_row.Reads as reads
 use Rattle.demands.proofs.rows.with_first_row.Lts as lts
 use Rattle.demands.proofs.needs.with_limits.Reads as with-limits-reads
-use Rattle.demands.proofs.rows.larger.Reads as larger-reads
-use Rattle.demands.proofs.rows.rows_at.Reads as rows-at-reads
-use Rattle.demands.proofs.rows.smaller.Reads as smaller-reads
+use Rattle.type_tables.proofs.larger.Reads as larger-reads
+use Rattle.clashes.proofs.rows_at.Reads as rows-at-reads
+use Rattle.type_tables.proofs.smaller.Reads as smaller-reads
 use Rattle.laws.proofs.wide.Reads as wide-reads
 
 wide-requires : tie.Need-wide-requires

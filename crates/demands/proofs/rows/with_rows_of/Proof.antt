@@ -14,7 +14,7 @@ use Rattle.demands.proofs.rows.with_rows_of.Tie as tie
 use Rattle.demands.proofs.rows.with_rows_of.Reads as reads
 use Rattle.demands.proofs.rows.with_rows_of.Lts as lts
 use Rattle.demands.proofs.needs.with_limits.Reads as with-limits-reads
-use Rattle.demands.proofs.rows.rows_at.Reads as rows-at-reads
+use Rattle.clashes.proofs.rows_at.Reads as rows-at-reads
 use Rattle.laws.proofs.wide.Reads as wide-reads
 
 abbrev Inv-loop : tie.InvT-loop

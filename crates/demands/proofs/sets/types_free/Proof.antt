@@ -6,7 +6,7 @@ use Rattle.demands.proofs.sets.types_free.Statement.{statement}
 use Rattle.demands.proofs.sets.types_free.Tie as tie
 use Rattle.demands.proofs.sets.types_free.Reads as reads
 use Rattle.demands.proofs.sets.types_free.Lts as lts
-use Rattle.demands.proofs.sets.without.Reads as without-reads
+use Rattle.type_tables.proofs.without.Reads as without-reads
 
 without-requires : tie.Need-without-requires
 without-requires c κs = search needs

@@ -13,7 +13,7 @@ use Rattle.demands.proofs.sets.types_present.Statement.{statement}
 use Rattle.demands.proofs.sets.types_present.Tie as tie
 use Rattle.demands.proofs.sets.types_present.Reads as reads
 use Rattle.demands.proofs.sets.types_present.Lts as lts
-use Rattle.demands.proofs.sets.type_of.Reads as type-of-reads
+use Rattle.clashes.proofs.type_of.Reads as type-of-reads
 use Rattle.laws.proofs.with32.Reads as with32-reads
 
 abbrev Inv-loop : tie.InvT-loop

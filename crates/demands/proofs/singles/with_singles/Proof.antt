@@ -14,7 +14,7 @@ use Rattle.demands.proofs.singles.with_singles.Tie as tie
 use Rattle.demands.proofs.singles.with_singles.Reads as reads
 use Rattle.demands.proofs.singles.with_singles.Lts as lts
 use Rattle.demands.proofs.needs.with_need.Reads as with-need-reads
-use Rattle.demands.proofs.sets.without.Reads as without-reads
+use Rattle.type_tables.proofs.without.Reads as without-reads
 use Rattle.laws.proofs.has32.Reads as has32-reads
 use Rattle.laws.proofs.with32.Reads as with32-reads
 

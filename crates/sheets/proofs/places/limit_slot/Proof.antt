@@ -14,7 +14,7 @@ use Rattle.sheets.proofs.places.limit_slot.Lts as lts
 use Rattle.laws.proofs.wide.Reads as wide-reads
 use Rattle.sheets.proofs.places.is_among.Reads as is-among-reads
 use Rattle.type_tables.proofs.larger.Reads as larger-reads
-use Rattle.type_tables.proofs.lesser.Reads as lesser-reads
+use Rattle.type_tables.proofs.smaller.Reads as smaller-reads
 
 abbrev Inv-loop : tie.InvT-loop
 Inv-loop lows₀ highs₀ set s low high k t₀ lows highs t =
@@ -58,15 +58,15 @@ element-write-lows c = let b = c .before .before .before .before in
     let h : a .s < 32 = place-slot (a .s) (bit (l .loop .t) (a .set)) (b .before .is-among .ensures) (b .if1 .taken) in
     omega arith
 
-element-copy-out-lesser : tie.Need-element-copy-out-lesser Inv-loop μ-loop
-element-copy-out-lesser c = let b = c .before .before .before .before in
+element-copy-out-smaller : tie.Need-element-copy-out-smaller Inv-loop μ-loop
+element-copy-out-smaller c = let b = c .before .before .before .before in
     let l = b .before .before .before in
     let a = l .before .args in
     let h : a .s < 32 = place-slot (a .s) (bit (l .loop .t) (a .set)) (b .before .is-among .ensures) (b .if1 .taken) in
     omega arith
 
-lesser-requires : tie.Need-lesser-requires Inv-loop μ-loop
-lesser-requires c κs = search needs
+smaller-requires : tie.Need-smaller-requires Inv-loop μ-loop
+smaller-requires c κs = search needs
 
 element-write-highs : tie.Need-element-write-highs Inv-loop μ-loop
 element-write-highs c = let b = c .before .before .before .before .before .before in
@@ -118,8 +118,8 @@ limit-slot-spec =
     element-copy-out-larger
     larger-requires
     element-write-lows
-    element-copy-out-lesser
-    lesser-requires
+    element-copy-out-smaller
+    smaller-requires
     element-write-highs
     add-t
     loop-less

@@ -1,0 +1,7 @@
+pub mod SolutionLaws
+pub mod BitsLaws
+pub mod ClashLaws
+pub mod MirrorLaws
+pub mod PartLaws
+pub mod FirstLaws
+pub mod TwoWholesLaws

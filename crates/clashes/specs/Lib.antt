@@ -1,0 +1,3 @@
+pub mod Counts
+pub mod Refuted
+pub mod Clashes
