@@ -5,50 +5,12 @@ ghost use Prim.Native.Nat.{ℕ, _<_, _≤_, _*_, _+_};
 ghost use lib.ListN.{getD};
 ghost use Rattle.laws.specs.Bits.{Marks};
 ghost use Rattle.masks.specs.Masks.{limitsOf};
-ghost use Rattle.rules.specs.Arrow.{carriesRight, carriesLeft, countedRight, countedLeft, mirrors};
 ghost use Rattle.rules.specs.LinkRules.{rule6, rule7, rule8};
 ghost use Rattle.rules.specs.WholeRule.{rule9};
 ghost use Rattle.link_rules.specs.Judged.{Says};
 ghost use Rattle.link_rules.specs.LinksIn.{Fits, instancesIn, targetsIn, rule6RightIn, rule6LeftIn, rule6AtIn, rule6In, sourcesIn, rule7RightIn, rule7LeftIn, rule7AtIn, rule7In, mirroredIn, rule8AtIn, rule8In};
 ghost use Rattle.link_rules.specs.WholesIn.{wholeByIn, isWholeIn, rule9AtIn, rule9In, oneWholeAtIn, oneWholeIn};
 use diagrams::Associations;
-
-// ---- arrows
-
-// r2 links, from the left to the right.
-pub fn carries_right(arrow: u8) -> bool
-    ensures { λ r. ⌜ r ≡ carriesRight arrow ⌝ }
-{
-    (arrow == 1) | ((arrow == 3) | (arrow == 4))
-}
-
-// r1 links, from the right to the left.
-pub fn carries_left(arrow: u8) -> bool
-    ensures { λ r. ⌜ r ≡ carriesLeft arrow ⌝ }
-{
-    (arrow == 2) | ((arrow == 3) | (arrow == 4))
-}
-
-// The sources of r2 links are counted.
-pub fn counted_right(arrow: u8) -> bool
-    ensures { λ r. ⌜ r ≡ countedRight arrow ⌝ }
-{
-    arrow == 1
-}
-
-// The sources of r1 links are counted.
-pub fn counted_left(arrow: u8) -> bool
-    ensures { λ r. ⌜ r ≡ countedLeft arrow ⌝ }
-{
-    arrow == 2
-}
-
-// Each link of the one role has its mirror of the other.
-pub fn is_mirrored(arrow: u8) -> bool
-    ensures { λ r. ⌜ r ≡ mirrors arrow ⌝ }
-{
-    arrow == 3
-}
 
 // ---- ends
 
@@ -102,7 +64,7 @@ fn rule6_right<'a>(
     requires { ⌜ Fits a (now slots) n × (i < a .count) ⌝ }
     ensures { λ r. ⌜ r ≡ rule6RightIn a (now (links .entry)) (now (masks .entry)) (now (slots .entry)) n i ⌝ }
 {
-    if !carries_right(a.arrows[i]) {
+    if !arrows::carries_right(a.arrows[i]) {
         return true;
     }
     let left = i * 2;
@@ -124,7 +86,7 @@ fn rule6_left<'a>(
     requires { ⌜ Fits a (now slots) n × (i < a .count) ⌝ }
     ensures { λ r. ⌜ r ≡ rule6LeftIn a (now (links .entry)) (now (masks .entry)) (now (slots .entry)) n i ⌝ }
 {
-    if !carries_left(a.arrows[i]) {
+    if !arrows::carries_left(a.arrows[i]) {
         return true;
     }
     let left = i * 2;
@@ -207,7 +169,7 @@ fn rule7_right<'a>(
     requires { ⌜ Fits a (now slots) n × (i < a .count) ⌝ }
     ensures { λ r. ⌜ r ≡ rule7RightIn a (now (links .entry)) (now (masks .entry)) (now (slots .entry)) n i ⌝ }
 {
-    if !counted_right(a.arrows[i]) {
+    if !arrows::counted_right(a.arrows[i]) {
         return true;
     }
     let left = i * 2;
@@ -229,7 +191,7 @@ fn rule7_left<'a>(
     requires { ⌜ Fits a (now slots) n × (i < a .count) ⌝ }
     ensures { λ r. ⌜ r ≡ rule7LeftIn a (now (links .entry)) (now (masks .entry)) (now (slots .entry)) n i ⌝ }
 {
-    if !counted_left(a.arrows[i]) {
+    if !arrows::counted_left(a.arrows[i]) {
         return true;
     }
     let left = i * 2;
@@ -316,7 +278,7 @@ fn rule8_at<'a>(
     requires { ⌜ Fits a (now slots) n × (i < a .count) ⌝ }
     ensures { λ r. ⌜ r ≡ rule8AtIn a (now (links .entry)) (now (masks .entry)) (now (slots .entry)) n i ⌝ }
 {
-    if !is_mirrored(a.arrows[i]) {
+    if !arrows::is_mirrored(a.arrows[i]) {
         return true;
     }
     mirror_holds(a, links, masks, slots, n, i)

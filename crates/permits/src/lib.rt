@@ -45,7 +45,7 @@ fn is_permitting<'a>(
     let left = a * 2;
     let right = a * 2 + 1;
     is_joining(
-        link_rules::carries_right(arrow),
+        arrows::carries_right(arrow),
         types,
         masks,
         slots,
@@ -56,7 +56,7 @@ fn is_permitting<'a>(
         right,
     )
         | is_joining(
-            link_rules::carries_left(arrow),
+            arrows::carries_left(arrow),
             types,
             masks,
             slots,

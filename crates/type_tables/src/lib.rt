@@ -185,9 +185,9 @@ pub fn is_carried(arrows: &[u8; 16], e: u8) -> bool
 {
     let arrow = laws::byte(arrows, laws::wide(e / 2));
     if e % 2 == 0 {
-        return link_rules::carries_left(arrow);
+        return arrows::carries_left(arrow);
     }
-    link_rules::carries_right(arrow)
+    arrows::carries_right(arrow)
 }
 
 // ---- limits

@@ -3,14 +3,13 @@
 use crate::instances::{attribute_names, is_concrete, roles_of, targets, value_types_of};
 use crate::plan::DiagramPlan;
 
-/// The most fillings of old that the product's search, which fills spot by spot, looks through in a
-/// moment. Tests draw a pair again, or compare it at a smaller bound, where there are more. For a
-/// search that passes over most fillings: a higher number, or None for no limit.
-const SEARCHED_SOON: Option<u64> = Some(3_000);
+/// The most fillings of old that the independent search looks through in a moment. Tests draw a pair
+/// again where there are more.
+const SEARCHED_SOON: u64 = 30_000;
 
-/// Whether the product compares this old diagram up to this bound in a moment.
+/// Whether the independent search compares this old diagram up to this bound in a moment.
 pub fn searched_soon(old: &DiagramPlan, bound: usize) -> bool {
-    SEARCHED_SOON.is_none_or(|most| fillings(old, bound, most) < most)
+    fillings(old, bound, SEARCHED_SOON) < SEARCHED_SOON
 }
 
 /// The number of records with up to `objects` objects whose types, values and links fit spot by

@@ -5,7 +5,7 @@ use Rattle.link_rules.proofs.rule6_left.Statement.{statement}
 use Rattle.link_rules.proofs.rule6_left.Tie as tie
 use Rattle.link_rules.proofs.rule6_left.Reads as reads
 use Rattle.link_rules.proofs.rule6_left.Lts as lts
-use Rattle.link_rules.proofs.carries_left.Reads as carries-left-reads
+use Rattle.arrows.proofs.carries_left.Reads as carries-left-reads
 use Rattle.link_rules.proofs.targets_hold.Reads as targets-hold-reads
 
 element-copy-out-carries-left : tie.Need-element-copy-out-carries-left

@@ -5,7 +5,7 @@ use Rattle.link_rules.proofs.rule6_right.Statement.{statement}
 use Rattle.link_rules.proofs.rule6_right.Tie as tie
 use Rattle.link_rules.proofs.rule6_right.Reads as reads
 use Rattle.link_rules.proofs.rule6_right.Lts as lts
-use Rattle.link_rules.proofs.carries_right.Reads as carries-right-reads
+use Rattle.arrows.proofs.carries_right.Reads as carries-right-reads
 use Rattle.link_rules.proofs.targets_hold.Reads as targets-hold-reads
 
 element-copy-out-carries-right : tie.Need-element-copy-out-carries-right

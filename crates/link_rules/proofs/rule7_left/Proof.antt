@@ -5,7 +5,7 @@ use Rattle.link_rules.proofs.rule7_left.Statement.{statement}
 use Rattle.link_rules.proofs.rule7_left.Tie as tie
 use Rattle.link_rules.proofs.rule7_left.Reads as reads
 use Rattle.link_rules.proofs.rule7_left.Lts as lts
-use Rattle.link_rules.proofs.counted_left.Reads as counted-left-reads
+use Rattle.arrows.proofs.counted_left.Reads as counted-left-reads
 use Rattle.link_rules.proofs.sources_hold.Reads as sources-hold-reads
 
 element-copy-out-counted-left : tie.Need-element-copy-out-counted-left

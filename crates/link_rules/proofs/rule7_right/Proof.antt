@@ -5,7 +5,7 @@ use Rattle.link_rules.proofs.rule7_right.Statement.{statement}
 use Rattle.link_rules.proofs.rule7_right.Tie as tie
 use Rattle.link_rules.proofs.rule7_right.Reads as reads
 use Rattle.link_rules.proofs.rule7_right.Lts as lts
-use Rattle.link_rules.proofs.counted_right.Reads as counted-right-reads
+use Rattle.arrows.proofs.counted_right.Reads as counted-right-reads
 use Rattle.link_rules.proofs.sources_hold.Reads as sources-hold-reads
 
 element-copy-out-counted-right : tie.Need-element-copy-out-counted-right

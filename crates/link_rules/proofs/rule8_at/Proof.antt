@@ -5,7 +5,7 @@ use Rattle.link_rules.proofs.rule8_at.Statement.{statement}
 use Rattle.link_rules.proofs.rule8_at.Tie as tie
 use Rattle.link_rules.proofs.rule8_at.Reads as reads
 use Rattle.link_rules.proofs.rule8_at.Lts as lts
-use Rattle.link_rules.proofs.is_mirrored.Reads as is-mirrored-reads
+use Rattle.arrows.proofs.is_mirrored.Reads as is-mirrored-reads
 use Rattle.link_rules.proofs.mirror_holds.Reads as mirror-holds-reads
 
 element-copy-out-is-mirrored : tie.Need-element-copy-out-is-mirrored

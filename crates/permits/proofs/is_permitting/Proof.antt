@@ -6,8 +6,8 @@ use Rattle.permits.proofs.is_permitting.Reads as reads
 use Rattle.permits.proofs.is_permitting.Lts as lts
 use Rattle.laws.proofs.byte.Reads as byte-reads
 use Rattle.laws.proofs.wide.Reads as wide-reads
-use Rattle.link_rules.proofs.carries_left.Reads as carries-left-reads
-use Rattle.link_rules.proofs.carries_right.Reads as carries-right-reads
+use Rattle.arrows.proofs.carries_left.Reads as carries-left-reads
+use Rattle.arrows.proofs.carries_right.Reads as carries-right-reads
 use Rattle.permits.proofs.is_joining.Reads as is-joining-reads
 
 wide-requires : tie.Need-wide-requires

@@ -6,8 +6,8 @@ use Rattle.type_tables.proofs.is_carried.Reads as reads
 use Rattle.type_tables.proofs.is_carried.Lts as lts
 use Rattle.laws.proofs.byte.Reads as byte-reads
 use Rattle.laws.proofs.wide.Reads as wide-reads
-use Rattle.link_rules.proofs.carries_left.Reads as carries-left-reads
-use Rattle.link_rules.proofs.carries_right.Reads as carries-right-reads
+use Rattle.arrows.proofs.carries_left.Reads as carries-left-reads
+use Rattle.arrows.proofs.carries_right.Reads as carries-right-reads
 
 wide-requires : tie.Need-wide-requires
 wide-requires c κs = search needs

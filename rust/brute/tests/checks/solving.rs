@@ -4,7 +4,6 @@ use crate::product;
 use brute::{compare_within, read_diagram};
 use generators::diagrams::{diagram, loosened, Size, SMALL, TINY};
 use generators::edits::{edited, redrawn};
-use generators::fillings::searched_soon;
 use generators::hex::hex;
 use generators::upper_limits::{tightened, widened};
 use generators::{CallPlan, DiagramPlan, Random};
@@ -40,14 +39,13 @@ const SIZES: [Size; 4] = [
 ];
 
 /// How many pairs had a difference, by its object count, or none; at how many the solver ran out
-/// of time; how many brute force answered too, and up to which bound the product did.
+/// of time, so that they were compared up to the bound before; how many brute force answered too.
 #[derive(Default, Debug)]
 pub struct Tally {
     pub differences: [usize; BOUND + 1],
     pub no_difference: usize,
     pub timed_out: usize,
     pub by_brute_force: usize,
-    pub by_product: [usize; BOUND + 1],
 }
 
 /// Compares the pair of a seed in all three ways.
@@ -80,11 +78,8 @@ pub fn solver_agrees(seed: u64, tally: &mut Tally) {
         assert_eq!(count, expected, "brute force, bound {bound}\n{shown}");
         tally.by_brute_force += 1;
     }
-    let bound = searchable(&old_plan, known);
-    let expected = least.filter(|count| *count <= bound);
-    let reply = compared([old_file, new_file], bound);
-    assert_eq!(reply, expected, "the product, bound {bound}\n{shown}");
-    tally.by_product[bound] += 1;
+    let reply = compared([old_file, new_file], known);
+    assert_eq!(reply, least, "the product, bound {known}\n{shown}");
 }
 
 /// A diagram and a small edit of it, in either order.
@@ -107,12 +102,6 @@ fn pair(seed: u64) -> (DiagramPlan, DiagramPlan) {
         true => (one, other),
         false => (other, one),
     }
-}
-
-/// The largest bound, at most `most`, up to which the product ends in a moment.
-fn searchable(old: &DiagramPlan, most: usize) -> usize {
-    let soon = |bound: &usize| searched_soon(old, *bound);
-    (1..=most).take_while(soon).last().unwrap_or(0)
 }
 
 /// The object count of the product's difference, if it finds one.

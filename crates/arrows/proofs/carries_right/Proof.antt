@@ -1,10 +1,10 @@
 use Rattle.laws.specs.Connective.{either}
 use Rattle.rules.specs.Arrow.{carriesRight}
 use borrow.Author.Needs.{needs}
-use Rattle.link_rules.proofs.carries_right.Statement.{statement}
-use Rattle.link_rules.proofs.carries_right.Tie as tie
-use Rattle.link_rules.proofs.carries_right.Reads as reads
-use Rattle.link_rules.proofs.carries_right.Lts as lts
+use Rattle.arrows.proofs.carries_right.Statement.{statement}
+use Rattle.arrows.proofs.carries_right.Tie as tie
+use Rattle.arrows.proofs.carries_right.Reads as reads
+use Rattle.arrows.proofs.carries_right.Lts as lts
 
 returns : tie.Need-returns
 unfolding carriesRight either

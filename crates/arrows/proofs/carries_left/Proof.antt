@@ -1,10 +1,10 @@
 use Rattle.laws.specs.Connective.{either}
 use Rattle.rules.specs.Arrow.{carriesLeft}
 use borrow.Author.Needs.{needs}
-use Rattle.link_rules.proofs.carries_left.Statement.{statement}
-use Rattle.link_rules.proofs.carries_left.Tie as tie
-use Rattle.link_rules.proofs.carries_left.Reads as reads
-use Rattle.link_rules.proofs.carries_left.Lts as lts
+use Rattle.arrows.proofs.carries_left.Statement.{statement}
+use Rattle.arrows.proofs.carries_left.Tie as tie
+use Rattle.arrows.proofs.carries_left.Reads as reads
+use Rattle.arrows.proofs.carries_left.Lts as lts
 
 returns : tie.Need-returns
 unfolding carriesLeft either

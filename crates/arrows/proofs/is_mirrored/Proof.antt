@@ -1,0 +1,13 @@
+use Rattle.rules.specs.Arrow.{mirrors}
+use borrow.Author.Needs.{needs}
+use Rattle.arrows.proofs.is_mirrored.Statement.{statement}
+use Rattle.arrows.proofs.is_mirrored.Tie as tie
+use Rattle.arrows.proofs.is_mirrored.Reads as reads
+use Rattle.arrows.proofs.is_mirrored.Lts as lts
+
+returns : tie.Need-returns
+unfolding mirrors
+returns c = cc
+
+pub is-mirrored-spec : {M : Type 1} → statement M
+is-mirrored-spec = tie.close (tie.spec returns)
