@@ -79,9 +79,10 @@ pub fn compare(old: StoredDiagram, new: StoredDiagram, bound: u8) -> Found
 {
     let dues = type_tables::due_values(old);
     let own = sheets::rows_by(old, old);
-    let sources = sheets::sources_of(&own.targets);
     let lines = sheets::lines_by(old, old);
     let usable = sheets::usable_types(old, &dues);
+    let targets = narrowing::narrowed(&own.targets, &own.highs, usable);
+    let sources = sheets::sources_of(&targets);
     let singles = sheets::single_types(old, old);
     let other = sheets::rows_by(old, new);
     let lines2 = sheets::lines_by(old, new);
@@ -92,7 +93,7 @@ pub fn compare(old: StoredDiagram, new: StoredDiagram, bound: u8) -> Found
         old,
         new,
         &dues,
-        &own.targets,
+        &targets,
         &sources,
         &own.lows,
         &own.highs,

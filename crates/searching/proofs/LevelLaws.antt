@@ -19,6 +19,7 @@ use Rattle.worlds.specs.Kept as worlds
 use Rattle.worlds.specs.Kept.{Sheet, worldIn, worldOf}
 use Rattle.worlds.specs.declared.Built.{Built}
 use Rattle.worlds.specs.declared.Lines.{Lines}
+use Rattle.narrowing.proofs.NarrowLaws.{from-narrow, to-narrow}
 use Rattle.type_values.specs.Filled.{Filled}
 use Rattle.differing.proofs.CompleteLaws.{keeps-legal, legal-allowed}
 use Rattle.differing.proofs.FilledLaws.{filled-witness}
@@ -29,6 +30,10 @@ use Rattle.searching.specs.declared.Found.{Found}
 module _ {old new : Diagram} {dues : List ℕ} {x : Sheet} {sources : List ℕ} {bad singles : ℕ} {missing : Bool} {targets lows highs : List ℕ} {y : Lines} (n : ℕ) (b : Built)
     (wo : WfDiagram old) (wn : WfDiagram new) (ready : Ready old new dues x sources bad singles missing targets lows highs y)
     (breaks : Breaks x (worlds.Keeps bad singles missing targets lows highs y) n (b .ok) (worldBuilt n b)) where
+  -- old's sheet with its own table
+  abbrev own : Sheet
+  own = worlds.sheet (x .usable) (x .singles) (ready .own) (x .lows) (x .highs) (x .lines)
+
   -- a record has as many objects in memory
   memory-size : (r : Record) → objectCount r ≡ n → worldOf (memoryOf old r) .size ≡ n
   unfolding worldIn memoryOf
@@ -41,7 +46,7 @@ module _ {old new : Diagram} {dues : List ℕ} {x : Sheet} {sources : List ℕ} 
     complete = λ _ r wfr size legal illegal.
         let h = memory-stands old r wo wfr in
         illegal (keeps-legal old new r (memoryOf old r) h legal wn bad singles missing targets lows highs y (ready .others-are)
-        (breaks .kept (not-true _ none) (worldOf (memoryOf old r)) (legal-allowed old new r (memoryOf old r) h legal x (ready .sheet-is)) (memory-size r size)));
+        (breaks .kept (not-true _ none) (worldOf (memoryOf old r)) (to-narrow own (x .targets) (ready .narrow-is) (worldOf (memoryOf old r)) (legal-allowed old new r (memoryOf old r) h legal own (ready .sheet-is))) (memory-size r size)));
   }
 
   -- the types of what was found are types of old
@@ -52,6 +57,6 @@ module _ {old new : Diagram} {dues : List ℕ} {x : Sheet} {sources : List ℕ} 
   pub level-found : {f : Found} → b .ok ≡ true → f .ok ≡ true → Filled old new (b .types) (b .links) n (f .witness) → Level old new n f
   level-found {f} ok e filled = record {
     count = λ _. filled .count-is;
-    sound = λ _. filled-witness old new wo wn x (ready .sheet-is) (b .types) (b .links) n (f .witness) filled (breaks .allowed ok) bad singles missing targets lows highs y (ready .others-are) (breaks .broken ok);
+    sound = λ _. filled-witness old new wo wn own (ready .sheet-is) (b .types) (b .links) n (f .witness) filled (from-narrow own (x .targets) (ready .narrow-is) (worldBuilt n b) (breaks .allowed ok)) bad singles missing targets lows highs y (ready .others-are) (breaks .broken ok);
     complete = λ h. absurd (true≢false (sym e ∙ h));
   }
