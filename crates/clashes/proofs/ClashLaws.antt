@@ -83,6 +83,15 @@ module _ (first here s mask least most : ℕ) where
         → Never (λ w. FirstSources first here s mask least most w × TurnedSources s there t row low high w)
     back-less h i = record { at = λ w p. omega (arith, sources-fewer w (p .0) there t row low high (p .1) i, p .0 .within .least, p .1 .within .most) }
 
+-- ---- a mirror, read from the left to the right, and from the right to the left
+
+module _ (x : Lines) (j s : ℕ) (small : j < 16) (w : World) (some : 0 < w .size) (mirrors : MirrorsKept x w) where
+  pub linked-right : getD (x .mirrorright) j 0 ≡ s → bit (w .kind 0) (getD (x .mirrorto) j 0) ≡ true → LinkedBack s (getD (x .mirrorfrom) j 0) (getD (x .mirrorleft) j 0) w
+  linked-right e to = record { at = λ o l h. ap (λ (z : ℕ). w .link z o 0) (sym e) ∙ mirrors .at j o 0 small l some h to }
+
+  pub linked-left : getD (x .mirrorleft) j 0 ≡ s → bit (w .kind 0) (getD (x .mirrorfrom) j 0) ≡ true → LinkedBack s (getD (x .mirrorto) j 0) (getD (x .mirrorright) j 0) w
+  linked-left e from = record { at = λ o l h. ap (λ (z : ℕ). w .link z o 0) (sym e) ∙ sym (mirrors .at j 0 o small some l from h) }
+
 -- ---- what is known besides, as limits of this form
 
 module _ (first here s mask least most : ℕ) where
@@ -120,28 +129,16 @@ module _ (first here s mask least most : ℕ) where
           → Never (λ w. FirstSources first here s mask least most w × RowsKept targets lows highs w × LinkedBack s (getD (x .mirrorfrom) j 0) (getD (x .mirrorleft) j 0) w)
           → Never (λ w. FirstSources first here s mask least most w × RowsKept targets lows highs w × MirrorsKept x w)
       never-mirror e to f = record {
-        at = λ w p. f .at w (
-          p .0,
-          p .1,
-          record {
-            at = λ o l h. ap (λ (z : ℕ). w .link z o 0) (sym e)
-                ∙ p .2 .at j o 0 small l (p .0 .some) h (ap (λ (t : ℕ). bit t (getD (x .mirrorto) j 0)) (p .0 .kind) ∙ to);
-          },
-        );
+        at = λ w p. f .at w
+            (p .0, p .1, linked-right x j s small w (p .0 .some) (p .2) e (ap (λ (t : ℕ). bit t (getD (x .mirrorto) j 0)) (p .0 .kind) ∙ to));
       }
 
       pub never-mirror-back : getD (x .mirrorleft) j 0 ≡ s → bit first (getD (x .mirrorfrom) j 0) ≡ true
           → Never (λ w. FirstSources first here s mask least most w × RowsKept targets lows highs w × LinkedBack s (getD (x .mirrorto) j 0) (getD (x .mirrorright) j 0) w)
           → Never (λ w. FirstSources first here s mask least most w × RowsKept targets lows highs w × MirrorsKept x w)
       never-mirror-back e from f = record {
-        at = λ w p. f .at w (
-          p .0,
-          p .1,
-          record {
-            at = λ o l h. ap (λ (z : ℕ). w .link z o 0) (sym e)
-                ∙ sym (p .2 .at j 0 o small (p .0 .some) l (ap (λ (t : ℕ). bit t (getD (x .mirrorfrom) j 0)) (p .0 .kind) ∙ from) h);
-          },
-        );
+        at = λ w p. f .at w
+            (p .0, p .1, linked-left x j s small w (p .0 .some) (p .2) e (ap (λ (t : ℕ). bit t (getD (x .mirrorfrom) j 0)) (p .0 .kind) ∙ from));
       }
 
   -- y: where the tables have the row of the first object in slot t

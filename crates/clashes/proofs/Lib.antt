@@ -4,4 +4,5 @@ pub mod ClashLaws
 pub mod MirrorLaws
 pub mod PartLaws
 pub mod FirstLaws
+pub mod FirstTargetsLaws
 pub mod TwoWholesLaws

@@ -1,9 +1,8 @@
 -- Two targets whose links back make them wholes are two wholes of one object, and there is none with two.
 -- Assumes nothing.
-use Prim.Native.Nat.{_*_, _+_, _<_, _≤_, ℕ}
+use Prim.Native.Nat.{_<_, _≤_, ℕ}
 use mathlib.Core.Bool.{_&&_, true}
-use mathlib.Core.List.{List}
-use mathlib.Core.Path.{_∙_, _≡_, ap, subst, sym}
+use mathlib.Core.Path.{_∙_, _≡_, ap, sym}
 use native.Mathlib.Omega.{arith}
 use lib.Bits.{bitAnd}
 use lib.ListN.{getD}
@@ -12,18 +11,15 @@ use Rattle.laws.proofs.BitLaws.{bit-and}
 use Rattle.laws.proofs.ConnectiveLaws.{and-both, and-left, and-right}
 use Rattle.laws.proofs.CountLaws.{tally-mono}
 use Rattle.growing.specs.World.{World}
-use Rattle.link_search.specs.Nets.{Within}
 use Rattle.worlds.specs.declared.Lines.{Lines}
-use Rattle.worlds.specs.Kept.{MirrorsKept, RowsKept, WholesKept, wholeOf}
-use Rattle.clashes.specs.Clashes.{Never, TwoTargets}
-use Rattle.clashes.specs.Counts.{targetCount}
-use Rattle.clashes.specs.Refuted.{Begun, Refuted}
+use Rattle.worlds.specs.Kept.{MirrorsKept, WholesKept, wholeOf}
+use Rattle.clashes.specs.Clashes.{FirstTargets, Never}
 use Rattle.clashes.proofs.ClashLaws.{whole-by}
 
 module _ (x : Lines) (t slot mask j : ℕ) (small : j < 16) (left : getD (x .mirrorleft) j 0 ≡ slot) (right : getD (x .wholeslot) j 0 ≡ getD (x .mirrorright) j 0)
     (target : bit t (getD (x .mirrorto) j 0) ≡ true) (part : bit t (getD (x .wholeto) j 0) ≡ true)
     (inside : (u : ℕ) → bit u mask ≡ true → bit u (bitAnd (getD (x .mirrorfrom) j 0) (getD (x .wholefrom) j 0)) ≡ true) where
-  module _ (w : World) (f : TwoTargets t slot mask w) (mirrors : MirrorsKept x w) where
+  module _ (low high : ℕ) (w : World) (f : FirstTargets t slot mask low high w) (mirrors : MirrorsKept x w) where
     target-whole : (o : ℕ) → o < w .size → w .link slot 0 o ≡ true → wholeOf x w 0 o ≡ true
     target-whole o l e =
         whole-by x w 0 o j small
@@ -39,31 +35,10 @@ module _ (x : Lines) (t slot mask j : ℕ) (small : j < 16) (left : getD (x .mir
             ∙ mirrors .at j o 0 small l (f .some) (and-left (bit (w .kind o) (getD (x .mirrorfrom) j 0)) (bit (w .kind o) (getD (x .wholefrom) j 0)) both) (ap (λ (u : ℕ). bit u (getD (x .mirrorto) j 0)) (f .kind) ∙ target)
             ∙ ap (λ (z : ℕ). w .link z 0 o) left ∙ e
 
-  pub two-wholes : Never (λ w. TwoTargets t slot mask w × MirrorsKept x w × WholesKept x w)
-  two-wholes = record {
+  pub two-wholes : (low high : ℕ) → 2 ≤ low → Never (λ w. FirstTargets t slot mask low high w × (MirrorsKept x w × WholesKept x w))
+  two-wholes low high two = record {
     at = λ w p.
-        let a = tally-mono (λ o. w .link slot 0 o) (wholeOf x w 0) (w .size) (target-whole w (p .0) (p .1)) in
-        let b = p .2 .at 0 (p .0 .some) in
-        omega (arith, p .0 .two);
+        let a = tally-mono (λ o. w .link slot 0 o) (wholeOf x w 0) (w .size) (target-whole low high w (p .0) (p .1 .0)) in
+        let b = p .1 .1 .at 0 (p .0 .some) in
+        omega (arith, p .0 .within .least);
   }
-
--- y: where the table has the row of the first object in the slot
-pub first-part-refuted : (x : Lines) (targets lows highs types : List ℕ) (first row low high y seeds : ℕ) → row < 32 → first ≡ getD types 0 0 → y ≡ getD types 0 0 * 32 + row → 2 ≤ low
-    → 0 < seeds → Never (λ w. TwoTargets first row (getD targets y 0) w × MirrorsKept x w × WholesKept x w)
-    → Refuted (λ w. RowsKept targets lows highs w × MirrorsKept x w × WholesKept x w × Within low high (targetCount w row 0)) types seeds
-first-part-refuted x targets lows highs types first row low high y seeds small is e many some never = record {
-  at = λ w b p.
-      let k : w .kind 0 ≡ getD types 0 0 = b .kept 0 some in
-      let z : w .kind 0 * 32 + row ≡ y = omega arith in
-      let l : 0 < w .size = omega (arith, b .many) in
-      never .at w (
-        record {
-          some = l;
-          kind = k ∙ sym is;
-          typed = λ o a h. subst (λ (v : ℕ). bit (w .kind o) (getD targets v 0) ≡ true) z (p .0 .allowed row 0 o small l a h);
-          two = omega (arith, p .3 .least);
-        },
-        p .1,
-        p .2,
-      );
-}

@@ -1,6 +1,6 @@
 -- Limits that exclude each other: what is known of the sources of the first object, and which properties no world has together.
 -- Assumes nothing.
-use Prim.Native.Nat.{_<_, _≤_, ℕ}
+use Prim.Native.Nat.{_<_, ℕ}
 use mathlib.Core.Bool.{true}
 use mathlib.Core.List.{List}
 use mathlib.Core.Path.{_≡_}
@@ -45,9 +45,9 @@ pub record FirstColumn (targets sources lows highs : List ℕ) (x : Lines) (s ma
   pub wholes : WholesKept x w
   pub within : Within least most (sourceCount w s mask 0)
 
--- the first object has the type `first`, and at least two targets in slot s, with types of the mask
-pub record TwoTargets (first s mask : ℕ) (w : World) : Type 0 where
+-- the first object has the type `first`; its targets in slot s have types of the mask, and their number has limits
+pub record FirstTargets (first s mask low high : ℕ) (w : World) : Type 0 where
   pub some : 0 < w .size
   pub kind : w .kind 0 ≡ first
   pub typed : (p : ℕ) → p < w .size → w .link s 0 p ≡ true → bit (w .kind p) mask ≡ true
-  pub two : 2 ≤ targetCount w s 0
+  pub within : Within low high (targetCount w s 0)

@@ -19,7 +19,7 @@ fn is_apart(here: u32, mask: u32, least: u8, most: u8, other: u32, low: u8, high
 }
 
 // The same where the other limits are for the links back.
-fn is_apart_back(
+pub fn is_apart_back(
     here: u32,
     mask: u32,
     least: u8,

@@ -7,6 +7,7 @@ ghost use Rattle.growing.specs.Growth.{Nowhere};
 ghost use Rattle.worlds.specs.Kept.{Slotted, Turned, sheet};
 ghost use Rattle.worlds.specs.Asked.{Sane, Solution};
 
+mod back;
 mod bits;
 mod counts;
 mod first;
@@ -62,6 +63,9 @@ pub fn is_implied<'a>(
         return true;
     }
     if parts::is_bad_first_part(lines, targets, &types, q.row, q.low) {
+        return true;
+    }
+    if back::is_bad_first_back(targets, sources, lines, &types, q.row, q.low, q.high) {
         return true;
     }
     if first::is_bad_first_row(lows, highs, &types, q.row, q.low, q.high) {

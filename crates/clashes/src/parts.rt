@@ -2,19 +2,19 @@
 ghost use mathlib.Core.Path.{_≡_};
 ghost use mathlib.Core.Bool.{true};
 ghost use mathlib.Core.List.{List};
-ghost use Prim.Native.Nat.{ℕ, _<_};
+ghost use Prim.Native.Nat.{ℕ, _<_, _≤_};
 ghost use lib.ListN.{getD};
 ghost use Rattle.growing.specs.World.{World};
 ghost use Rattle.link_search.specs.Nets.{Within};
 ghost use Rattle.worlds.specs.Kept.{MirrorsKept, RowsKept, WholesKept};
-ghost use Rattle.clashes.specs.Clashes.{Never, TwoTargets};
+ghost use Rattle.clashes.specs.Clashes.{FirstTargets, Never};
 ghost use Rattle.clashes.specs.Counts.{targetCount};
 ghost use Rattle.clashes.specs.Refuted.{Refuted};
 
 // Whether the targets of an object of type t in the slot, with types of the mask, are its wholes by composition j.
 fn is_back_to_wholes(lines: worlds::Lines, t: u32, slot: u8, mask: u32, j: usize) -> bool
     requires { ⌜ (t < 24) × (j < 16) ⌝ }
-    ensures { λ r. ⌜ (r ≡ true → Never (λ w. TwoTargets t slot mask w × MirrorsKept lines w × WholesKept lines w)) ⌝ }
+    ensures { λ r. ⌜ (r ≡ true → (low high : ℕ) → 2 ≤ low → Never (λ w. FirstTargets t slot mask low high w × (MirrorsKept lines w × WholesKept lines w))) ⌝ }
 {
     if lines.mirrorleft[j] != slot {
         return false;
@@ -36,7 +36,7 @@ pub fn is_bad_first_part<'a>(
     low: u8,
 ) -> bool
     requires { ⌜ (row < 32) × ((o : ℕ) → getD (now types) o 0 < 24) ⌝ }
-    ensures { λ r. ⌜ (r ≡ true → (lows highs : List ℕ) (high seeds : ℕ) → 0 < seeds → Refuted (λ w. RowsKept (now (targets .entry)) lows highs w × MirrorsKept lines w × WholesKept lines w × Within low high (targetCount w row 0)) (now (types .entry)) seeds) ⌝ }
+    ensures { λ r. ⌜ (r ≡ true → (lows highs : List ℕ) (high seeds : ℕ) → 0 < seeds → Refuted (λ w. (RowsKept (now (targets .entry)) lows highs w × Within low high (targetCount w row 0)) × (MirrorsKept lines w × WholesKept lines w)) (now (types .entry)) seeds) ⌝ }
 {
     if low < 2 {
         return false;

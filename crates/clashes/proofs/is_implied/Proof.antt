@@ -8,16 +8,17 @@ use Rattle.growing.specs.World.{World}
 use Rattle.growing.specs.Growth.{Nowhere}
 use Rattle.link_search.specs.Nets.{Within}
 use Rattle.worlds.specs.Asked.{Solution}
-use Rattle.worlds.specs.Kept.{MirrorsKept, RowsKept, Sheet, WholesKept, sheet}
-use Rattle.clashes.specs.Counts.{targetCount}
+use Rattle.worlds.specs.Kept.{ColumnsKept, MirrorsKept, RowsKept, Sheet, WholesKept, sheet}
+use Rattle.clashes.specs.Counts.{SourcesKept, targetCount}
 use Rattle.clashes.specs.Clashes.{FirstColumn}
 use Rattle.clashes.specs.Refuted.{BitsKept, Refuted, TargetsKept}
-use Rattle.clashes.proofs.SolutionLaws.{bits-kept, first-column, nowhere-by}
+use Rattle.clashes.proofs.SolutionLaws.{bits-kept, first-column, nowhere-by, sources-kept}
 use borrow.Author.Needs.{needs}
 use Rattle.clashes.proofs.is_implied.Statement.{statement}
 use Rattle.clashes.proofs.is_implied.Tie as tie
 use Rattle.clashes.proofs.is_implied.Reads as reads
 use Rattle.clashes.proofs.is_implied.Lts as lts
+use Rattle.clashes.proofs.back.is_bad_first_back.Reads as is-bad-first-back-reads
 use Rattle.clashes.proofs.bits.is_bad_bit.Reads as is-bad-bit-reads
 use Rattle.clashes.proofs.counts.is_bad_first_column.Reads as is-bad-first-column-reads
 use Rattle.clashes.proofs.mirrors.is_bad_turn.Reads as is-bad-turn-reads
@@ -85,28 +86,41 @@ returns-5 c =
     let b = e .before in
     let a = b .args in
     λ _. by b
-    (λ w. RowsKept (a .targets .now) (a .lows .now) (a .highs .now) w × MirrorsKept (a .lines) w × WholesKept (a .lines) w × Within (a .q .low) (a .q .high) (targetCount w (a .q .row) 0))
-    (λ w s. (s .allowed .rows, s .allowed .mirrors, s .allowed .wholes, s .asked .row (seeded e)))
+    (λ w. (RowsKept (a .targets .now) (a .lows .now) (a .highs .now) w × Within (a .q .low) (a .q .high) (targetCount w (a .q .row) 0)) × (MirrorsKept (a .lines) w × WholesKept (a .lines) w))
+    (λ w s. ((s .allowed .rows, s .asked .row (seeded e)), (s .allowed .mirrors, s .allowed .wholes)))
     (c .before .is-bad-first-part .ensures (c .if5 .taken) (a .lows .now) (a .highs .now) (a .q .high) (a .q .seeds) (seeded e))
 
-is-bad-first-row-requires : tie.Need-is-bad-first-row-requires
-is-bad-first-row-requires c κs = search needs
+is-bad-first-back-requires : tie.Need-is-bad-first-back-requires
+is-bad-first-back-requires c κs = let b = c .before .before .before .before .before .before .before .before .before .before .before .before .before .before .before .before .before .before .before .before .before in (b .pre .0, b .pre .2 .row, b .pre .4)
 
 returns-6 : tie.Need-returns-6
 returns-6 c =
     let e = c .before .before .before .before .before .before .before .before .before .before .before .before .before .before .before .before .before .before .before .before .before .before in
     let b = e .before in
     let a = b .args in
-    let x = sheetOf b in
-    λ _. by b (λ w. RowsKept (a .targets .now) (a .lows .now) (a .highs .now) w × Within (a .q .low) (a .q .high) (targetCount w (a .q .row) 0))
-    (λ w s. (s .allowed .rows, s .asked .row (seeded e))) (c .before .is-bad-first-row .ensures (c .if6 .taken) (a .targets .now) (a .q .seeds) (seeded e))
+    λ _. by b
+    (λ w. (RowsKept (a .targets .now) (a .lows .now) (a .highs .now) w × Within (a .q .low) (a .q .high) (targetCount w (a .q .row) 0)) × (SourcesKept (a .sources .now) w × ColumnsKept (a .lines) w × MirrorsKept (a .lines) w))
+    (λ w s. ((s .allowed .rows, s .asked .row (seeded e)), (sources-kept (sheetOf b) (a .q) (a .n) (a .sources .now) (b .pre .1) w s, s .allowed .columns, s .allowed .mirrors)))
+    (c .before .is-bad-first-back .ensures (c .if6 .taken) (a .lows .now) (a .highs .now) (a .q .seeds) (seeded e))
 
-is-bad-first-column-requires : tie.Need-is-bad-first-column-requires
-is-bad-first-column-requires c κs = let b = c .before .before .before .before .before .before .before .before .before .before .before .before .before .before .before .before .before .before .before .before .before .before .before .before in (b .pre .0, b .pre .2 .column, b .pre .4)
+is-bad-first-row-requires : tie.Need-is-bad-first-row-requires
+is-bad-first-row-requires c κs = let b = c .before .before .before .before .before .before .before .before .before .before .before .before .before .before .before .before .before .before .before .before .before .before .before .before in (b .pre .2 .row, b .pre .4)
 
 returns-7 : tie.Need-returns-7
 returns-7 c =
-    let e = c .before .before .before .before .before .before .before .before .before .before .before .before .before .before .before .before .before .before .before .before .before .before .before .before in
+    let e = c .before .before .before .before .before .before .before .before .before .before .before .before .before .before .before .before .before .before .before .before .before .before .before .before .before in
+    let b = e .before in
+    let a = b .args in
+    let x = sheetOf b in
+    λ _. by b (λ w. RowsKept (a .targets .now) (a .lows .now) (a .highs .now) w × Within (a .q .low) (a .q .high) (targetCount w (a .q .row) 0))
+    (λ w s. (s .allowed .rows, s .asked .row (seeded e))) (c .before .is-bad-first-row .ensures (c .if7 .taken) (a .targets .now) (a .q .seeds) (seeded e))
+
+is-bad-first-column-requires : tie.Need-is-bad-first-column-requires
+is-bad-first-column-requires c κs = let b = c .before .before .before .before .before .before .before .before .before .before .before .before .before .before .before .before .before .before .before .before .before .before .before .before .before .before .before in (b .pre .0, b .pre .2 .column, b .pre .4)
+
+returns-8 : tie.Need-returns-8
+returns-8 c =
+    let e = c .before .before .before .before .before .before .before .before .before .before .before .before .before .before .before .before .before .before .before .before .before .before .before .before .before .before .before in
     let b = e .before in
     let a = b .args in
     let x = sheetOf b in
@@ -126,7 +140,9 @@ is-implied-spec =
     returns-4
     is-bad-first-part-requires
     returns-5
-    is-bad-first-row-requires
+    is-bad-first-back-requires
     returns-6
+    is-bad-first-row-requires
+    returns-7
     is-bad-first-column-requires
-    returns-7)
+    returns-8)

@@ -59,7 +59,7 @@ loop-again c =
       omega arith,
       search needs,
       set-more (λ k v. v ≡ usableRow (getD (a .targets .now) k 0) (getD (a .highs .now) k 0) (a .usable) (k / 32)) (h .loop .r) (h .loop .i) (c .usable-row .result)
-      (omega arith) (h .loop .inv .2) (c .usable-row .ensures),
+          (omega arith) (h .loop .inv .2) (c .usable-row .ensures),
     )
 
 returns : tie.Need-returns Inv-loop μ-loop

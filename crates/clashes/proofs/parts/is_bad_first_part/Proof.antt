@@ -4,7 +4,8 @@ use Prim.Native.Nat.{_+_, _-_, _≤_}
 use mathlib.Core.Path.{_≡_, refl, sym}
 use native.Mathlib.Omega.{arith}
 use Rattle.laws.proofs.ConnectiveLaws.{true-false}
-use Rattle.clashes.proofs.TwoWholesLaws.{first-part-refuted}
+use Rattle.worlds.specs.Kept.{MirrorsKept, WholesKept}
+use Rattle.clashes.proofs.FirstTargetsLaws.{targets-refuted}
 use borrow.Author.Needs.{needs}
 use Rattle.clashes.proofs.parts.is_bad_first_part.Statement.{statement}
 use Rattle.clashes.proofs.parts.is_bad_first_part.Tie as tie
@@ -58,9 +59,9 @@ returns-2 c =
     let s = x .before in
     let b = s .before in
     let a = b .args in
-    λ _ lows highs high seeds some. first-part-refuted (a .lines) (a .targets .now) lows highs (a .types .now) (t .type-of .result) (a .row) (a .low) high (x .rows-at .result + w .wide .result) seeds
-    (b .pre .0) (t .type-of .ensures .0) (omega (arith, x .rows-at .ensures .0, w .wide .ensures .0)) (omega (arith, s .if1 .left)) some
-    (back .is-back-to-wholes .ensures (c .if2 .taken))
+    λ _ lows highs high seeds some. targets-refuted (a .targets .now) lows highs (a .types .now) (t .type-of .result) (a .row) (a .low) high (x .rows-at .result + w .wide .result) seeds
+    (b .pre .0) (t .type-of .ensures .0) (omega (arith, x .rows-at .ensures .0, w .wide .ensures .0)) some (λ w. MirrorsKept (a .lines) w × WholesKept (a .lines) w)
+    (back .is-back-to-wholes .ensures (c .if2 .taken) (a .low) high (omega (arith, s .if1 .left)))
 
 add-j : tie.Need-add-j Inv-loop μ-loop
 add-j c = search needs
