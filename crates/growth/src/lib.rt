@@ -147,6 +147,9 @@ fn seed<'a>(
         ) {
             return nothing();
         }
+        if relaxing::is_stuck(targets, highs, lines, usable, q, types) {
+            return nothing();
+        }
         return grow(
             targets,
             sources,

@@ -20,6 +20,7 @@ use Rattle.growth.proofs.seed.Reads as seed
 use Rattle.growth.proofs.seed.Kinds as seed-kinds
 use Rattle.growth.proofs.+seed.Lts-seed as seed-lts
 use Rattle.clashes.proofs.is_implied.Reads as is-implied-reads
+use Rattle.relaxing.proofs.is_stuck.Reads as is-stuck-reads
 use Rattle.growth.proofs.grow.Reads as grow-reads
 use Rattle.growth.proofs.is_common.Reads as is-common-reads
 use Rattle.growth.proofs.nothing.Reads as nothing-reads
@@ -37,7 +38,7 @@ abbrev seed-below : ℕ → In 1 seed-kinds.ps
 seed-below t = and 1 seed-kinds.ps (falls 1 seed-kinds.ps _<_ μ-seed t) seed.Pre
 
 abbrev calls : ℕ → seed-lts.Claims
-calls t = (is-implied-reads.Asked, is-implied-reads.Learnt, nothing-reads.Asked, nothing-reads.Learnt, grow-reads.Asked, grow-reads.Learnt, is-common-reads.Asked, is-common-reads.Learnt, put-reads.Asked, put-reads.Learnt, seed-below t, seed.Post)
+calls t = (is-implied-reads.Asked, is-implied-reads.Learnt, nothing-reads.Asked, nothing-reads.Learnt, is-stuck-reads.Asked, is-stuck-reads.Learnt, grow-reads.Asked, grow-reads.Learnt, is-common-reads.Asked, is-common-reads.Learnt, put-reads.Asked, put-reads.Learnt, seed-below t, seed.Post)
 
 abbrev seed-Inv-loop : seed-lts.InvT-loop
 seed-Inv-loop targets sources lows highs lines usable singles types k n q may t₀ t = Passed (sheet usable singles targets lows highs lines) q types k n t
@@ -81,11 +82,22 @@ seed-nothing-requires t c κs = search needs
 seed-returns : (t : ℕ) → seed-lts.Need-returns (calls t) (seed-at t) seed.Post seed-Inv-loop seed-μ-loop
 seed-returns t c = grown-implied _ _ _ _ _ _ _ (c .before .before .before .if1 .taken) (c .nothing .ensures) (c .before .before .is-implied .ensures (c .before .if2 .taken))
 
+seed-is-stuck-requires : (t : ℕ) → seed-lts.Need-is-stuck-requires (calls t) (seed-at t) seed.Post seed-Inv-loop seed-μ-loop
+seed-is-stuck-requires t c κs = let p = c .before .before .before .pre .1 in (p .0, p .2, p .6)
+
+seed-nothing-requires-2 : (t : ℕ) → seed-lts.Need-nothing-requires-2 (calls t) (seed-at t) seed.Post seed-Inv-loop seed-μ-loop
+seed-nothing-requires-2 t c κs = search needs
+
+seed-returns-2 : (t : ℕ) → seed-lts.Need-returns-2 (calls t) (seed-at t) seed.Post seed-Inv-loop seed-μ-loop
+seed-returns-2 t c =
+    let a = c .before .before .before .before .before .before .args in
+    grown-implied _ _ _ _ _ _ _ (c .before .before .before .before .before .if1 .taken) (c .nothing2 .ensures) (c .before .before .is-stuck .ensures (c .before .if3 .taken) (a .singles) (a .n) (a .lows .now))
+
 seed-grow-requires : (t : ℕ) → seed-lts.Need-grow-requires (calls t) (seed-at t) seed.Post seed-Inv-loop seed-μ-loop
 seed-grow-requires t c κs = search needs
 
-seed-returns-2 : (t : ℕ) → seed-lts.Need-returns-2 (calls t) (seed-at t) seed.Post seed-Inv-loop seed-μ-loop
-seed-returns-2 t c = grown-seeded _ _ _ _ _ _ _ (c .before .before .before .if1 .taken) (c .grow .ensures)
+seed-returns-3 : (t : ℕ) → seed-lts.Need-returns-3 (calls t) (seed-at t) seed.Post seed-Inv-loop seed-μ-loop
+seed-returns-3 t c = grown-seeded _ _ _ _ _ _ _ (c .before .before .before .before .before .if1 .taken) (c .grow .ensures)
 
 seed-mul-may : (t : ℕ) → seed-lts.Need-mul-may (calls t) (seed-at t) seed.Post seed-Inv-loop seed-μ-loop
 seed-mul-may t c = search needs
@@ -113,11 +125,11 @@ seed-seed-requires t c κs =
     let small = small-more (a .types) (a .k) (i .before .loop .t) (c .put .ensures) (room t i) (search needs) (p .1 .6) in
     (omega (arith, p .0, among t i), (p .1 .0, p .1 .1, p .1 .2, omega (arith, among t i), p .1 .4, p .1 .5, small))
 
-seed-returns-3 : (t : ℕ) → seed-lts.Need-returns-3 (calls t) (seed-at t) seed.Post seed-Inv-loop seed-μ-loop
-seed-returns-3 t c =
+seed-returns-4 : (t : ℕ) → seed-lts.Need-returns-4 (calls t) (seed-at t) seed.Post seed-Inv-loop seed-μ-loop
+seed-returns-4 t c =
     let x = c .before in
     let i = x .before .before .before .before in
-    grown-chosen _ _ _ _ _ (i .before .loop .t) _ _ (room t i) (rw (x .before .put .ensures) at (x .seed .ensures)) (c .if4 .taken)
+    grown-chosen _ _ _ _ _ (i .before .loop .t) _ _ (room t i) (rw (x .before .put .ensures) at (x .seed .ensures)) (c .if5 .taken)
 
 seed-add-t : (t : ℕ) → seed-lts.Need-add-t (calls t) (seed-at t) seed.Post seed-Inv-loop seed-μ-loop
 seed-add-t t c = search needs
@@ -138,16 +150,16 @@ seed-loop-again t c =
     (λ w. passed-call X q (a .types) (a .k) (a .n) u small (among t i) (room t i)
     (subst (λ (ks : List ℕ). Grown (Solution X q (a .n)) ks (a .k + 1) 0 (a .n) (w .2 .result .ok) (worldBuilt (a .n) (w .2 .result))) (w .1 .ensures) (w .2 .ensures) .complete (w .3 .left)) (i .before .loop .inv))
     (λ w. passed-skip X q (a .types) (a .k) (a .n) u small (among t i) (sym (c .before .is-common .ensures) ∙ w .left) (i .before .loop .inv))
-    (c .if3 .came)
+    (c .if4 .came)
 
-seed-nothing-requires-2 : (t : ℕ) → seed-lts.Need-nothing-requires-2 (calls t) (seed-at t) seed.Post seed-Inv-loop seed-μ-loop
-seed-nothing-requires-2 t c κs = search needs
+seed-nothing-requires-3 : (t : ℕ) → seed-lts.Need-nothing-requires-3 (calls t) (seed-at t) seed.Post seed-Inv-loop seed-μ-loop
+seed-nothing-requires-3 t c κs = search needs
 
-seed-returns-4 : (t : ℕ) → seed-lts.Need-returns-4 (calls t) (seed-at t) seed.Post seed-Inv-loop seed-μ-loop
-seed-returns-4 t c =
+seed-returns-5 : (t : ℕ) → seed-lts.Need-returns-5 (calls t) (seed-at t) seed.Post seed-Inv-loop seed-μ-loop
+seed-returns-5 t c =
     let l = c .before .before in
     let s = l .before .before .before in
-    grown-passed _ _ _ _ _ (l .loop .t) _ _ (search needs) (omega (arith, s .pre .1 .3, l .before .before .if1 .left)) (c .nothing2 .ensures) (l .loop .inv)
+    grown-passed _ _ _ _ _ (l .loop .t) _ _ (search needs) (omega (arith, s .pre .1 .3, l .before .before .if1 .left)) (c .nothing3 .ensures) (l .loop .inv)
 
 pub +seed-spec : {M : Type 1} → statement M
 +seed-spec = close μ-seed λ t. seed-lts.spec (calls t)
@@ -158,8 +170,11 @@ pub +seed-spec : {M : Type 1} → statement M
     (seed-is-implied-requires t)
     (seed-nothing-requires t)
     (seed-returns t)
-    (seed-grow-requires t)
+    (seed-is-stuck-requires t)
+    (seed-nothing-requires-2 t)
     (seed-returns-2 t)
+    (seed-grow-requires t)
+    (seed-returns-3 t)
     (seed-mul-may t)
     (seed-element-copy-out-may t)
     (seed-loop-holds t)
@@ -167,9 +182,9 @@ pub +seed-spec : {M : Type 1} → statement M
     (seed-put-requires t)
     (seed-add-seed t)
     (seed-seed-requires t)
-    (seed-returns-3 t)
+    (seed-returns-4 t)
     (seed-add-t t)
     (seed-loop-less t)
     (seed-loop-again t)
-    (seed-nothing-requires-2 t)
-    (seed-returns-4 t)
+    (seed-nothing-requires-3 t)
+    (seed-returns-5 t)
