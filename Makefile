@@ -1,7 +1,7 @@
 # make demo: the comparer on its first example, from nothing.
 # make test: everything that must hold, from nothing. Its last line is 'N passed, M failed'.
 # make check: the proofs and programs again, only where something changed.
-# make library: what the Rust programs link to, target/staticlib/libreplay.a.
+# make library: what the Rust programs link to, target/staticlib/libreplay.a; what the prover says goes to target/library.log.
 # make soak: the proved library beside the independent comparer and a solver on ever more made-up input, for SOAK_MINUTES minutes.
 # make bench: how long they take for the same work, side by side.
 # Both install the solver, the Debian package cadical, where it is missing; bench also valgrind.
@@ -21,9 +21,7 @@ check:
 	@rt check
 
 library:
-	@command -v rt >/dev/null || { echo "The Rattle kit is not installed: its command 'rt' was not found." >&2; exit 1; }
-	@echo "Proving the comparer and writing target/staticlib/libreplay.a (some minutes the first time) ..."
-	@rt staticlib replay
+	@tools/library
 
 # A disagreement ends it and is shown with its seed; 'make soak SOAK_SEED=seed' starts with that one again.
 soak: library

@@ -11,22 +11,22 @@ use Rattle.laws.specs.Bits.{bit}
 use Rattle.laws.proofs.BoundedLaws.{tally-none}
 use Rattle.laws.proofs.ConnectiveLaws.{true-false}
 use Rattle.laws.proofs.CountLaws.{tally-le}
-use Rattle.growing.specs.World.{World}
+use Rattle.growing.specs.World.{World, sourceCount}
 use Rattle.worlds.specs.declared.Lines.{Lines}
 use Rattle.worlds.specs.Kept.{Allowed, ColumnsKept, Sheet, TypesAvoided}
 use Rattle.worlds.specs.Asked.{Breaks}
 use Rattle.queries.specs.Avoided.{ColumnsAvoided}
 use Rattle.queries.proofs.BreakLaws.{Throughout, breaks-same}
-use Rattle.aims.specs.Columns.{ColumnKept, LeastKept, MostKept, countOf}
+use Rattle.aims.specs.Columns.{ColumnKept, LeastKept, MostKept}
 
 module _ (x : Sheet) (w : World) (h : Allowed x w) (s from p : ℕ) where
   -- a slot past the last has no links
-  count-past : 32 ≤ s → countOf w s from p ≡ 0
+  count-past : 32 ≤ s → sourceCount w s from p ≡ 0
   count-past l =
       tally-none (λ o. bit (w .kind o) from && w .link s o p) (w .size)
       (λ o _. ap (λ (b : Bool). bit (w .kind o) from && b) (h .past s o p l) ∙ and-false (bit (w .kind o) from))
 
-  count-few : countOf w s from p ≤ 8
+  count-few : sourceCount w s from p ≤ 8
   count-few = omega (arith, tally-le (λ o. bit (w .kind o) from && w .link s o p) (w .size), h .few)
 
 module _ (x : Sheet) (n s a from : ℕ) where
@@ -52,23 +52,23 @@ module _ (x : Sheet) (n s a from : ℕ) where
     pub least-found : (low : ℕ) → 0 < low → Breaks x (ColumnsAvoided s a from 0 (low - 1)) n ok m → Breaks x (LeastKept s a from low) n ok m
     least-found low z = breaks-same x n ok m (LeastKept s a from low) (ColumnsAvoided s a from 0 (low - 1))
         (λ w h k. record { at = λ p l t g. omega (arith, k .at p l t, g .most) })
-        (λ w h k. record { at = λ p l t. go w k p l t (leb low (countOf w s from p)) refl })
+        (λ w h k. record { at = λ p l t. go w k p l t (leb low (sourceCount w s from p)) refl })
       where
-        go : (w : World) → ColumnsAvoided s a from 0 (low - 1) w → (p : ℕ) → p < w .size → bit (w .kind p) a ≡ true → (b : Bool) → leb low (countOf w s from p) ≡ b → low ≤ countOf w s from p
-        go w k p l t true e = leb-true low (countOf w s from p) e
+        go : (w : World) → ColumnsAvoided s a from 0 (low - 1) w → (p : ℕ) → p < w .size → bit (w .kind p) a ≡ true → (b : Bool) → leb low (sourceCount w s from p) ≡ b → low ≤ sourceCount w s from p
+        go w k p l t true e = leb-true low (sourceCount w s from p) e
         go w k p l t false e =
-            let under = leb-false low (countOf w s from p) e in absurd (k .at p l t (record { least = omega arith; most = omega arith }))
+            let under = leb-false low (sourceCount w s from p) e in absurd (k .at p l t (record { least = omega arith; most = omega arith }))
 
     pub most-found : (high : ℕ) → Breaks x (ColumnsAvoided s a from (high + 1) 8) n ok m → Breaks x (MostKept s a from high) n ok m
     most-found high = breaks-same x n ok m (MostKept s a from high) (ColumnsAvoided s a from (high + 1) 8)
         (λ w h k. record { at = λ p l t g. omega (arith, k .at p l t, g .least) })
-        (λ w h k. record { at = λ p l t. go w h k p l t (leb (countOf w s from p) high) refl })
+        (λ w h k. record { at = λ p l t. go w h k p l t (leb (sourceCount w s from p) high) refl })
       where
         go : (w : World) → Allowed x w → ColumnsAvoided s a from (high + 1) 8 w → (p : ℕ) → p < w .size → bit (w .kind p) a ≡ true
-            → (b : Bool) → leb (countOf w s from p) high ≡ b → countOf w s from p ≤ high
-        go w h k p l t true e = leb-true (countOf w s from p) high e
+            → (b : Bool) → leb (sourceCount w s from p) high ≡ b → sourceCount w s from p ≤ high
+        go w h k p l t true e = leb-true (sourceCount w s from p) high e
         go w h k p l t false e =
-            let over = leb-false (countOf w s from p) high e in absurd (k .at p l t (record { least = omega arith; most = count-few x w h s from p }))
+            let over = leb-false (sourceCount w s from p) high e in absurd (k .at p l t (record { least = omega arith; most = count-few x w h s from p }))
 
 -- ---- both limits of column j, and all columns
 

@@ -1,5 +1,4 @@
 pub mod SkipLaws
-pub mod TwoLaws
 pub mod RowLaws
 pub mod ColumnLaws
 pub mod SingleLaws

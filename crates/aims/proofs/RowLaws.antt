@@ -14,12 +14,12 @@ use Rattle.laws.proofs.BitLaws.{bit-zero}
 use Rattle.laws.proofs.ConnectiveLaws.{and-both, and-left, and-right, true-false}
 use Rattle.laws.proofs.CountLaws.{tally-le}
 use Rattle.growing.specs.World.{World}
-use Rattle.link_search.specs.Nets.{Within}
+use Rattle.link_search.specs.Nets.{InLimits}
 use Rattle.worlds.specs.Kept.{Allowed, RowsKept, Sheet}
 use Rattle.worlds.specs.Asked.{Breaks}
 use Rattle.queries.specs.Avoided.{LinksAvoided, LoopsAvoided, RowsAvoided}
 use Rattle.queries.proofs.BreakLaws.{Throughout, breaks-last}
-use Rattle.aims.specs.Rows.{AllLinksAvoided, HighsKept, LowsKept, RowKept, RowWithin, RowsWithin, TargetsKept}
+use Rattle.aims.specs.Rows.{AllLinksAvoided, HighsKept, LowsKept, RowKept, RowWithin, RowsWithin, RowTargetsKept}
 
 -- c holds the types of both masks; m the type t alone; d the types of a without those of b
 abbrev pub Common : ℕ → ℕ → ℕ → Type 0
@@ -68,7 +68,7 @@ module _ (x : Sheet) (i : ℕ) (w : World) (h : Allowed x w) where
 
   -- targets that the own table allows and the other does not, are avoided
   target-of : (others : List ℕ) → ((o p : ℕ) → o < w .size → p < w .size → w .kind o ≡ i / 32 → w .link (i % 32) o p ≡ true
-      → bit (w .kind p) (getD (x .targets) i 0) ≡ true → bit (w .kind p) (getD others i 0) ≡ false → ⊥) → TargetsKept others i w
+      → bit (w .kind p) (getD (x .targets) i 0) ≡ true → bit (w .kind p) (getD others i 0) ≡ false → ⊥) → RowTargetsKept others i w
   target-of others f = record { at = λ o p lo lp e g. go o p lo lp e g (bit (w .kind p) (getD others i 0)) refl }
     where
       go : (o p : ℕ) → o < w .size → p < w .size → w .kind o ≡ i / 32 → w .link (i % 32) o p ≡ true → (t : Bool) → bit (w .kind p) (getD others i 0) ≡ t
@@ -99,7 +99,7 @@ only-is : (m t k : ℕ) → Only m t → bit k m ≡ true → k ≡ t
 only-is m t k f e = eqb-true k t (sym (f k) ∙ e)
 
 module _ (x : Sheet) (n i : ℕ) (others : List ℕ) where
-  pub target-none : (d : ℕ) → Rest d (getD (x .targets) i 0) (getD others i 0) → d ≡ 0 → Throughout x (TargetsKept others i) n
+  pub target-none : (d : ℕ) → Rest d (getD (x .targets) i 0) (getD others i 0) → d ≡ 0 → Throughout x (RowTargetsKept others i) n
   target-none d f e w h _ =
       target-of x i w h others
       (λ o p _ _ _ _ g z.
@@ -115,8 +115,8 @@ module _ (x : Sheet) (n i : ℕ) (others : List ℕ) where
   high-free l w h _ = record { at = λ o k e. omega (arith, few-at x i w h o) }
 
   module _ (ok : Bool) (m : World) (s a : ℕ) (slot : s ≡ i % 32) (type : Only a (i / 32)) where
-    pub target-found : (d : ℕ) → Rest d (getD (x .targets) i 0) (getD others i 0) → Breaks x (AllLinksAvoided s a d) n ok m → Breaks x (TargetsKept others i) n ok m
-    target-found d f = breaks-last x n ok m (TargetsKept others i) (AllLinksAvoided s a d)
+    pub target-found : (d : ℕ) → Rest d (getD (x .targets) i 0) (getD others i 0) → Breaks x (AllLinksAvoided s a d) n ok m → Breaks x (RowTargetsKept others i) n ok m
+    target-found d f = breaks-last x n ok m (RowTargetsKept others i) (AllLinksAvoided s a d)
         (λ w k.
         record {
           at = λ o p lo lp e g z.
@@ -134,7 +134,7 @@ module _ (x : Sheet) (n i : ℕ) (others : List ℕ) where
         (λ w k.
         record {
           at = λ o l e g.
-              let t = subst (λ (y : ℕ). Within 0 (getD others i 0 - 1) (tally (λ p. w .link y o p) (w .size))) slot g in
+              let t = subst (λ (y : ℕ). InLimits 0 (getD others i 0 - 1) (tally (λ p. w .link y o p) (w .size))) slot g in
               omega (arith, k .at o l (only-is a (i / 32) (w .kind o) type e), t .most);
         })
         (λ w h _ k. record { at = λ o l e. go w k o l e (leb (getD others i 0) (tally (λ p. w .link (i % 32) o p) (w .size))) refl })
@@ -146,14 +146,14 @@ module _ (x : Sheet) (n i : ℕ) (others : List ℕ) where
             let under = leb-false (getD others i 0) (tally (λ p. w .link (i % 32) o p) (w .size)) f in
             absurd
             (k .at o l (only-on a (i / 32) (w .kind o) type e)
-            (subst (λ (y : ℕ). Within 0 (getD others i 0 - 1) (tally (λ p. w .link y o p) (w .size))) (sym slot) (record { least = omega arith; most = omega arith })))
+            (subst (λ (y : ℕ). InLimits 0 (getD others i 0 - 1) (tally (λ p. w .link y o p) (w .size))) (sym slot) (record { least = omega arith; most = omega arith })))
 
     pub high-found : Breaks x (RowsAvoided s a (getD others i 0 + 1) 8) n ok m → Breaks x (HighsKept others i) n ok m
     high-found = breaks-last x n ok m (HighsKept others i) (RowsAvoided s a (getD others i 0 + 1) 8)
         (λ w k.
         record {
           at = λ o l e g.
-              let t = subst (λ (y : ℕ). Within (getD others i 0 + 1) 8 (tally (λ p. w .link y o p) (w .size))) slot g in
+              let t = subst (λ (y : ℕ). InLimits (getD others i 0 + 1) 8 (tally (λ p. w .link y o p) (w .size))) slot g in
               omega (arith, k .at o l (only-is a (i / 32) (w .kind o) type e), t .least);
         })
         (λ w h _ k. record { at = λ o l e. go w h k o l e (leb (tally (λ p. w .link (i % 32) o p) (w .size)) (getD others i 0)) refl })
@@ -165,7 +165,7 @@ module _ (x : Sheet) (n i : ℕ) (others : List ℕ) where
             let over = leb-false (tally (λ p. w .link (i % 32) o p) (w .size)) (getD others i 0) f in
             absurd
             (k .at o l (only-on a (i / 32) (w .kind o) type e)
-            (subst (λ (y : ℕ). Within (getD others i 0 + 1) 8 (tally (λ p. w .link y o p) (w .size))) (sym slot)
+            (subst (λ (y : ℕ). InLimits (getD others i 0 + 1) 8 (tally (λ p. w .link y o p) (w .size))) (sym slot)
             (record { least = omega arith; most = few-at x i w h o })))
 
 -- ---- all rows
@@ -193,7 +193,7 @@ module _ (targets lows highs : List ℕ) where
         let slot : (w .kind o * 32 + s) % 32 ≡ s = omega arith in
         let type : w .kind o ≡ (w .kind o * 32 + s) / 32 = omega arith in
         let r = k (w .kind o * 32 + s) (omega arith) in
-        subst (λ (y : ℕ). Within (getD lows (w .kind o * 32 + s) 0) (getD highs (w .kind o * 32 + s) 0) (tally (λ p. w .link y o p) (w .size))) slot
+        subst (λ (y : ℕ). InLimits (getD lows (w .kind o * 32 + s) 0) (getD highs (w .kind o * 32 + s) 0) (tally (λ p. w .link y o p) (w .size))) slot
         (record { least = r .low-kept .at o l type; most = r .high-kept .at o l type });
   }
 

@@ -10,15 +10,15 @@ use Rattle.laws.specs.Bits.{bit}
 use Rattle.laws.specs.Bounded.{tally}
 use Rattle.laws.proofs.BoundedLaws.{tally-none}
 use Rattle.laws.proofs.ConnectiveLaws.{true-false}
+use Rattle.laws.proofs.CountLaws.{tally-holds}
+use Rattle.laws.proofs.TwoLaws.{counted-two, two-counted}
 use Rattle.growing.specs.World.{World}
-use Rattle.growing.proofs.SplitLaws.{tally-holds}
 use Rattle.worlds.specs.Kept.{Sheet, SinglesKept, TypesAvoided}
 use Rattle.worlds.specs.Asked.{Breaks}
 use Rattle.queries.specs.Avoided.{PairsAvoided}
 use Rattle.queries.proofs.BreakLaws.{Throughout, breaks-last}
 use Rattle.aims.specs.Singles.{SingleKept}
 use Rattle.aims.proofs.RowLaws.{Only}
-use Rattle.aims.proofs.TwoLaws.{counted-two, two-counted}
 
 module _ (x : Sheet) (n t others : ℕ) where
   pub single-off : bit t others ≡ false → Throughout x (SingleKept others t) n

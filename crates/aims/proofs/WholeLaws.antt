@@ -13,6 +13,7 @@ use Rattle.laws.specs.Bounded.{tally}
 use Rattle.laws.proofs.BitLaws.{bit-zero}
 use Rattle.laws.proofs.BoundedLaws.{any-at, any-of}
 use Rattle.laws.proofs.ConnectiveLaws.{and-both, and-left, and-right, true-false}
+use Rattle.laws.proofs.TwoLaws.{counted-two, two-counted}
 use Rattle.growing.specs.World.{World}
 use Rattle.worlds.specs.declared.Lines.{Lines}
 use Rattle.worlds.specs.Kept.{Sheet, WholesKept, wholeBy, wholeOf}
@@ -21,7 +22,6 @@ use Rattle.queries.specs.Avoided.{OwnPartsAvoided, PartsAvoided}
 use Rattle.queries.proofs.BreakLaws.{Throughout, breaks-last}
 use Rattle.aims.specs.Wholes.{AllPartsAvoided, PairApart, PairEmpty, PairsEmpty}
 use Rattle.aims.proofs.RowLaws.{Common}
-use Rattle.aims.proofs.TwoLaws.{counted-two, two-counted}
 
 -- ---- a target of two: they are others, or the first is the target itself, or the second is
 

@@ -1,24 +1,12 @@
 // Searches for allowed worlds with given objects in front: each answer says what all allowed worlds avoid.
-ghost use mathlib.Core.Path.{_≡_};
-ghost use mathlib.Core.Bool.{false};
 ghost use Prim.Native.Nat.{_<_, _≤_};
-ghost use Rattle.worlds.specs.Kept.{Slotted, Turned, TypesAvoided, sheet};
+ghost use Rattle.worlds.specs.Kept.{Slotted, SourceTable, TypesAvoided, sheet};
 ghost use Rattle.worlds.specs.Asked.{Breaks, worldBuilt};
 ghost use Rattle.queries.specs.Avoided.{PairsAvoided, LinksAvoided, LoopsAvoided, RowsAvoided, ColumnsAvoided, HalvesAvoided, HalfLoopsAvoided, PartsAvoided, OwnPartsAvoided};
 use growth::find;
 use worlds::Built;
 use worlds::Lines;
-
-// Nothing was found.
-pub fn nothing() -> Built
-    ensures { λ r. ⌜ r .ok ≡ false ⌝ }
-{
-    Built {
-        ok: false,
-        types: [0; 8],
-        links: [0; 256],
-    }
-}
+use worlds::nothing;
 
 // An object of the types a.
 pub fn ask_types<'a>(
@@ -32,7 +20,7 @@ pub fn ask_types<'a>(
     a: u32,
     n: u8,
 ) -> Built
-    requires { ⌜ Slotted lines × Turned (now targets) (now sources) × (n ≤ 8) ⌝ }
+    requires { ⌜ Slotted lines × SourceTable (now targets) (now sources) × (n ≤ 8) ⌝ }
     ensures { λ r. ⌜ Breaks (sheet usable singles (now (targets .entry)) (now (lows .entry)) (now (highs .entry)) lines) (TypesAvoided a) n (r .ok) (worldBuilt n r) ⌝ }
 {
     if !queries::meets(a, usable) {
@@ -53,7 +41,7 @@ pub fn ask_any<'a>(
     singles: u32,
     n: u8,
 ) -> Built
-    requires { ⌜ Slotted lines × Turned (now targets) (now sources) × (n ≤ 8) ⌝ }
+    requires { ⌜ Slotted lines × SourceTable (now targets) (now sources) × (n ≤ 8) ⌝ }
     ensures { λ r. ⌜ Breaks (sheet usable singles (now (targets .entry)) (now (lows .entry)) (now (highs .entry)) lines) (λ _. ⊥) n (r .ok) (worldBuilt n r) ⌝ }
 {
     let q = queries::with_seeds(0, 0, 0, 0);
@@ -72,7 +60,7 @@ pub fn ask_absent<'a>(
     a: u32,
     n: u8,
 ) -> Built
-    requires { ⌜ Slotted lines × Turned (now targets) (now sources) × (n ≤ 8) ⌝ }
+    requires { ⌜ Slotted lines × SourceTable (now targets) (now sources) × (n ≤ 8) ⌝ }
     ensures { λ r. ⌜ Breaks (sheet usable singles (now (targets .entry)) (now (lows .entry)) (now (highs .entry)) lines) (λ w. TypesAvoided a w → ⊥) n (r .ok) (worldBuilt n r) ⌝ }
 {
     let q = queries::with_never(queries::with_seeds(0, 0, 0, 0), a);
@@ -91,7 +79,7 @@ pub fn ask_pairs<'a>(
     a: u32,
     n: u8,
 ) -> Built
-    requires { ⌜ Slotted lines × Turned (now targets) (now sources) × (n ≤ 8) ⌝ }
+    requires { ⌜ Slotted lines × SourceTable (now targets) (now sources) × (n ≤ 8) ⌝ }
     ensures { λ r. ⌜ Breaks (sheet usable singles (now (targets .entry)) (now (lows .entry)) (now (highs .entry)) lines) (PairsAvoided a) n (r .ok) (worldBuilt n r) ⌝ }
 {
     if !queries::meets(a, usable) {
@@ -115,7 +103,7 @@ pub fn ask_links<'a>(
     b: u32,
     n: u8,
 ) -> Built
-    requires { ⌜ Slotted lines × Turned (now targets) (now sources) × (n ≤ 8) × (s < 32) ⌝ }
+    requires { ⌜ Slotted lines × SourceTable (now targets) (now sources) × (n ≤ 8) × (s < 32) ⌝ }
     ensures { λ r. ⌜ Breaks (sheet usable singles (now (targets .entry)) (now (lows .entry)) (now (highs .entry)) lines) (LinksAvoided s a b) n (r .ok) (worldBuilt n r) ⌝ }
 {
     if !queries::meets(a, usable) {
@@ -141,7 +129,7 @@ pub fn ask_loops<'a>(
     a: u32,
     n: u8,
 ) -> Built
-    requires { ⌜ Slotted lines × Turned (now targets) (now sources) × (n ≤ 8) × (s < 32) ⌝ }
+    requires { ⌜ Slotted lines × SourceTable (now targets) (now sources) × (n ≤ 8) × (s < 32) ⌝ }
     ensures { λ r. ⌜ Breaks (sheet usable singles (now (targets .entry)) (now (lows .entry)) (now (highs .entry)) lines) (LoopsAvoided s a) n (r .ok) (worldBuilt n r) ⌝ }
 {
     if !queries::meets(a, usable) {
@@ -166,7 +154,7 @@ pub fn ask_rows<'a>(
     high: u8,
     n: u8,
 ) -> Built
-    requires { ⌜ Slotted lines × Turned (now targets) (now sources) × (n ≤ 8) × (s < 32) ⌝ }
+    requires { ⌜ Slotted lines × SourceTable (now targets) (now sources) × (n ≤ 8) × (s < 32) ⌝ }
     ensures { λ r. ⌜ Breaks (sheet usable singles (now (targets .entry)) (now (lows .entry)) (now (highs .entry)) lines) (RowsAvoided s a low high) n (r .ok) (worldBuilt n r) ⌝ }
 {
     if !queries::meets(a, usable) {
@@ -192,7 +180,7 @@ pub fn ask_columns<'a>(
     high: u8,
     n: u8,
 ) -> Built
-    requires { ⌜ Slotted lines × Turned (now targets) (now sources) × (n ≤ 8) × (s < 32) ⌝ }
+    requires { ⌜ Slotted lines × SourceTable (now targets) (now sources) × (n ≤ 8) × (s < 32) ⌝ }
     ensures { λ r. ⌜ Breaks (sheet usable singles (now (targets .entry)) (now (lows .entry)) (now (highs .entry)) lines) (ColumnsAvoided s a from low high) n (r .ok) (worldBuilt n r) ⌝ }
 {
     if !queries::meets(a, usable) {
@@ -217,7 +205,7 @@ pub fn ask_halves<'a>(
     b: u32,
     n: u8,
 ) -> Built
-    requires { ⌜ Slotted lines × Turned (now targets) (now sources) × (n ≤ 8) × (s < 32) × (u < 32) ⌝ }
+    requires { ⌜ Slotted lines × SourceTable (now targets) (now sources) × (n ≤ 8) × (s < 32) × (u < 32) ⌝ }
     ensures { λ r. ⌜ Breaks (sheet usable singles (now (targets .entry)) (now (lows .entry)) (now (highs .entry)) lines) (HalvesAvoided s u a b) n (r .ok) (worldBuilt n r) ⌝ }
 {
     if !queries::meets(a, usable) {
@@ -249,7 +237,7 @@ pub fn ask_half_loops<'a>(
     a: u32,
     n: u8,
 ) -> Built
-    requires { ⌜ Slotted lines × Turned (now targets) (now sources) × (n ≤ 8) × (s < 32) × (u < 32) ⌝ }
+    requires { ⌜ Slotted lines × SourceTable (now targets) (now sources) × (n ≤ 8) × (s < 32) × (u < 32) ⌝ }
     ensures { λ r. ⌜ Breaks (sheet usable singles (now (targets .entry)) (now (lows .entry)) (now (highs .entry)) lines) (HalfLoopsAvoided s u a) n (r .ok) (worldBuilt n r) ⌝ }
 {
     if !queries::meets(a, usable) {
@@ -280,7 +268,7 @@ pub fn ask_parts<'a>(
     c: u32,
     n: u8,
 ) -> Built
-    requires { ⌜ Slotted lines × Turned (now targets) (now sources) × (n ≤ 8) × (s < 32) × (u < 32) ⌝ }
+    requires { ⌜ Slotted lines × SourceTable (now targets) (now sources) × (n ≤ 8) × (s < 32) × (u < 32) ⌝ }
     ensures { λ r. ⌜ Breaks (sheet usable singles (now (targets .entry)) (now (lows .entry)) (now (highs .entry)) lines) (PartsAvoided s u a b c) n (r .ok) (worldBuilt n r) ⌝ }
 {
     if !queries::meets(a, usable) {
@@ -316,7 +304,7 @@ pub fn ask_own_parts<'a>(
     b: u32,
     n: u8,
 ) -> Built
-    requires { ⌜ Slotted lines × Turned (now targets) (now sources) × (n ≤ 8) × (s < 32) × (u < 32) ⌝ }
+    requires { ⌜ Slotted lines × SourceTable (now targets) (now sources) × (n ≤ 8) × (s < 32) × (u < 32) ⌝ }
     ensures { λ r. ⌜ Breaks (sheet usable singles (now (targets .entry)) (now (lows .entry)) (now (highs .entry)) lines) (OwnPartsAvoided s u a b) n (r .ok) (worldBuilt n r) ⌝ }
 {
     if !queries::meets(a, usable) {

@@ -1,13 +1,13 @@
 // Columns: the number of sources of each object lies within the other diagram's limits. A slot past the last has no links.
 ghost use Prim.Native.Nat.{_<_, _≤_};
-ghost use Rattle.worlds.specs.Kept.{ColumnsKept, Slotted, Turned, sheet};
+ghost use Rattle.worlds.specs.Kept.{ColumnsKept, Slotted, SourceTable, sheet};
 ghost use Rattle.worlds.specs.Asked.{Breaks, worldBuilt};
 ghost use Rattle.aims.specs.Columns.{ColumnKept, LeastKept, MostKept};
 use crate::asks::ask_columns;
 use crate::asks::ask_types;
-use crate::asks::nothing;
 use worlds::Built;
 use worlds::Lines;
+use worlds::nothing;
 
 // An object of the types a with fewer sources in slot s.
 fn find_few<'a>(
@@ -24,7 +24,7 @@ fn find_few<'a>(
     low: u8,
     n: u8,
 ) -> Built
-    requires { ⌜ Slotted lines × Turned (now targets) (now sources) × (n ≤ 8) ⌝ }
+    requires { ⌜ Slotted lines × SourceTable (now targets) (now sources) × (n ≤ 8) ⌝ }
     ensures { λ r. ⌜ Breaks (sheet usable singles (now (targets .entry)) (now (lows .entry)) (now (highs .entry)) lines) (LeastKept s a from low) n (r .ok) (worldBuilt n r) ⌝ }
 {
     if low == 0 {
@@ -65,7 +65,7 @@ fn find_many<'a>(
     high: u8,
     n: u8,
 ) -> Built
-    requires { ⌜ Slotted lines × Turned (now targets) (now sources) × (n ≤ 8) ⌝ }
+    requires { ⌜ Slotted lines × SourceTable (now targets) (now sources) × (n ≤ 8) ⌝ }
     ensures { λ r. ⌜ Breaks (sheet usable singles (now (targets .entry)) (now (lows .entry)) (now (highs .entry)) lines) (MostKept s a from high) n (r .ok) (worldBuilt n r) ⌝ }
 {
     if 8 <= high {
@@ -104,7 +104,7 @@ fn find_column<'a>(
     others: Lines,
     n: u8,
 ) -> Built
-    requires { ⌜ Slotted lines × Turned (now targets) (now sources) × (n ≤ 8) × (j < 16) ⌝ }
+    requires { ⌜ Slotted lines × SourceTable (now targets) (now sources) × (n ≤ 8) × (j < 16) ⌝ }
     ensures { λ r. ⌜ Breaks (sheet usable singles (now (targets .entry)) (now (lows .entry)) (now (highs .entry)) lines) (ColumnKept others j) n (r .ok) (worldBuilt n r) ⌝ }
 {
     let s = others.columnslot[j];
@@ -155,7 +155,7 @@ pub fn find_columns<'a>(
     others: Lines,
     n: u8,
 ) -> Built
-    requires { ⌜ Slotted lines × Turned (now targets) (now sources) × (n ≤ 8) ⌝ }
+    requires { ⌜ Slotted lines × SourceTable (now targets) (now sources) × (n ≤ 8) ⌝ }
     ensures { λ r. ⌜ Breaks (sheet usable singles (now (targets .entry)) (now (lows .entry)) (now (highs .entry)) lines) (ColumnsKept others) n (r .ok) (worldBuilt n r) ⌝ }
 {
     let mut j: usize = 0;

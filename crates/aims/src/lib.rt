@@ -2,7 +2,7 @@
 ghost use mathlib.Core.Path.{_≡_};
 ghost use mathlib.Core.Bool.{false};
 ghost use Prim.Native.Nat.{_<_, _≤_};
-ghost use Rattle.worlds.specs.Kept.{Keeps, Slotted, Turned, sheet};
+ghost use Rattle.worlds.specs.Kept.{AllKept, Slotted, SourceTable, sheet};
 ghost use Rattle.worlds.specs.Asked.{Breaks, worldBuilt};
 ghost use Rattle.aims.specs.Lines.{LinesKept};
 use worlds::Built;
@@ -27,13 +27,13 @@ fn find_any<'a>(
     missing: bool,
     n: u8,
 ) -> Built
-    requires { ⌜ Slotted lines × Turned (now targets) (now sources) × (n ≤ 8) ⌝ }
+    requires { ⌜ Slotted lines × SourceTable (now targets) (now sources) × (n ≤ 8) ⌝ }
     ensures { λ r. ⌜ Breaks (sheet usable singles (now (targets .entry)) (now (lows .entry)) (now (highs .entry)) lines) (λ _. missing ≡ false) n (r .ok) (worldBuilt n r) ⌝ }
 {
     if missing {
         return asks::ask_any(targets, sources, lows, highs, lines, usable, singles, n);
     }
-    asks::nothing()
+    worlds::nothing()
 }
 
 // Links that the other diagram does not allow.
@@ -48,7 +48,7 @@ fn find_lines<'a>(
     lines2: Lines,
     n: u8,
 ) -> Built
-    requires { ⌜ Slotted lines × Turned (now targets) (now sources) × (n ≤ 8) ⌝ }
+    requires { ⌜ Slotted lines × SourceTable (now targets) (now sources) × (n ≤ 8) ⌝ }
     ensures { λ r. ⌜ Breaks (sheet usable singles (now (targets .entry)) (now (lows .entry)) (now (highs .entry)) lines) (LinesKept lines2) n (r .ok) (worldBuilt n r) ⌝ }
 {
     let columns = columns::find_columns(
@@ -110,8 +110,8 @@ pub fn find_break<'a>(
     lines2: Lines,
     n: u8,
 ) -> Built
-    requires { ⌜ Slotted lines × Turned (now targets) (now sources) × (n ≤ 8) ⌝ }
-    ensures { λ r. ⌜ Breaks (sheet usable singles (now (targets .entry)) (now (lows .entry)) (now (highs .entry)) lines) (Keeps bad singles2 missing (now (targets2 .entry)) (now (lows2 .entry)) (now (highs2 .entry)) lines2) n (r .ok) (worldBuilt n r) ⌝ }
+    requires { ⌜ Slotted lines × SourceTable (now targets) (now sources) × (n ≤ 8) ⌝ }
+    ensures { λ r. ⌜ Breaks (sheet usable singles (now (targets .entry)) (now (lows .entry)) (now (highs .entry)) lines) (AllKept bad singles2 missing (now (targets2 .entry)) (now (lows2 .entry)) (now (highs2 .entry)) lines2) n (r .ok) (worldBuilt n r) ⌝ }
 {
     let any = find_any(
         targets,

@@ -1,14 +1,14 @@
 // Mirrors: a link stands exactly when the link back does. A slot past the last has no links.
 ghost use Prim.Native.Nat.{_<_, _≤_};
-ghost use Rattle.worlds.specs.Kept.{MirrorsKept, Slotted, Turned, sheet};
+ghost use Rattle.worlds.specs.Kept.{MirrorsKept, Slotted, SourceTable, sheet};
 ghost use Rattle.worlds.specs.Asked.{Breaks, worldBuilt};
 ghost use Rattle.aims.specs.Mirrors.{AllHalvesAvoided, MirrorKept};
 use crate::asks::ask_half_loops;
 use crate::asks::ask_halves;
-use crate::asks::nothing;
 use crate::rows::find_links;
 use worlds::Built;
 use worlds::Lines;
+use worlds::nothing;
 
 // A link in slot s from an object of the types a to one of the types b without the link back in slot u.
 fn find_halves<'a>(
@@ -25,7 +25,7 @@ fn find_halves<'a>(
     b: u32,
     n: u8,
 ) -> Built
-    requires { ⌜ Slotted lines × Turned (now targets) (now sources) × (n ≤ 8) ⌝ }
+    requires { ⌜ Slotted lines × SourceTable (now targets) (now sources) × (n ≤ 8) ⌝ }
     ensures { λ r. ⌜ Breaks (sheet usable singles (now (targets .entry)) (now (lows .entry)) (now (highs .entry)) lines) (AllHalvesAvoided s u a b) n (r .ok) (worldBuilt n r) ⌝ }
 {
     if 32 <= s {
@@ -91,7 +91,7 @@ fn find_mirror<'a>(
     others: Lines,
     n: u8,
 ) -> Built
-    requires { ⌜ Slotted lines × Turned (now targets) (now sources) × (n ≤ 8) × (j < 16) ⌝ }
+    requires { ⌜ Slotted lines × SourceTable (now targets) (now sources) × (n ≤ 8) × (j < 16) ⌝ }
     ensures { λ r. ⌜ Breaks (sheet usable singles (now (targets .entry)) (now (lows .entry)) (now (highs .entry)) lines) (MirrorKept others j) n (r .ok) (worldBuilt n r) ⌝ }
 {
     let s = others.mirrorright[j];
@@ -143,7 +143,7 @@ pub fn find_mirrors<'a>(
     others: Lines,
     n: u8,
 ) -> Built
-    requires { ⌜ Slotted lines × Turned (now targets) (now sources) × (n ≤ 8) ⌝ }
+    requires { ⌜ Slotted lines × SourceTable (now targets) (now sources) × (n ≤ 8) ⌝ }
     ensures { λ r. ⌜ Breaks (sheet usable singles (now (targets .entry)) (now (lows .entry)) (now (highs .entry)) lines) (MirrorsKept others) n (r .ok) (worldBuilt n r) ⌝ }
 {
     let mut j: usize = 0;

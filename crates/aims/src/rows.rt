@@ -4,15 +4,15 @@ ghost use mathlib.Core.Bool.{false};
 ghost use Prim.Native.Nat.{ℕ, _%_, _/_, _<_, _≤_};
 ghost use lib.Dec.{eqb};
 ghost use Rattle.laws.specs.Bits.{bit};
-ghost use Rattle.worlds.specs.Kept.{RowsKept, Slotted, Turned, sheet};
+ghost use Rattle.worlds.specs.Kept.{RowsKept, Slotted, SourceTable, sheet};
 ghost use Rattle.worlds.specs.Asked.{Breaks, worldBuilt};
-ghost use Rattle.aims.specs.Rows.{AllLinksAvoided, HighsKept, LowsKept, RowKept, RowWithin, RowsWithin, TargetsKept};
+ghost use Rattle.aims.specs.Rows.{AllLinksAvoided, HighsKept, LowsKept, RowKept, RowWithin, RowsWithin, RowTargetsKept};
 use crate::asks::ask_links;
 use crate::asks::ask_loops;
 use crate::asks::ask_rows;
-use crate::asks::nothing;
 use worlds::Built;
 use worlds::Lines;
+use worlds::nothing;
 
 // The type that the row at i speaks of, as a set.
 fn type_at(i: usize) -> u32
@@ -43,7 +43,7 @@ pub fn find_links<'a>(
     b: u32,
     n: u8,
 ) -> Built
-    requires { ⌜ Slotted lines × Turned (now targets) (now sources) × (n ≤ 8) × (s < 32) ⌝ }
+    requires { ⌜ Slotted lines × SourceTable (now targets) (now sources) × (n ≤ 8) × (s < 32) ⌝ }
     ensures { λ r. ⌜ Breaks (sheet usable singles (now (targets .entry)) (now (lows .entry)) (now (highs .entry)) lines) (AllLinksAvoided s a b) n (r .ok) (worldBuilt n r) ⌝ }
 {
     let r = ask_links(
@@ -89,8 +89,8 @@ fn find_target<'a>(
     others: &'a [u32; 768],
     n: u8,
 ) -> Built
-    requires { ⌜ Slotted lines × Turned (now targets) (now sources) × (n ≤ 8) × (i < 768) ⌝ }
-    ensures { λ r. ⌜ Breaks (sheet usable singles (now (targets .entry)) (now (lows .entry)) (now (highs .entry)) lines) (TargetsKept (now (others .entry)) i) n (r .ok) (worldBuilt n r) ⌝ }
+    requires { ⌜ Slotted lines × SourceTable (now targets) (now sources) × (n ≤ 8) × (i < 768) ⌝ }
+    ensures { λ r. ⌜ Breaks (sheet usable singles (now (targets .entry)) (now (lows .entry)) (now (highs .entry)) lines) (RowTargetsKept (now (others .entry)) i) n (r .ok) (worldBuilt n r) ⌝ }
 {
     let b = type_tables::without(targets[i], others[i]);
     if b == 0 {
@@ -124,7 +124,7 @@ fn find_low<'a>(
     others: &'a [u8; 768],
     n: u8,
 ) -> Built
-    requires { ⌜ Slotted lines × Turned (now targets) (now sources) × (n ≤ 8) × (i < 768) ⌝ }
+    requires { ⌜ Slotted lines × SourceTable (now targets) (now sources) × (n ≤ 8) × (i < 768) ⌝ }
     ensures { λ r. ⌜ Breaks (sheet usable singles (now (targets .entry)) (now (lows .entry)) (now (highs .entry)) lines) (LowsKept (now (others .entry)) i) n (r .ok) (worldBuilt n r) ⌝ }
 {
     let low = others[i];
@@ -160,7 +160,7 @@ fn find_high<'a>(
     others: &'a [u8; 768],
     n: u8,
 ) -> Built
-    requires { ⌜ Slotted lines × Turned (now targets) (now sources) × (n ≤ 8) × (i < 768) ⌝ }
+    requires { ⌜ Slotted lines × SourceTable (now targets) (now sources) × (n ≤ 8) × (i < 768) ⌝ }
     ensures { λ r. ⌜ Breaks (sheet usable singles (now (targets .entry)) (now (lows .entry)) (now (highs .entry)) lines) (HighsKept (now (others .entry)) i) n (r .ok) (worldBuilt n r) ⌝ }
 {
     let high = others[i];
@@ -201,7 +201,7 @@ fn find_row<'a>(
     highs2: &'a [u8; 768],
     n: u8,
 ) -> Built
-    requires { ⌜ Slotted lines × Turned (now targets) (now sources) × (n ≤ 8) × (i < 768) ⌝ }
+    requires { ⌜ Slotted lines × SourceTable (now targets) (now sources) × (n ≤ 8) × (i < 768) ⌝ }
     ensures { λ r. ⌜ Breaks (sheet usable singles (now (targets .entry)) (now (lows .entry)) (now (highs .entry)) lines) (RowKept (now (targets2 .entry)) (now (lows2 .entry)) (now (highs2 .entry)) i) n (r .ok) (worldBuilt n r) ⌝ }
 {
     let a = find_target(
@@ -310,7 +310,7 @@ pub fn find_rows<'a>(
     highs2: &'a [u8; 768],
     n: u8,
 ) -> Built
-    requires { ⌜ Slotted lines × Turned (now targets) (now sources) × (n ≤ 8) ⌝ }
+    requires { ⌜ Slotted lines × SourceTable (now targets) (now sources) × (n ≤ 8) ⌝ }
     ensures { λ r. ⌜ Breaks (sheet usable singles (now (targets .entry)) (now (lows .entry)) (now (highs .entry)) lines) (RowsKept (now (targets2 .entry)) (now (lows2 .entry)) (now (highs2 .entry))) n (r .ok) (worldBuilt n r) ⌝ }
 {
     let mut i = next_row(targets, lows, highs, targets2, lows2, highs2, 0);

@@ -1,13 +1,13 @@
 // Singletons: each type of the other diagram's set has exactly one object. Those that are singletons anyway need no search.
 ghost use Prim.Native.Nat.{_<_, _≤_};
-ghost use Rattle.worlds.specs.Kept.{SinglesKept, Slotted, Turned, sheet};
+ghost use Rattle.worlds.specs.Kept.{SinglesKept, Slotted, SourceTable, sheet};
 ghost use Rattle.worlds.specs.Asked.{Breaks, worldBuilt};
 ghost use Rattle.aims.specs.Singles.{SingleKept};
 use crate::asks::ask_absent;
 use crate::asks::ask_pairs;
-use crate::asks::nothing;
 use worlds::Built;
 use worlds::Lines;
+use worlds::nothing;
 
 // A world with no object of type t, or two.
 fn find_single<'a>(
@@ -22,7 +22,7 @@ fn find_single<'a>(
     others: u32,
     n: u8,
 ) -> Built
-    requires { ⌜ Slotted lines × Turned (now targets) (now sources) × (n ≤ 8) × (t < 24) ⌝ }
+    requires { ⌜ Slotted lines × SourceTable (now targets) (now sources) × (n ≤ 8) × (t < 24) ⌝ }
     ensures { λ r. ⌜ Breaks (sheet usable singles (now (targets .entry)) (now (lows .entry)) (now (highs .entry)) lines) (SingleKept others t) n (r .ok) (worldBuilt n r) ⌝ }
 {
     if !laws::has32(others, t) {
@@ -51,7 +51,7 @@ pub fn find_singles<'a>(
     others: u32,
     n: u8,
 ) -> Built
-    requires { ⌜ Slotted lines × Turned (now targets) (now sources) × (n ≤ 8) ⌝ }
+    requires { ⌜ Slotted lines × SourceTable (now targets) (now sources) × (n ≤ 8) ⌝ }
     ensures { λ r. ⌜ Breaks (sheet usable singles (now (targets .entry)) (now (lows .entry)) (now (highs .entry)) lines) (SinglesKept others) n (r .ok) (worldBuilt n r) ⌝ }
 {
     let mut t: u32 = 0;

@@ -2,14 +2,14 @@
 ghost use mathlib.Core.Path.{_≡_};
 ghost use mathlib.Core.Bool.{false};
 ghost use Prim.Native.Nat.{_<_, _≤_};
-ghost use Rattle.worlds.specs.Kept.{Slotted, Turned, WholesKept, sheet};
+ghost use Rattle.worlds.specs.Kept.{Slotted, SourceTable, WholesKept, sheet};
 ghost use Rattle.worlds.specs.Asked.{Breaks, worldBuilt};
 ghost use Rattle.aims.specs.Wholes.{AllPartsAvoided, PairApart, PairEmpty, PairsEmpty};
 use crate::asks::ask_own_parts;
 use crate::asks::ask_parts;
-use crate::asks::nothing;
 use worlds::Built;
 use worlds::Lines;
+use worlds::nothing;
 
 // An object of the types a that is a target of two, of the types b in slot s and of the types c in slot u. One of them may be itself.
 fn find_parts<'a>(
@@ -27,7 +27,7 @@ fn find_parts<'a>(
     c: u32,
     n: u8,
 ) -> Built
-    requires { ⌜ Slotted lines × Turned (now targets) (now sources) × (n ≤ 8) × (s < 32) × (u < 32) ⌝ }
+    requires { ⌜ Slotted lines × SourceTable (now targets) (now sources) × (n ≤ 8) × (s < 32) × (u < 32) ⌝ }
     ensures { λ r. ⌜ Breaks (sheet usable singles (now (targets .entry)) (now (lows .entry)) (now (highs .entry)) lines) (AllPartsAvoided s u a b c) n (r .ok) (worldBuilt n r) ⌝ }
 {
     let r = ask_parts(
@@ -94,7 +94,7 @@ fn find_pair<'a>(
     others: Lines,
     n: u8,
 ) -> Built
-    requires { ⌜ Slotted lines × Turned (now targets) (now sources) × (n ≤ 8) × (i < 256) ⌝ }
+    requires { ⌜ Slotted lines × SourceTable (now targets) (now sources) × (n ≤ 8) × (i < 256) ⌝ }
     ensures { λ r. ⌜ Breaks (sheet usable singles (now (targets .entry)) (now (lows .entry)) (now (highs .entry)) lines) (PairApart others i) n (r .ok) (worldBuilt n r) ⌝ }
 {
     let j = i / 16;
@@ -177,7 +177,7 @@ pub fn find_wholes<'a>(
     others: Lines,
     n: u8,
 ) -> Built
-    requires { ⌜ Slotted lines × Turned (now targets) (now sources) × (n ≤ 8) ⌝ }
+    requires { ⌜ Slotted lines × SourceTable (now targets) (now sources) × (n ≤ 8) ⌝ }
     ensures { λ r. ⌜ Breaks (sheet usable singles (now (targets .entry)) (now (lows .entry)) (now (highs .entry)) lines) (WholesKept others) n (r .ok) (worldBuilt n r) ⌝ }
 {
     let mut i = next_pair(&others.wholefrom, &others.wholeto, 0);

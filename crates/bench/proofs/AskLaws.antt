@@ -1,13 +1,12 @@
 -- One law for each way out of judge, evaluate and compile: the facts as the code has them, and the promise.
 -- Assumes nothing.
-use Prim.Native.Nat.{_<_, _≤_, ℕ}
+use Prim.Native.Nat.{_≤_, ℕ}
 use native.Mathlib.Omega.{arith}
-use mathlib.Core.Bool.{false, false≢true, not, true}
+use mathlib.Core.Bool.{false≢true, true}
 use mathlib.Core.List.{List, []}
 use mathlib.Core.Logic.{_≢_}
 use mathlib.Core.Path.{_∙_, _≡_, ap, refl, sym}
 use lib.ListN.{length, replicate}
-use borrow.Author.Tests.{le-ltb, lt-ltb}
 use Rattle.laws.proofs.BoundedLaws.{firstNot-le}
 use Rattle.files.specs.Diagram.{Diagram}
 use Rattle.files.specs.Record.{Record}
@@ -27,72 +26,63 @@ use Rattle.compiling.specs.Compiled.{Gives}
 use Rattle.compiling.specs.declared.Compiled.{Compiled}
 use Rattle.evaluating.specs.Evaluates.{Evaluates}
 use Rattle.evaluating.specs.declared.Evaluation.{Evaluation}
-use Rattle.steps.specs.Bench.{Compile, Evaluate, Judge}
-use Rattle.steps.specs.Row.{isRefusal}
-use Rattle.steps.specs.Step.{Step, compiling, evaluating, inPlace, judging, needing, reading}
-use Rattle.bench.specs.Calls.{Does, DoesWith, Valid}
-use Rattle.bench.specs.View.{benchOf, placeIn, replyOf}
+use Rattle.loading.specs.declared.Loaded.{Loaded}
+use Rattle.steps.specs.Bench as abstract
+use Rattle.steps.specs.Bench.{Call, Compile, Evaluate, Judge, Outcome, isRefusal}
+use Rattle.steps.specs.Step.{Step, andThen, asking, compiled, onRecord}
+use Rattle.bench.specs.Calls.{Does, DoesWith, Finds, Valid}
+use Rattle.bench.specs.View.{benchOf, replyOf}
 use Rattle.bench.specs.declared.Bench.{Bench}
-use Rattle.bench.specs.declared.Place.{Place}
 use Rattle.bench.specs.declared.Reply.{Reply}
 use Rattle.bench.specs.declared.Reply.the-variants.{FirstFalse, Records, Refused, Rule}
-use Rattle.bench.proofs.CallLaws.{kept, stays-all}
-use Rattle.bench.proofs.PartLaws.{place-empty, place-full}
+use Rattle.bench.proofs.CallLaws.{kept}
+use Rattle.bench.proofs.FoundLaws.{answer-accepted, answer-refused}
+use Rattle.bench.proofs.PartLaws.{stays-all}
 
--- ---- the file's answer
+-- ---- a call with a record file, under the diagram in a place
 
 record-refused : {A : Type 0} (a : Answer A) (n : ℕ) → n ≡ refusalOf a → n ≢ 0 → a ≡ refused n
 unfolding refusalOf
 record-refused (refused m) n e h = ap refused (sym e)
 record-refused (accepted x) n e h = absurd (h e)
 
--- ---- judge
+-- the call c says `says` of the diagram and the record
+module _ (b : Bench) (p : ℕ) (f : List ℕ) (c : Call) (says : Diagram → Record → abstract.Reply)
+    (step : (o : Outcome) → o ≡ asking (benchOf b) (onRecord (benchOf b) p f says) → Step (benchOf b) c o) {l : Loaded} (v : Valid b) (found : Finds b p l) where
+  on-place : l .no ≢ 0 → Does b c (record { bench = b; reply = Refused (l .no) }) []
+  unfolding asking onRecord andThen
+  on-place n = kept b c (Refused (l .no)) [] v (step _ (rw (answer-refused l (found .says) n)))
 
-module _ (b : Bench) (p : ℕ) (f : List ℕ) where
-  pub judge-place : Valid b → 1 < p → Does b (Judge p f) (record { bench = b; reply = Refused 10 }) []
-  unfolding judging inPlace
-  judge-place v h = kept b (Judge p f) (Refused 10) [] v (rw (lt-ltb 1 p h))
+  on-file : {no : ℕ} → l .no ≡ 0 → no ≡ refusalOf (readRecord f) → no ≢ 0 → Does b c (record { bench = b; reply = Refused no }) []
+  unfolding asking onRecord andThen
+  on-file {no} n e m = kept b c (Refused no) [] v (step _ (rw (answer-accepted l (found .says) n, record-refused (readRecord f) no e m)))
 
-  pub judge-empty : {x : Place} → Valid b → p ≤ 1 → x ≡ placeIn b p → not (x .loaded) ≡ true → Does b (Judge p f) (record { bench = b; reply = Refused 21 }) []
-  unfolding judging inPlace needing
-  judge-empty v h is n = kept b (Judge p f) (Refused 21) [] v (rw (le-ltb 1 p h, place-empty b p is n))
+  on-done : {no : ℕ} (reply : Reply) → l .no ≡ 0 → no ≡ refusalOf (readRecord f) → no ≡ 0
+      → ((r : Record) → readRecord f ≡ accepted r → replyOf reply [] ≡ says (diagramOf (l .diagram)) r) → Does b c (record { bench = b; reply = reply }) []
+  unfolding asking onRecord andThen
+  on-done reply n e m is =
+      let r = record-of f (sym e ∙ m) in kept b c reply [] v (step _ (rw (answer-accepted l (found .says) n, r .1, is (r .0) (r .1))))
 
-  pub judge-file : {x : Place} {j : Judgement} → Valid b → p ≤ 1 → x ≡ placeIn b p → not (x .loaded) ≡ false → Judges (diagramOf (x .diagram)) f j → j .no ≢ 0
-      → Does b (Judge p f) (record { bench = b; reply = Refused (j .no) }) []
-  unfolding judging inPlace needing reading
-  judge-file {x} {j} v h is n e m =
-      kept b (Judge p f) (Refused (j .no)) [] v (rw (le-ltb 1 p h, place-full b p is n, record-refused (readRecord f) (j .no) (e .refusal) m))
+-- ---- judge and evaluate
 
-  pub judge-done : {x : Place} {j : Judgement} → Valid b → p ≤ 1 → x ≡ placeIn b p → not (x .loaded) ≡ false → Judges (diagramOf (x .diagram)) f j → j .no ≡ 0
-      → Does b (Judge p f) (record { bench = b; reply = Rule (j .rule) }) []
-  unfolding judging inPlace needing reading
-  judge-done {x} {j} v h is n e m =
-      let r = record-of f (sym (e .refusal) ∙ m) in
-      kept b (Judge p f) (Rule (j .rule)) [] v (rw (le-ltb 1 p h, place-full b p is n, r .1, e .rule (r .0) (r .1)))
+module _ (b : Bench) (p : ℕ) (f : List ℕ) {l : Loaded} (v : Valid b) (found : Finds b p l) where
+  pub judge-place : l .no ≢ 0 → Does b (Judge p f) (record { bench = b; reply = Refused (l .no) }) []
+  judge-place = on-place b p f (Judge p f) _ (λ o e. e) v found
 
--- ---- evaluate
+  pub judge-file : {j : Judgement} → l .no ≡ 0 → Judges (diagramOf (l .diagram)) f j → j .no ≢ 0 → Does b (Judge p f) (record { bench = b; reply = Refused (j .no) }) []
+  judge-file n e = on-file b p f (Judge p f) _ (λ o e. e) v found n (e .refusal)
 
-module _ (b : Bench) (p : ℕ) (f : List ℕ) where
-  pub evaluate-place : Valid b → 1 < p → Does b (Evaluate p f) (record { bench = b; reply = Refused 10 }) []
-  unfolding evaluating inPlace
-  evaluate-place v h = kept b (Evaluate p f) (Refused 10) [] v (rw (lt-ltb 1 p h))
+  pub judge-done : {j : Judgement} → l .no ≡ 0 → Judges (diagramOf (l .diagram)) f j → j .no ≡ 0 → Does b (Judge p f) (record { bench = b; reply = Rule (j .rule) }) []
+  judge-done n e m = on-done b p f (Judge p f) _ (λ o e. e) v found _ n (e .refusal) m (λ r q. ap abstract.rule (e .rule r q))
 
-  pub evaluate-empty : {x : Place} → Valid b → p ≤ 1 → x ≡ placeIn b p → not (x .loaded) ≡ true → Does b (Evaluate p f) (record { bench = b; reply = Refused 21 }) []
-  unfolding evaluating inPlace needing
-  evaluate-empty v h is n = kept b (Evaluate p f) (Refused 21) [] v (rw (le-ltb 1 p h, place-empty b p is n))
+  pub evaluate-place : l .no ≢ 0 → Does b (Evaluate p f) (record { bench = b; reply = Refused (l .no) }) []
+  evaluate-place = on-place b p f (Evaluate p f) _ (λ o e. e) v found
 
-  pub evaluate-file : {x : Place} {e : Evaluation} → Valid b → p ≤ 1 → x ≡ placeIn b p → not (x .loaded) ≡ false → Evaluates (diagramOf (x .diagram)) f e → e .no ≢ 0
-      → Does b (Evaluate p f) (record { bench = b; reply = Refused (e .no) }) []
-  unfolding evaluating inPlace needing reading
-  evaluate-file {x} {e} v h is n q m =
-      kept b (Evaluate p f) (Refused (e .no)) [] v (rw (le-ltb 1 p h, place-full b p is n, record-refused (readRecord f) (e .no) (q .refusal) m))
+  pub evaluate-file : {e : Evaluation} → l .no ≡ 0 → Evaluates (diagramOf (l .diagram)) f e → e .no ≢ 0 → Does b (Evaluate p f) (record { bench = b; reply = Refused (e .no) }) []
+  evaluate-file n e = on-file b p f (Evaluate p f) _ (λ o e. e) v found n (e .refusal)
 
-  pub evaluate-done : {x : Place} {e : Evaluation} → Valid b → p ≤ 1 → x ≡ placeIn b p → not (x .loaded) ≡ false → Evaluates (diagramOf (x .diagram)) f e → e .no ≡ 0
-      → Does b (Evaluate p f) (record { bench = b; reply = FirstFalse (e .first) }) []
-  unfolding evaluating inPlace needing reading
-  evaluate-done {x} {e} v h is n q m =
-      let r = record-of f (sym (q .refusal) ∙ m) in
-      kept b (Evaluate p f) (FirstFalse (e .first)) [] v (rw (le-ltb 1 p h, place-full b p is n, r .1, q .first (r .0) (r .1)))
+  pub evaluate-done : {e : Evaluation} → l .no ≡ 0 → Evaluates (diagramOf (l .diagram)) f e → e .no ≡ 0 → Does b (Evaluate p f) (record { bench = b; reply = FirstFalse (e .first) }) []
+  evaluate-done n e m = on-done b p f (Evaluate p f) _ (λ o e. e) v found _ n (e .refusal) m (λ r q. ap abstract.firstFalse (e .first r q))
 
 evaluate-le : (d : Diagram) (r : Record) → evaluate d r ≤ length (compile d)
 unfolding evaluate firstFailing
@@ -114,21 +104,15 @@ kept-with : (b : Bench) (p : ℕ) (reply : Reply) (list : List ℕ) → Valid b
     → (isRefusal (replyOf reply list) ≡ true → list ≡ replicate 320 0) → DoesWith b (Compile p) (record { bench = b; reply = reply; list = list })
 kept-with b p reply list v s z = record { step = s; stays = stays-all b (Compile p) (replyOf reply list); valid = v; zero = z }
 
-module _ (b : Bench) (p : ℕ) where
-  pub compile-place : Valid b → 1 < p → DoesWith b (Compile p) (record { bench = b; reply = Refused 10; list = replicate 320 0 })
-  unfolding compiling inPlace
-  compile-place v h = kept-with b p (Refused 10) (replicate 320 0) v (rw (lt-ltb 1 p h)) (λ e. refl)
+module _ (b : Bench) (p : ℕ) {l : Loaded} (v : Valid b) (found : Finds b p l) where
+  pub compile-place : l .no ≢ 0 → DoesWith b (Compile p) (record { bench = b; reply = Refused (l .no); list = replicate 320 0 })
+  unfolding asking compiled andThen
+  compile-place n = kept-with b p (Refused (l .no)) (replicate 320 0) v (rw (answer-refused l (found .says) n)) (λ e. refl)
 
-  pub compile-empty : {x : Place} → Valid b → p ≤ 1 → x ≡ placeIn b p → not (x .loaded) ≡ true
-      → DoesWith b (Compile p) (record { bench = b; reply = Refused 21; list = replicate 320 0 })
-  unfolding compiling inPlace needing
-  compile-empty v h is n = kept-with b p (Refused 21) (replicate 320 0) v (rw (le-ltb 1 p h, place-empty b p is n)) (λ e. refl)
-
-  pub compile-done : {x : Place} {l : Compiled} → Valid b → p ≤ 1 → x ≡ placeIn b p → not (x .loaded) ≡ false → Gives (x .diagram) l
-      → DoesWith b (Compile p) (record { bench = b; reply = Records (l .number); list = l .list })
-  unfolding compiling inPlace needing isRefusal
-  compile-done {x} {l} v h is n g =
-      kept-with b p (Records (l .number)) (l .list) v (rw (le-ltb 1 p h, place-full b p is n, g .number, g .list)) (λ e. absurd (false≢true e))
+  pub compile-done : {k : Compiled} → l .no ≡ 0 → Gives (l .diagram) k → DoesWith b (Compile p) (record { bench = b; reply = Records (k .number); list = k .list })
+  unfolding asking compiled andThen isRefusal
+  compile-done {k} n g =
+      kept-with b p (Records (k .number)) (k .list) v (rw (answer-accepted l (found .says) n, g .number, g .list)) (λ e. absurd (false≢true e))
 
 pub number-few : {d : StoredDiagram} {l : Compiled} → Held d → Gives d l → l .number ≤ 64
 number-few {d} {l} h g =
@@ -136,4 +120,4 @@ number-few {d} {l} h g =
     let few : length (compile (diagramOf d)) ≤ 64 = compiled-few (diagramOf d) (h .wf) in
     omega (arith, is, few)
 
-pub ruleset asks = (judge-place, judge-empty, judge-file, judge-done, evaluate-place, evaluate-empty, evaluate-file, evaluate-done, compile-place, compile-empty, compile-done)
+pub ruleset asks = (judge-place, judge-file, judge-done, evaluate-place, evaluate-file, evaluate-done, compile-place, compile-done)

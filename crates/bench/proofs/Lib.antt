@@ -1,9 +1,9 @@
 pub mod AskLaws
 pub mod CallLaws
 pub mod PartLaws
+pub mod FoundLaws
 pub mod StoreLaws
 pub mod HandOutLaws
 pub mod CompareLaws
 pub mod RunLaws
-pub mod LowestLaws
 pub mod Demands

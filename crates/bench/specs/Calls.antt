@@ -1,59 +1,59 @@
 -- What a call on the bench in memory promises: what 01 says of it (`Step`), what stays of the bench byte for byte, and that the
 -- bench it leaves is again a valid one.
 -- Assumes nothing.
-use Prim.Native.Nat.{ℕ}
-use mathlib.Core.Bool.{Bool, false, not, true}
+use Prim.Native.Nat.{_≤_, ℕ}
+use mathlib.Core.Bool.{false, true}
 use mathlib.Core.List.{List, []}
 use mathlib.Core.Path.{_≡_}
-use lib.Dec.{eqb}
 use lib.ListN.{replicate}
 use Rattle.diagrams.specs.Held.{Held}
 use Rattle.diagrams.specs.View.{diagramOf}
+use Rattle.loading.specs.Loads.{answerOf}
+use Rattle.loading.specs.declared.Loaded.{Loaded}
 use Rattle.records.specs.Written.{Within}
 use Rattle.steps.specs.Bench as abstract
-use Rattle.steps.specs.Bench.{Call, Clear, Compare, Compile, Evaluate, HandOut, Judge, Load}
-use Rattle.steps.specs.Row.{dropsOrStores, isRefusal}
-use Rattle.steps.specs.Step.{Step}
-use Rattle.bench.specs.View.{benchOf, noPlace, noWitness, replyOf}
+use Rattle.steps.specs.Bench.{Call, isRefusal}
+use Rattle.steps.specs.Effect.{changes, newPlace, oldPlace, witness}
+use Rattle.steps.specs.Step.{Step, diagramAt}
+use Rattle.bench.specs.View.{benchOf, noPlace, noWitness, pick, replyOf}
 use Rattle.bench.specs.declared.Bench.{Bench}
 use Rattle.bench.specs.declared.Listed.{Listed}
 use Rattle.bench.specs.declared.Place.{Place}
 use Rattle.bench.specs.declared.Replied.{Replied}
+use Rattle.bench.specs.declared.Witness.{Witness}
 
--- ---- the invariant: "a bench is the fresh one or one that a call returned"
+-- ---- the invariant, part by part: "A bench is the fresh one or one that a call returned."
 
 -- a place holds a diagram that was read, or is the empty one
 pub record ValidPlace (x : Place) : Type 0 where
   pub held : x .loaded ≡ true → Held (x .diagram)
   pub empty : x .loaded ≡ false → x ≡ noPlace
 
--- a witness has an index of the old diagram for everything, or is none
+-- a witness has an index of the diagram in its place for everything, or is none
+pub record ValidWitness (old new : Place) (w : Witness) : Type 0 where
+  pub whose : w .stored ≡ true → w .place ≤ 1
+  pub ready : w .stored ≡ true → pick (w .place) old new .loaded ≡ true
+  pub within : w .stored ≡ true → Within (diagramOf (pick (w .place) old new .diagram)) (w .found)
+  pub none : w .stored ≡ false → w ≡ noWitness
+
 pub record Valid (b : Bench) : Type 0 where
   pub old : ValidPlace (b .old)
   pub new : ValidPlace (b .new)
-  pub ready : b .witness .stored ≡ true → b .old .loaded ≡ true
-  pub whose : b .witness .stored ≡ true → b .witness .place ≡ 0
-  pub within : b .witness .stored ≡ true → Within (diagramOf (b .old .diagram)) (b .witness .found)
-  pub none : b .witness .stored ≡ false → b .witness ≡ noWitness
+  pub witness : ValidWitness (b .old) (b .new) (b .witness)
 
--- ---- what stays
+-- ---- what a call finds in the place that it names: its refusal, or the diagram there, which was read
 
--- the call leaves place p alone
-unfoldable pub spares : ℕ → Call → Bool
-spares p (Load q file) = not (eqb q p)
-spares p (Clear q) = not (eqb q p)
-spares p (Judge q file) = true
-spares p (Compile q) = true
-spares p (Evaluate q file) = true
-spares p (Compare bound) = true
-spares p (HandOut buffer) = true
+pub record Finds (b : Bench) (p : ℕ) (l : Loaded) : Type 0 where
+  pub says : answerOf l ≡ diagramAt (benchOf b) p
+  pub held : l .no ≡ 0 → Held (l .diagram)
 
--- "a refusal changes neither the bench nor a byte of the buffer": the bench stays as it came, unless the call drops or stores a
--- witness; and each place stays that the call does not name
+-- ---- what stays: each part that the call does not change, and all where it is refused
+
 pub record Stays (b : Bench) (c : Call) (reply : abstract.Reply) (e : Bench) : Type 0 where
-  pub all : dropsOrStores c reply ≡ false → e ≡ b
-  pub old : spares 0 c ≡ true → e .old ≡ b .old
-  pub new : spares 1 c ≡ true → e .new ≡ b .new
+  pub refused : isRefusal reply ≡ true → e ≡ b
+  pub old : changes c reply oldPlace ≡ false → e .old ≡ b .old
+  pub new : changes c reply newPlace ≡ false → e .new ≡ b .new
+  pub witness : changes c reply witness ≡ false → e .witness ≡ b .witness
 
 -- ---- the promise
 

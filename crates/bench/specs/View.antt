@@ -1,15 +1,15 @@
--- The bench in memory: what it stands for, and its parts.
+-- The bench in memory: its parts, the two ways to change it, and what it stands for.
 -- Assumes nothing.
 use Prim.Native.Nat.{ℕ}
 use mathlib.Core.Bool.{cond, false}
 use mathlib.Core.List.{List}
 use mathlib.Core.Option.{Option, none, some}
 use lib.Dec.{eqb}
-use lib.ListN.{replicate}
 use Rattle.files.specs.Diagram.{Diagram}
 use Rattle.files.specs.Record.{Record}
 use Rattle.diagrams.specs.Empty.{emptyDiagram}
 use Rattle.diagrams.specs.View.{diagramOf}
+use Rattle.records.specs.Empty.{emptyRecord}
 use Rattle.records.specs.Written.{recordOf}
 use Rattle.steps.specs.Bench as abstract
 use Rattle.bench.specs.declared.Bench.{Bench}
@@ -24,25 +24,28 @@ unfoldable pub noPlace : Place
 noPlace = record { loaded = false; diagram = emptyDiagram }
 
 unfoldable pub noWitness : Witness
-noWitness = record {
-  stored = false;
-  place = 0;
-  found = record { count = 0; types = replicate 8 0; values = replicate 256 0; links = replicate 256 0; strays = record { values = false; links = false } };
-}
+noWitness = record { stored = false; place = 0; found = emptyRecord }
 
 abbrev pub freshIn : Bench
 freshIn = record { old = noPlace; new = noPlace; witness = noWitness }
 
 -- ---- parts
 
-unfoldable pub placeIn : Bench → ℕ → Place
-placeIn b p = cond (eqb p 0) (b .old) (b .new)
+-- of two, the one of place p
+unfoldable pub pick : ℕ → Place → Place → Place
+pick p x y = cond (eqb p 0) x y
 
-unfoldable pub withPlaceIn : Bench → ℕ → Place → Bench
-withPlaceIn b p x =
+abbrev pub placeIn : Bench → ℕ → Place
+placeIn b p = pick p (b .old) (b .new)
+
+-- ---- changes
+
+-- place p is x, and the witness is dropped
+unfoldable pub settledIn : Bench → ℕ → Place → Bench
+settledIn b p x =
     cond (eqb p 0)
-    (record { old = x; new = b .new; witness = b .witness })
-    (record { old = b .old; new = x; witness = b .witness })
+    (record { old = x; new = b .new; witness = noWitness })
+    (record { old = b .old; new = x; witness = noWitness })
 
 abbrev pub withWitnessIn : Bench → Witness → Bench
 withWitnessIn b w = record { old = b .old; new = b .new; witness = w }
@@ -52,12 +55,12 @@ withWitnessIn b w = record { old = b .old; new = b .new; witness = w }
 unfoldable pub diagramIn : Place → Option Diagram
 diagramIn x = cond (x .loaded) (some (diagramOf (x .diagram))) none
 
--- the witness, by the names of the old diagram
-unfoldable pub witnessIn : Bench → Option Record
-witnessIn b = cond (b .witness .stored) (some (recordOf (diagramOf (b .old .diagram)) (b .witness .found))) none
+-- the witness, by the names of the diagram in its place
+unfoldable pub witnessIn : Place → Place → Witness → Option Record
+witnessIn old new w = cond (w .stored) (some (recordOf (diagramOf (pick (w .place) old new .diagram)) (w .found))) none
 
 unfoldable pub benchOf : Bench → abstract.Bench
-benchOf b = record { old = diagramIn (b .old); new = diagramIn (b .new); witness = witnessIn b }
+benchOf b = record { old = diagramIn (b .old); new = diagramIn (b .new); witness = witnessIn (b .old) (b .new) (b .witness) }
 
 -- "the promises use a definition that gives this paper's number and values for each of its cases"; compile's list stands beside it
 abbrev pub replyOf : Reply → List ℕ → abstract.Reply

@@ -1,11 +1,12 @@
-// The bench: two places for diagrams, old and new, and at most one witness; and its seven calls.
+// The bench: two places for diagrams, old and new, and at most one witness; and its calls.
 ghost use mathlib.Core.List.{[]};
 ghost use mathlib.Core.Path.{_≡_};
-ghost use Prim.Native.Nat.{_<_, _≤_};
+ghost use Prim.Native.Nat.{_<_};
 ghost use Rattle.steps.specs.Bench.{Load, Clear, Judge, Compile, Evaluate, Compare, HandOut};
-ghost use Rattle.bench.specs.View.{freshIn, noPlace, noWitness, placeIn, withPlaceIn, withWitnessIn};
-ghost use Rattle.bench.specs.Calls.{Does, DoesWith, Valid};
+ghost use Rattle.bench.specs.View.{freshIn, noPlace, noWitness, placeIn, settledIn, withWitnessIn};
+ghost use Rattle.bench.specs.Calls.{Does, DoesWith, Finds, Valid};
 use diagrams::StoredDiagram;
+use loading::Loaded;
 use records::MemoryRecord;
 
 pub struct Place {
@@ -66,16 +67,7 @@ fn no_witness() -> Witness
     Witness {
         stored: false,
         place: 0,
-        found: MemoryRecord {
-            count: 0,
-            types: [0u8; 8],
-            values: [0u8; 256],
-            links: [0u8; 256],
-            strays: records::Strays {
-                values: false,
-                links: false,
-            },
-        },
+        found: records::empty_record(),
     }
 }
 
@@ -89,10 +81,12 @@ pub fn fresh() -> Bench
     }
 }
 
-fn with_place(b: Bench, p: u8, x: Place) -> Bench
-    ensures { λ r. ⌜ r ≡ withPlaceIn b p x ⌝ }
+// Place p is x, and the witness is dropped.
+fn settle(b: Bench, p: u8, x: Place) -> Bench
+    ensures { λ r. ⌜ r ≡ settledIn b p x ⌝ }
 {
     let mut c = b;
+    c.witness = no_witness();
     if p == 0 {
         c.old = x;
     } else {
@@ -101,6 +95,7 @@ fn with_place(b: Bench, p: u8, x: Place) -> Bench
     c
 }
 
+// The witness is w.
 fn with_witness(b: Bench, w: Witness) -> Bench
     ensures { λ r. ⌜ r ≡ withWitnessIn b w ⌝ }
 {
@@ -109,10 +104,27 @@ fn with_witness(b: Bench, w: Witness) -> Bench
     c
 }
 
+// What place p holds.
 fn place_of(b: Bench, p: u8) -> Place
     ensures { λ r. ⌜ r ≡ placeIn b p ⌝ }
 {
     if p == 0 { b.old } else { b.new }
+}
+
+// The diagram in place p, or the refusal of a call that needs it.
+fn diagram_at(b: Bench, p: u8) -> Loaded
+    requires { ⌜ Valid b ⌝ }
+    ensures { λ r. ⌜ Finds b p r ⌝ }
+{
+    let x = place_of(b, p);
+    let diagram = x.diagram;
+    if 1 < p {
+        return Loaded { no: 10, diagram };
+    }
+    if !x.loaded {
+        return Loaded { no: 21, diagram };
+    }
+    Loaded { no: 0, diagram }
 }
 
 // ---- calls
@@ -137,17 +149,12 @@ impl Bench {
             };
         }
         let diagram = l.diagram;
-        let loaded = with_place(
-            self,
-            place,
-            Place {
-                loaded: true,
-                diagram,
-            },
-        );
-        let w = no_witness();
+        let x = Place {
+            loaded: true,
+            diagram,
+        };
         Replied {
-            bench: with_witness(loaded, w),
+            bench: settle(self, place, x),
             reply: Reply::Done,
         }
     }
@@ -163,10 +170,8 @@ impl Bench {
                 reply: Reply::Refused(10),
             };
         }
-        let emptied = with_place(self, place, empty_place());
-        let w = no_witness();
         Replied {
-            bench: with_witness(emptied, w),
+            bench: settle(self, place, empty_place()),
             reply: Reply::Done,
         }
     }
@@ -176,17 +181,11 @@ impl Bench {
         requires { ⌜ Valid self ⌝ }
         ensures { λ r. ⌜ Does self (Judge place (now (file .entry))) r [] ⌝ }
     {
-        if 1 < place {
+        let x = diagram_at(self, place);
+        if x.no != 0 {
             return Replied {
                 bench: self,
-                reply: Reply::Refused(10),
-            };
-        }
-        let x = place_of(self, place);
-        if !x.loaded {
-            return Replied {
-                bench: self,
-                reply: Reply::Refused(21),
+                reply: Reply::Refused(x.no),
             };
         }
         let j = judging::judge(x.diagram, file);
@@ -207,18 +206,11 @@ impl Bench {
         requires { ⌜ Valid self ⌝ }
         ensures { λ r. ⌜ DoesWith self (Compile place) r ⌝ }
     {
-        if 1 < place {
+        let x = diagram_at(self, place);
+        if x.no != 0 {
             return Listed {
                 bench: self,
-                reply: Reply::Refused(10),
-                list: [0u8; 320],
-            };
-        }
-        let x = place_of(self, place);
-        if !x.loaded {
-            return Listed {
-                bench: self,
-                reply: Reply::Refused(21),
+                reply: Reply::Refused(x.no),
                 list: [0u8; 320],
             };
         }
@@ -236,17 +228,11 @@ impl Bench {
         requires { ⌜ Valid self ⌝ }
         ensures { λ r. ⌜ Does self (Evaluate place (now (file .entry))) r [] ⌝ }
     {
-        if 1 < place {
+        let x = diagram_at(self, place);
+        if x.no != 0 {
             return Replied {
                 bench: self,
-                reply: Reply::Refused(10),
-            };
-        }
-        let x = place_of(self, place);
-        if !x.loaded {
-            return Replied {
-                bench: self,
-                reply: Reply::Refused(21),
+                reply: Reply::Refused(x.no),
             };
         }
         let v = evaluating::evaluate(x.diagram, file);
@@ -325,7 +311,7 @@ impl Bench {
                 reply: Reply::Refused(20),
             };
         }
-        let x = self.old;
+        let x = place_of(self, w.place);
         let n = writing::write_record(x.diagram, w.found, out);
         Replied {
             bench: self,

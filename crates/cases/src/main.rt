@@ -204,11 +204,11 @@ fn run(line: &[u8], space: &mut [u8], other: &mut [u8], replies: &mut [u8]) {
         return;
     }
     if kind == 70 {
-        differences::run_compare(line, at, false, space, other);
+        differences::run_compare(line, at, false, space);
         return;
     }
     if kind == 87 {
-        differences::run_compare(line, at, true, space, other);
+        differences::run_compare(line, at, true, space);
         return;
     }
     if kind == 66 {

@@ -1,4 +1,2 @@
-pub mod ChoiceLaws
-pub mod LastLaws
 pub mod SeenLaws
 pub mod ReadingLaws

@@ -8,18 +8,19 @@ use mathlib.Core.List.{List, [], _∷_}
 use mathlib.Core.Path.{_≡_, refl, subst}
 use lib.Dec.{eqb}
 use lib.ListN.{getD, length, length-append}
-use borrow.Author.Tests.{eqb-true, leb-false, leb-true, not-false}
+use borrow.Author.Tests.{eqb-true, leb-false, not-false}
 use Rattle.laws.proofs.BoundedLaws.{any-at}
-use Rattle.laws.proofs.ConnectiveLaws.{both-right, refuse-passed}
-use Rattle.files.specs.Content.{byte, nameIn, pastName}
+use Rattle.laws.proofs.ConnectiveLaws.{refuse-passed}
+use Rattle.laws.proofs.ListLaws.{last-snoc}
+use Rattle.files.specs.Content.{nameIn, pastName}
 use Rattle.files.specs.Record.{Record, linkAt, noRecord, valueAt}
 use Rattle.files.specs.RecordFile.{countRefusal, linkRefusal, linkRises, objectRefusal, recordRefusal, recordTags, recordWith, valueRefusal, valueRises, withLink, withObject, withValue}
 use Rattle.files.specs.RecordLayout.{countLaid, linkOf, valueOf}
 use Rattle.files.specs.Refusal.{full}
 use Rattle.files.proofs.RecordUnique.{by-tag, misplaced-no, placed}
 use Rattle.checking.specs.declared.Progress.{Progress}
-use Rattle.checking.proofs.LastLaws.{last-snoc}
 use Rattle.checking.specs.Progress.{counted, fieldNo, linkNo, objectNo, valueNo}
+use Rattle.files.proofs.RecordWellFormed.{count-fits}
 
 -- The numbers are the record's, and v and k are the contents of its last value and last link. Where there is none, the last
 -- one is what an empty content says. The bounds are those that the refusals keep.
@@ -74,10 +75,6 @@ abbrev Keeps : Progress → List ℕ → List ℕ → Record → List ℕ → �
 Keeps s v k r c t =
     Seen s v k r → recordRefusal (s .last) (s .count) r t c ≡ 0
     → Seen (counted s t c) (cond (eqb t 0x62) c v) (cond (eqb t 0x63) c k) (recordWith r t c)
-
-count-fits : (c : List ℕ) → countLaid c ≡ true → byte c 0 ≤ 8
-unfolding countLaid
-count-fits c h = leb-true (byte c 0) 8 (both-right _ _ h)
 
 module _ (s : Progress) (v k : List ℕ) (r : Record) (c : List ℕ) where
   keeps-60 : Keeps s v k r c 0x60

@@ -9,15 +9,14 @@ use lib.Bits.{bitAnd}
 use lib.ListN.{getD}
 use Rattle.laws.specs.Bits.{bit}
 use Rattle.laws.specs.Bounded.{tally}
-use Rattle.laws.proofs.BitLaws.{bit-and}
+use Rattle.laws.proofs.BitLaws.{bit-both}
 use Rattle.laws.proofs.BoundedLaws.{any-of}
 use Rattle.laws.proofs.ConnectiveLaws.{and-both, and-left, and-right}
 use Rattle.laws.proofs.CountLaws.{tally-mono}
-use Rattle.growing.specs.World.{World}
-use Rattle.link_search.specs.Nets.{Within}
+use Rattle.growing.specs.World.{World, sourceCount, targetCount}
+use Rattle.link_search.specs.Nets.{InLimits}
 use Rattle.worlds.specs.declared.Lines.{Lines}
 use Rattle.worlds.specs.Kept.{ColumnsKept, MirrorsKept, RowsKept, WholesKept, wholeBy, wholeOf}
-use Rattle.clashes.specs.Counts.{sourceCount, targetCount}
 use Rattle.clashes.specs.Clashes.{FirstSources, LinkedBack, Never, OtherSources, TurnedSources}
 
 -- an object that is a whole by one association is a whole
@@ -29,10 +28,6 @@ whole-by x w p o j l e = any-of (wholeBy x w p o) 16 j l e
 abbrev pub Inside : ℕ → ℕ → Type 0
 Inside a b = (t : ℕ) → bit t a ≡ true → bit t b ≡ true
 
--- a type in two masks is in what they share
-in-both : (t a b : ℕ) → bit t a ≡ true → bit t b ≡ true → bit t (bitAnd a b) ≡ true
-in-both t a b p q = bit-and t a b ∙ and-both (bit t a) (bit t b) p q
-
 module _ (first here s mask least most : ℕ) where
   module _ (w : World) (f : FirstSources first here s mask least most w) where
     -- what is counted with types of a is counted with types of b
@@ -43,7 +38,7 @@ module _ (first here s mask least most : ℕ) where
         each o l h =
             let t : bit (w .kind o) a ≡ true = and-left (bit (w .kind o) a) (w .link s o 0) h in
             let k : w .link s o 0 ≡ true = and-right (bit (w .kind o) a) (w .link s o 0) h in
-            and-both (bit (w .kind o) b) (w .link s o 0) (i (w .kind o) (in-both (w .kind o) a here t (f .typed o l k))) k
+            and-both (bit (w .kind o) b) (w .link s o 0) (i (w .kind o) (bit-both (w .kind o) a here t (f .typed o l k))) k
 
     module _ (there t row low high : ℕ) (g : TurnedSources s there t row low high w) where
       -- each target by the other slot is counted as a source
@@ -54,7 +49,7 @@ module _ (first here s mask least most : ℕ) where
           each o l h =
               let r : bit (w .kind o) row ≡ true = g .typed o l h in
               let k : w .link s o 0 ≡ true = g .same .at o l (i (w .kind o) r) ∙ h in
-              and-both (bit (w .kind o) mask) (w .link s o 0) (j (w .kind o) (in-both (w .kind o) row here r (f .typed o l k))) k
+              and-both (bit (w .kind o) mask) (w .link s o 0) (j (w .kind o) (bit-both (w .kind o) row here r (f .typed o l k))) k
 
       sources-fewer : Inside (bitAnd mask here) there → sourceCount w s mask 0 ≤ targetCount w t 0
       sources-fewer i = tally-mono (λ o. bit (w .kind o) mask && w .link s o 0) (λ o. w .link t 0 o) (w .size) each
@@ -63,7 +58,7 @@ module _ (first here s mask least most : ℕ) where
           each o l h =
               let m : bit (w .kind o) mask ≡ true = and-left (bit (w .kind o) mask) (w .link s o 0) h in
               let k : w .link s o 0 ≡ true = and-right (bit (w .kind o) mask) (w .link s o 0) h in
-              sym (g .same .at o l (i (w .kind o) (in-both (w .kind o) mask here m (f .typed o l k)))) ∙ k
+              sym (g .same .at o l (i (w .kind o) (bit-both (w .kind o) mask here m (f .typed o l k)))) ∙ k
 
   -- ---- the ways out of `is_apart` and `is_apart_back`
 
@@ -102,7 +97,7 @@ module _ (first here s mask least most : ℕ) where
     never-column e to f = record {
       at = λ w p. f .at w (
         p .0,
-        subst (λ (z : ℕ). Within (getD (x .columnlow) j 0) (getD (x .columnhigh) j 0) (sourceCount w z (getD (x .columnfrom) j 0) 0)) e
+        subst (λ (z : ℕ). InLimits (getD (x .columnlow) j 0) (getD (x .columnhigh) j 0) (sourceCount w z (getD (x .columnfrom) j 0) 0)) e
             (p .1 .at j 0 small (p .0 .some) (ap (λ (t : ℕ). bit t (getD (x .columnto) j 0)) (p .0 .kind) ∙ to)),
       );
     }
@@ -151,7 +146,7 @@ module _ (first here s mask least most : ℕ) where
       record {
         same = p .2;
         typed = λ o l h. subst (λ (v : ℕ). bit (w .kind o) (getD targets v 0) ≡ true) z (p .1 .allowed t 0 o small (p .0 .some) l h);
-        within = subst (λ (v : ℕ). Within (getD lows v 0) (getD highs v 0) (targetCount w t 0)) z (p .1 .limited t 0 small (p .0 .some));
+        within = subst (λ (v : ℕ). InLimits (getD lows v 0) (getD highs v 0) (targetCount w t 0)) z (p .1 .limited t 0 small (p .0 .some));
       },
     );
   }

@@ -11,23 +11,22 @@ use Rattle.laws.specs.Bits.{bit}
 use Rattle.laws.specs.Bounded.{tally}
 use Rattle.laws.proofs.BitLaws.{bit-zero}
 use Rattle.laws.proofs.BoundedLaws.{tally-none}
-use Rattle.growing.specs.World.{World}
-use Rattle.link_search.specs.Nets.{Within}
+use Rattle.growing.specs.World.{World, targetCount}
+use Rattle.link_search.specs.Nets.{InLimits}
 use Rattle.worlds.specs.declared.Lines.{Lines}
 use Rattle.worlds.specs.Kept.{ColumnsKept, MirrorsKept, RowsKept, WholesKept}
-use Rattle.clashes.specs.Counts.{targetCount}
 use Rattle.clashes.specs.Clashes.{FirstColumn, FirstSources, Never}
 use Rattle.clashes.specs.Refuted.{Begun, Refuted}
 use Rattle.clashes.proofs.ClashLaws.{fewer}
 
 -- x: where the tables have the row of the first object in the slot
 pub first-row-refuted : (targets lows highs types : List ℕ) (row low high x seeds : ℕ) → row < 32 → x ≡ getD types 0 0 * 32 + row
-    → min (getD highs x 0) high < max (getD lows x 0) low → 0 < seeds → Refuted (λ w. RowsKept targets lows highs w × Within low high (targetCount w row 0)) types seeds
+    → min (getD highs x 0) high < max (getD lows x 0) low → 0 < seeds → Refuted (λ w. RowsKept targets lows highs w × InLimits low high (targetCount w row 0)) types seeds
 first-row-refuted targets lows highs types row low high x seeds small e h some = record {
   at = λ w b p.
       let k : w .kind 0 ≡ getD types 0 0 = b .kept 0 some in
       let z : w .kind 0 * 32 + row ≡ x = omega arith in
-      let l = subst (λ (v : ℕ). Within (getD lows v 0) (getD highs v 0) (targetCount w row 0)) z (p .0 .limited row 0 small (omega (arith, b .many))) in
+      let l = subst (λ (v : ℕ). InLimits (getD lows v 0) (getD highs v 0) (targetCount w row 0)) z (p .0 .limited row 0 small (omega (arith, b .many))) in
       omega (arith, l .least, l .most, p .1 .least, p .1 .most);
 }
 

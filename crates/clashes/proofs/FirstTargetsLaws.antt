@@ -7,18 +7,18 @@ use mathlib.Core.Path.{_∙_, _≡_, ap, subst, sym}
 use native.Mathlib.Omega.{arith}
 use lib.ListN.{getD}
 use Rattle.laws.specs.Bits.{bit}
-use Rattle.growing.specs.World.{World}
-use Rattle.link_search.specs.Nets.{Within}
+use Rattle.growing.specs.World.{World, sourceCount, targetCount}
+use Rattle.link_search.specs.Nets.{InLimits}
 use Rattle.worlds.specs.declared.Lines.{Lines}
 use Rattle.worlds.specs.Kept.{ColumnsKept, MirrorsKept, RowsKept}
 use Rattle.clashes.specs.Clashes.{FirstSources, FirstTargets, LinkedBack, Never, TurnedSources}
-use Rattle.clashes.specs.Counts.{SourcesKept, sourceCount, targetCount}
+use Rattle.clashes.specs.Sources.{SourcesKept}
 use Rattle.clashes.specs.Refuted.{Begun, Refuted}
 use Rattle.clashes.proofs.ClashLaws.{linked-left, linked-right}
 
 -- y: where the table has the row of the first object in the slot
 pub first-targets : (targets lows highs types : List ℕ) (first row low high y seeds : ℕ) → row < 32 → first ≡ getD types 0 0 → y ≡ getD types 0 0 * 32 + row → 0 < seeds
-    → (w : World) → Begun types seeds w → RowsKept targets lows highs w → Within low high (targetCount w row 0) → FirstTargets first row (getD targets y 0) low high w
+    → (w : World) → Begun types seeds w → RowsKept targets lows highs w → InLimits low high (targetCount w row 0) → FirstTargets first row (getD targets y 0) low high w
 first-targets targets lows highs types first row low high y seeds small is e some w b rows within =
     let k : w .kind 0 ≡ getD types 0 0 = b .kept 0 some in
     let z : w .kind 0 * 32 + row ≡ y = omega arith in
@@ -44,7 +44,7 @@ module _ (first mask low high : ℕ) where
             some = p .0 .some;
             kind = k;
             typed = λ o l h. subst (λ (v : ℕ). bit (w .kind o) (getD sources v 0) ≡ true) z (p .1 .at s o 0 slot l (p .0 .some) h);
-            within = subst (λ (v : ℕ). Within (getD (x .columnlow) i 0) (getD (x .columnhigh) i 0) (sourceCount w v (getD (x .columnfrom) i 0) 0)) e
+            within = subst (λ (v : ℕ). InLimits (getD (x .columnlow) i 0) (getD (x .columnhigh) i 0) (sourceCount w v (getD (x .columnfrom) i 0) 0)) e
                 (p .2 .at i 0 small (p .0 .some) (ap (λ (u : ℕ). bit u (getD (x .columnto) i 0)) k ∙ to));
           },
           record { same = p .3; typed = p .0 .typed; within = p .0 .within },
@@ -82,7 +82,7 @@ module _ (first mask low high : ℕ) where
 
 module _ (targets lows highs types : List ℕ) (first row low high y seeds : ℕ) (small : row < 32) (is : first ≡ getD types 0 0) (e : y ≡ getD types 0 0 * 32 + row) (some : 0 < seeds) where
   pub targets-refuted : (P : World → Type 0) → Never (λ w. FirstTargets first row (getD targets y 0) low high w × P w)
-      → Refuted (λ w. (RowsKept targets lows highs w × Within low high (targetCount w row 0)) × P w) types seeds
+      → Refuted (λ w. (RowsKept targets lows highs w × InLimits low high (targetCount w row 0)) × P w) types seeds
   targets-refuted P f = record {
     at = λ w b p. f .at w (first-targets targets lows highs types first row low high y seeds small is e some w b (p .0 .0) (p .0 .1), p .1);
   }

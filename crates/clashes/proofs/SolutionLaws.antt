@@ -7,14 +7,14 @@ use Rattle.growing.specs.World.{World}
 use Rattle.growing.specs.Growth.{Extends, Nowhere}
 use Rattle.worlds.specs.declared.Query.{Query}
 use Rattle.worlds.specs.Asked.{Solution}
-use Rattle.worlds.specs.Kept.{Sheet, Turned}
-use Rattle.clashes.specs.Counts.{SourcesKept}
+use Rattle.worlds.specs.Kept.{Sheet, SourceTable}
+use Rattle.clashes.specs.Sources.{SourcesKept}
 use Rattle.clashes.specs.Refuted.{Begun, BitsKept, Refuted}
 use Rattle.clashes.specs.Clashes.{FirstColumn}
 
 module _ (x : Sheet) (q : Query) (n : ℕ) where
   -- the table of sources is the table of targets, turned
-  pub sources-kept : (sources : List ℕ) → Turned (x .targets) sources → (w : World) → Solution x q n w → SourcesKept sources w
+  pub sources-kept : (sources : List ℕ) → SourceTable (x .targets) sources → (w : World) → Solution x q n w → SourcesKept sources w
   sources-kept sources turned w s = record {
     at = λ i o p l a b h. turned .at (w .kind o) i (w .kind p) (s .allowed .known o a) l (s .allowed .known p b) ∙ s .allowed .rows .allowed i o p l a b h;
   }
@@ -29,7 +29,7 @@ module _ (x : Sheet) (q : Query) (n : ℕ) where
   pub bits-kept : (w : World) → Solution x q n w → BitsKept (q .must) (q .shut) w
   bits-kept w s = record { must-stand = s .asked .must; must-not = s .asked .shut }
 
-  pub first-column : (sources : List ℕ) → Turned (x .targets) sources → 0 < q .seeds → (w : World) → Solution x q n w
+  pub first-column : (sources : List ℕ) → SourceTable (x .targets) sources → 0 < q .seeds → (w : World) → Solution x q n w
       → FirstColumn (x .targets) sources (x .lows) (x .highs) (x .lines) (q .column) (q .from) (q .least) (q .most) w
   first-column sources turned some w s = record {
     rows = s .allowed .rows;

@@ -1,3 +1,3 @@
-pub mod Counts
+pub mod Sources
 pub mod Refuted
 pub mod Clashes

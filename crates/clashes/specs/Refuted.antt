@@ -36,7 +36,7 @@ abbrev pub badBit : ℕ → ℕ → ℕ → List ℕ → ℕ → Bool
 badBit must shut mask types p = bit p must && (bit p shut || not (bit (getD types p 0) mask))
 
 -- a link stands exactly when the link back does, between types of two masks
-pub record MirrorKept (from to right left : ℕ) (w : World) : Type 0 where
+pub record MirroredBetween (from to right left : ℕ) (w : World) : Type 0 where
   pub at : (o p : ℕ) → o < w .size → p < w .size → bit (w .kind o) from ≡ true → bit (w .kind p) to ≡ true → w .link right o p ≡ w .link left p o
 
 -- a link from o to p that must stand makes o a whole of p by association j, by some association

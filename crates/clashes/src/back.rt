@@ -4,11 +4,11 @@ ghost use mathlib.Core.Bool.{true};
 ghost use mathlib.Core.List.{List};
 ghost use Prim.Native.Nat.{ℕ, _*_, _<_};
 ghost use lib.ListN.{getD};
-ghost use Rattle.growing.specs.World.{World};
-ghost use Rattle.link_search.specs.Nets.{Within};
+ghost use Rattle.growing.specs.World.{targetCount};
+ghost use Rattle.link_search.specs.Nets.{InLimits};
 ghost use Rattle.worlds.specs.Kept.{ColumnsKept, MirrorsKept, RowsKept, Slotted};
 ghost use Rattle.clashes.specs.Clashes.{FirstTargets, LinkedBack, Never};
-ghost use Rattle.clashes.specs.Counts.{SourcesKept, targetCount};
+ghost use Rattle.clashes.specs.Sources.{SourcesKept};
 ghost use Rattle.clashes.specs.Refuted.{Refuted};
 
 // Whether a column in the slot excludes them, where the links in the slot from types of the mask `there` are the links back. The tables
@@ -60,7 +60,7 @@ pub fn is_bad_first_back<'a>(
     high: u8,
 ) -> bool
     requires { ⌜ Slotted lines × (row < 32) × ((o : ℕ) → getD (now types) o 0 < 24) ⌝ }
-    ensures { λ r. ⌜ (r ≡ true → (lows highs : List ℕ) (seeds : ℕ) → 0 < seeds → Refuted (λ w. (RowsKept (now (targets .entry)) lows highs w × Within low high (targetCount w row 0)) × (SourcesKept (now (sources .entry)) w × ColumnsKept lines w × MirrorsKept lines w)) (now (types .entry)) seeds) ⌝ }
+    ensures { λ r. ⌜ (r ≡ true → (lows highs : List ℕ) (seeds : ℕ) → 0 < seeds → Refuted (λ w. (RowsKept (now (targets .entry)) lows highs w × InLimits low high (targetCount w row 0)) × (SourcesKept (now (sources .entry)) w × ColumnsKept lines w × MirrorsKept lines w)) (now (types .entry)) seeds) ⌝ }
 {
     if (low == 0) & (8 <= high) {
         return false;

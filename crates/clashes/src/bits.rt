@@ -4,17 +4,7 @@ ghost use mathlib.Core.Bool.{true};
 ghost use Prim.Native.Nat.{ℕ, _*_, _+_, _<_, _≤_};
 ghost use lib.ListN.{getD};
 ghost use Rattle.laws.specs.Bounded.{any};
-ghost use Rattle.growing.specs.World.{World};
-ghost use Rattle.link_search.specs.Nets.{netOf};
 ghost use Rattle.clashes.specs.Refuted.{BitsKept, Refuted, TargetsKept, badBit};
-
-// Whether the link from o to p in the slot is among the links.
-pub fn is_link(links: &[u8; 256], o: u8, slot: u8, p: u8) -> bool
-    requires { ⌜ (o < 8) × (slot < 32) × (p < 8) ⌝ }
-    ensures { λ r. ⌜ r ≡ netOf (now (links .entry)) (o * 32 + slot) p ⌝ }
-{
-    laws::has8(links[laws::wide(o) * 32 + laws::wide(slot)], p)
-}
 
 // Whether a link of one row must stand and must not, or leads to a seed with no type of the mask.
 fn is_bad_row(must: u8, shut: u8, mask: u32, types: &[u8; 8], seeds: u8) -> bool

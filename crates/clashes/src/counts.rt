@@ -1,9 +1,8 @@
 // The number of sources of the first object that a query asks for, against other limits.
 ghost use mathlib.Core.Path.{_≡_};
 ghost use mathlib.Core.Bool.{true};
-ghost use Prim.Native.Nat.{ℕ, _*_, _<_, _≤_};
+ghost use Prim.Native.Nat.{ℕ, _*_, _<_};
 ghost use lib.ListN.{getD};
-ghost use Rattle.growing.specs.World.{World};
 ghost use Rattle.worlds.specs.Kept.{ColumnsKept, MirrorsKept, RowsKept, Slotted, WholesKept};
 ghost use Rattle.clashes.specs.Refuted.{Refuted};
 ghost use Rattle.clashes.specs.Clashes.{FirstColumn, FirstSources, LinkedBack, Never, OtherSources, TurnedSources};

@@ -4,7 +4,7 @@ ghost use mathlib.Core.Bool.{true};
 ghost use Prim.Native.Nat.{ℕ, _*_, _<_, _≤_};
 ghost use lib.ListN.{getD};
 ghost use Rattle.growing.specs.Growth.{Nowhere};
-ghost use Rattle.worlds.specs.Kept.{Slotted, Turned, sheet};
+ghost use Rattle.worlds.specs.Kept.{Slotted, SourceTable, sheet};
 ghost use Rattle.worlds.specs.Asked.{Sane, Solution};
 
 mod back;
@@ -44,7 +44,7 @@ pub fn is_implied<'a>(
     types: [u8; 8],
     n: u8,
 ) -> bool
-    requires { ⌜ Slotted lines × Turned (now targets) (now sources) × Sane q × (n ≤ 8) × ((o : ℕ) → getD types o 0 < 24) ⌝ }
+    requires { ⌜ Slotted lines × SourceTable (now targets) (now sources) × Sane q × (n ≤ 8) × ((o : ℕ) → getD types o 0 < 24) ⌝ }
     ensures { λ b. ⌜ (b ≡ true → Nowhere (Solution (sheet usable singles (now (targets .entry)) (now (lows .entry)) (now (highs .entry)) lines) q n) types (q .seeds) (q .never) n) ⌝ }
 {
     let seeds = q.seeds;

@@ -3,10 +3,9 @@ ghost use mathlib.Core.Path.{_≡_};
 ghost use mathlib.Core.Bool.{true};
 ghost use Prim.Native.Nat.{ℕ, _<_, _≤_};
 ghost use lib.ListN.{getD};
-ghost use Rattle.growing.specs.World.{World};
 ghost use Rattle.worlds.specs.Kept.{MirrorsKept, Slotted};
 ghost use Rattle.clashes.specs.Clashes.{Never};
-ghost use Rattle.clashes.specs.Refuted.{BitsKept, MirrorKept, Refuted};
+ghost use Rattle.clashes.specs.Refuted.{BitsKept, MirroredBetween, Refuted};
 
 // Whether the link from o to p must stand and the link back must not, or the other way.
 fn is_bad_pair<'a>(
@@ -20,10 +19,10 @@ fn is_bad_pair<'a>(
     requires { ⌜ (o < 8) × (right < 32) × (p < 8) × (left < 32) ⌝ }
     ensures { λ r. ⌜ (r ≡ true → Never (λ w. BitsKept (now (must .entry)) (now (shut .entry)) w × (w .link right o p ≡ w .link left p o))) ⌝ }
 {
-    if crate::bits::is_link(must, o, right, p) {
-        return crate::bits::is_link(shut, p, left, o);
+    if link_search::is_link(must, o, right, p) {
+        return link_search::is_link(shut, p, left, o);
     }
-    crate::bits::is_link(must, p, left, o) & crate::bits::is_link(shut, o, right, p)
+    link_search::is_link(must, p, left, o) & link_search::is_link(shut, o, right, p)
 }
 
 // Whether a mirror has such a pair of seeds.
@@ -38,7 +37,7 @@ fn is_bad_mirror<'a>(
     seeds: u8,
 ) -> bool
     requires { ⌜ (right < 32) × (left < 32) × (seeds ≤ 8) × ((o : ℕ) → getD (now types) o 0 < 24) ⌝ }
-    ensures { λ r. ⌜ (r ≡ true → Refuted (λ w. BitsKept (now (must .entry)) (now (shut .entry)) w × MirrorKept from to right left w) (now (types .entry)) seeds) ⌝ }
+    ensures { λ r. ⌜ (r ≡ true → Refuted (λ w. BitsKept (now (must .entry)) (now (shut .entry)) w × MirroredBetween from to right left w) (now (types .entry)) seeds) ⌝ }
 {
     let mut y: u8 = 0;
     while y < 64 {

@@ -4,11 +4,10 @@ ghost use mathlib.Core.Bool.{true};
 ghost use mathlib.Core.List.{List};
 ghost use Prim.Native.Nat.{ℕ, _<_, _≤_};
 ghost use lib.ListN.{getD};
-ghost use Rattle.growing.specs.World.{World};
-ghost use Rattle.link_search.specs.Nets.{Within};
+ghost use Rattle.growing.specs.World.{targetCount};
+ghost use Rattle.link_search.specs.Nets.{InLimits};
 ghost use Rattle.worlds.specs.Kept.{MirrorsKept, RowsKept, WholesKept};
 ghost use Rattle.clashes.specs.Clashes.{FirstTargets, Never};
-ghost use Rattle.clashes.specs.Counts.{targetCount};
 ghost use Rattle.clashes.specs.Refuted.{Refuted};
 
 // Whether the targets of an object of type t in the slot, with types of the mask, are its wholes by composition j.
@@ -36,7 +35,7 @@ pub fn is_bad_first_part<'a>(
     low: u8,
 ) -> bool
     requires { ⌜ (row < 32) × ((o : ℕ) → getD (now types) o 0 < 24) ⌝ }
-    ensures { λ r. ⌜ (r ≡ true → (lows highs : List ℕ) (high seeds : ℕ) → 0 < seeds → Refuted (λ w. (RowsKept (now (targets .entry)) lows highs w × Within low high (targetCount w row 0)) × (MirrorsKept lines w × WholesKept lines w)) (now (types .entry)) seeds) ⌝ }
+    ensures { λ r. ⌜ (r ≡ true → (lows highs : List ℕ) (high seeds : ℕ) → 0 < seeds → Refuted (λ w. (RowsKept (now (targets .entry)) lows highs w × InLimits low high (targetCount w row 0)) × (MirrorsKept lines w × WholesKept lines w)) (now (types .entry)) seeds) ⌝ }
 {
     if low < 2 {
         return false;

@@ -5,7 +5,6 @@ ghost use mathlib.Core.List.{List};
 ghost use Prim.Native.Nat.{ℕ, _<_, _≤_};
 ghost use lib.ListN.{getD};
 ghost use Rattle.laws.specs.Bounded.{tally};
-ghost use Rattle.growing.specs.World.{World};
 ghost use Rattle.worlds.specs.Kept.{Slotted, WholesKept};
 ghost use Rattle.clashes.specs.Refuted.{BitsKept, Refuted, mustWhole};
 
@@ -20,7 +19,7 @@ fn is_whole<'a>(lines: worlds::Lines, must: &'a [u8; 256], types: &'a [u8; 8], p
     while j < 16 {
         if laws::has32(lines.wholefrom[j], whole)
             & laws::has32(lines.wholeto[j], part)
-            & crate::bits::is_link(must, o, lines.wholeslot[j], p)
+            & link_search::is_link(must, o, lines.wholeslot[j], p)
         {
             return true;
         }

@@ -1,96 +1,97 @@
--- A call that is read stands there whole: its operands end before the list of calls does, and a hand out has room for its reply.
--- Each test of `nextOf` that leads to a call says so on its way.
+-- A call that is read stands there whole: its operands end before the list of calls does, and a buffer has room behind the reply's first
+-- five bytes. Whether it is lent a buffer is settled by its code.
 -- Assumes nothing.
-use Prim.Native.Nat.{ℕ, _+_, _≤_}
+use Prim.Native.Nat.{ℕ, _*_, _+_, _<_, _≤_}
 use native.Mathlib.Omega.{arith}
-use mathlib.Core.Bool.{Bool, true, false, cond, _||_}
+use mathlib.Core.Bool.{Bool, _&&_, _||_, cond, false, true, true≢false}
 use mathlib.Core.List.{List}
-use mathlib.Core.Path.{_≡_, refl, sym, subst, _∙_}
-use lib.Dec.{eqb, leb}
-use lib.ListN.{getD, length}
-use borrow.Author.Tests.{leb-true}
+use mathlib.Core.Logic.{_≢_}
+use mathlib.Core.Option.{Option, none, some}
+use mathlib.Core.Path.{_≡_, refl, subst, sym}
+use lib.Dec.{eqb, leb, ltb}
+use lib.ListN.{drop, getD, length}
+use borrow.Author.Tests.{eq-eqb, leb-true, ltb-true, ne-eqb}
+use Rattle.laws.specs.Bounded.{all}
+use Rattle.laws.proofs.BoundedLaws.{all-at}
+use Rattle.laws.proofs.ConnectiveLaws.{and-left, and-right}
+use Rattle.steps.specs.Effect.{effect}
+use Rattle.coding.specs.CallBytes.{Operands, Shape, call, callOf, codeByte, codes, halt, lengthAt, nextBy, nextOf, noCall, operandsOf, readCall, rowAt}
 use Rattle.coding.specs.declared.Next.{Next}
-use Rattle.coding.specs.declared.Next.the-variants.{Halt, Load, Clear, Judge, Compile, Evaluate, Compare, HandOut}
-use Rattle.coding.specs.CallBytes.{codeOf, fileCall, handOutCall, longAt, nextOf, shortCall}
 
-unfoldable Whole : List ℕ → ℕ → Next → Type 0
-Whole s room Halt = 0 ≤ length s
-Whole s room (Load p n) = 6 + n ≤ length s
-Whole s room (Clear p) = 2 ≤ length s
-Whole s room (Judge p n) = 6 + n ≤ length s
-Whole s room (Compile p) = 2 ≤ length s
-Whole s room (Evaluate p n) = 6 + n ≤ length s
-Whole s room (Compare bound) = 2 ≤ length s
-Whole s room (HandOut n) = (5 ≤ length s) × (5 + n ≤ room)
+pub record Whole (s : List ℕ) (room : ℕ) (n : Next) : Type 0 where
+  pub known : n .code < length codes
+  pub some : 0 < n .used
+  pub little : n .used ≤ length s
+  pub fits : rowAt (n .code) .buffers * 5 + n .lend ≤ room
 
 module _ (s : List ℕ) (room : ℕ) where
-  whole-if : (t : Bool) (x y : Next) → (t ≡ true → Whole s room x) → Whole s room y → Whole s room (cond t x y)
-  whole-if true x y f g = f refl
-  whole-if false x y f g = g
+  abbrev x : Shape
+  x = rowAt (codeByte s)
 
-  whole-halt : Whole s room Halt
-  unfolding Whole
-  whole-halt = omega arith
+  abbrev from : ℕ
+  from = 1 + x .bytes + x .files * 4
 
-  whole-file : Whole s room (fileCall s)
-  unfolding fileCall Whole
-  whole-file =
-      let p = getD s 1 0 in
-      let n = longAt s 2 in
-      whole-if (leb (6 + n) (length s)) (cond (eqb (codeOf s) 1) (Load p n) (cond (eqb (codeOf s) 3) (Judge p n) (Evaluate p n))) Halt
-      (λ h. whole-if (eqb (codeOf s) 1) (Load p n) (cond (eqb (codeOf s) 3) (Judge p n) (Evaluate p n)) (λ k. leb-true _ _ h)
-      (whole-if (eqb (codeOf s) 3) (Judge p n) (Evaluate p n) (λ k. leb-true _ _ h) (leb-true _ _ h))) whole-halt
+  abbrev len : ℕ
+  len = lengthAt s (x .files) (1 + x .bytes)
 
-  whole-short : Whole s room (shortCall s)
-  unfolding shortCall Whole
-  whole-short =
-      let p = getD s 1 0 in
-      whole-if (leb 2 (length s)) (cond (eqb (codeOf s) 2) (Clear p) (cond (eqb (codeOf s) 4) (Compile p) (Compare p))) Halt
-      (λ h. whole-if (eqb (codeOf s) 2) (Clear p) (cond (eqb (codeOf s) 4) (Compile p) (Compare p)) (λ k. leb-true _ _ h)
-      (whole-if (eqb (codeOf s) 4) (Compile p) (Compare p) (λ k. leb-true _ _ h) (leb-true _ _ h))) whole-halt
+  abbrev lend : ℕ
+  lend = lengthAt s (x .buffers) (from + len)
 
-  whole-hand-out : Whole s room (handOutCall s room)
-  unfolding handOutCall Whole
-  whole-hand-out =
-      let n = longAt s 1 in
-      whole-if (leb 5 (length s)) (cond (leb (5 + n) room) (HandOut n) Halt) Halt
-      (λ h. whole-if (leb (5 + n) room) (HandOut n) Halt (λ k. (leb-true _ _ h, leb-true _ _ k)) whole-halt) whole-halt
+  abbrev used : ℕ
+  used = from + len + x .buffers * 4
 
-  whole-next : Whole s room (nextOf s room)
-  unfolding nextOf
-  whole-next =
-      whole-if (eqb (codeOf s) 1 || (eqb (codeOf s) 3 || eqb (codeOf s) 5)) (fileCall s) _ (λ h. whole-file)
-      (whole-if (eqb (codeOf s) 2 || (eqb (codeOf s) 4 || eqb (codeOf s) 6)) (shortCall s) _ (λ h. whole-short)
-      (whole-if (eqb (codeOf s) 7) (handOutCall s room) Halt (λ h. whole-hand-out) whole-halt))
+  abbrev read : Next
+  read = record { code = codeByte s; byte = getD s 1 0; from = from; len = len; lend = lend; used = used }
 
-module _ {x : Next} (s : List ℕ) (room : ℕ) (e : x ≡ nextOf s room) where
-  whole : (y : Next) → x ≡ y → Whole s room y
-  whole y k = subst (Whole s room) (sym e ∙ k) (whole-next s room)
+  abbrev known : Bool
+  known = leb 1 (codeByte s) && ltb (codeByte s) (length codes)
 
-  pub load-whole : (p n : ℕ) → x ≡ Load p n → 6 + n ≤ length s
-  unfolding Whole
-  load-whole p n k = whole (Load p n) k
+  whole-by : (t : Bool) → known && leb used (length s) && leb (x .buffers * 5 + lend) room ≡ t → cond t read noCall .code ≢ 0 → Whole s room (cond t read noCall)
+  whole-by true e h =
+      let within = leb used (length s) in
+      let room-is = leb (x .buffers * 5 + lend) room in
+      let most : known && within ≡ true = and-left (known && within) room-is e in
+      record {
+        known = ltb-true (codeByte s) (length codes) (and-right (leb 1 (codeByte s)) (ltb (codeByte s) (length codes)) (and-left known within most));
+        some = omega arith;
+        little = leb-true used (length s) (and-right known within most);
+        fits = leb-true (x .buffers * 5 + lend) room (and-right (known && within) room-is e);
+      }
+  whole-by false e h = absurd (h refl)
 
-  pub clear-whole : (p : ℕ) → x ≡ Clear p → 2 ≤ length s
-  unfolding Whole
-  clear-whole p k = whole (Clear p) k
+  whole-next : nextOf s room .code ≢ 0 → Whole s room (nextOf s room)
+  unfolding nextOf nextBy
+  whole-next h = whole-by _ refl h
 
-  pub judge-whole : (p n : ℕ) → x ≡ Judge p n → 6 + n ≤ length s
-  unfolding Whole
-  judge-whole p n k = whole (Judge p n) k
+  pub whole-call : {n : Next} → n ≡ nextOf s room → n .code ≢ 0 → Whole s room n
+  whole-call e h = subst (Whole s room) (sym e) (whole-next (subst (λ (n : Next). n .code ≢ 0) e h))
 
-  pub compile-whole : (p : ℕ) → x ≡ Compile p → 2 ≤ length s
-  unfolding Whole
-  compile-whole p k = whole (Compile p) k
+module _ (s room : List ℕ) {n : Next} (e : n ≡ nextOf s (length room)) where
+  pub read-halt : n .code ≡ 0 → readCall s room ≡ halt
+  unfolding readCall
+  read-halt h = rw (← e, eq-eqb (n .code) 0 h)
 
-  pub evaluate-whole : (p n : ℕ) → x ≡ Evaluate p n → 6 + n ≤ length s
-  unfolding Whole
-  evaluate-whole p n k = whole (Evaluate p n) k
+  pub read-call : n .code ≢ 0 → readCall s room ≡ call (callOf (n .code) (operandsOf s room n)) (drop (n .used) s)
+  unfolding readCall
+  read-call h = rw (← e, ne-eqb (n .code) 0 h)
 
-  pub compare-whole : (bound : ℕ) → x ≡ Compare bound → 2 ≤ length s
-  unfolding Whole
-  compare-whole bound k = whole (Compare bound) k
+-- ---- only hand out is lent a buffer: one test of all codes
 
-  pub hand-out-whole : (n : ℕ) → x ≡ HandOut n → (5 ≤ length s) × (5 + n ≤ room)
-  unfolding Whole
-  hand-out-whole n k = whole (HandOut n) k
+abbrev isNone : Option (List ℕ) → Bool
+isNone none = true
+isNone (some buffer) = false
+
+is-none : (x : Option (List ℕ)) → isNone x ≡ true → x ≡ none
+is-none none e = refl
+is-none (some buffer) e = absurd (true≢false (sym e))
+
+abbrev lendsNone : Operands → ℕ → Bool
+lendsNone y code = eqb code 7 || isNone (effect (callOf code y) .lends)
+
+all-lend-none : (y : Operands) → all (lendsNone y) (length codes) ≡ true
+unfolding all effect callOf
+all-lend-none y = refl
+
+pub lends-none : (code : ℕ) (y : Operands) → code < length codes → code ≢ 7 → effect (callOf code y) .lends ≡ none
+lends-none code y l h =
+    is-none _ (subst (λ (t : Bool). t || isNone (effect (callOf code y) .lends) ≡ true) (ne-eqb code 7 h) (all-at (lendsNone y) (length codes) (all-lend-none y) code l))

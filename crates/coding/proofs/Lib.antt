@@ -1,3 +1,4 @@
+pub mod OperandLaws
+pub mod CallLaws
 pub mod PutLaws
 pub mod ReplyLaws
-pub mod CallLaws

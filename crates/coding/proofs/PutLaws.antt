@@ -19,9 +19,6 @@ copied : (xs d d′ : List ℕ) → d′ ≡ take (length xs) xs ++ drop (length
 unfolding over
 copied xs d d′ q = q ∙ ap (λ (x : List ℕ). x ++ drop (length xs) d) (take-length xs)
 
-pub puts-copy : (xs d d′ : List ℕ) (n : ℕ) → length xs ≤ length d → n ≡ length xs → d′ ≡ take (length xs) xs ++ drop (length xs) d → Puts xs d n d′
-puts-copy xs d d′ n h e q = record { fits = λ l. (e, copied xs d d′ q); not-fits = λ l. absurd (omega (arith, h, l)) }
-
 pub puts-both : (xs ys d d′ e : List ℕ) (n m : ℕ) → length xs + length ys ≤ length d → n ≡ length xs → d′ ≡ take (length xs) xs ++ drop (length xs) d
     → m ≡ length ys → e ≡ take (length ys) ys ++ drop (length ys) (take (length d′ - n) (drop n d′)) → Puts (xs ++ ys) d (n + m) (putMid n (length d′ - n) d′ e)
 puts-both xs ys d d′ e n m h en q em r = record {

@@ -1,3 +1,5 @@
 pub mod CallBytes
+pub mod Operands
 pub mod ReplyBytes
+pub mod Parts
 pub mod Puts

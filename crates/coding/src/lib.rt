@@ -1,32 +1,65 @@
 // How calls and replies stand in bytes: the call at the front of a list of calls, and a reply at the front of the room for replies.
 ghost use mathlib.Core.Path.{_≡_};
-ghost use mathlib.Core.Bool.{cond};
 ghost use mathlib.Core.List.{[], _++_};
-ghost use Prim.Native.Nat.{_<_, _%_};
+ghost use Prim.Native.Nat.{_<_};
+ghost use lib.ListN.{length};
 ghost use Rattle.bench.specs.View.{replyOf};
-ghost use Rattle.coding.specs.CallBytes.{longAt, fileCall, shortCall, handOutCall, nextOf};
-ghost use Rattle.coding.specs.ReplyBytes.{status, lengthIn, replyBytes, headBytes};
+ghost use Rattle.coding.specs.CallBytes.{lengthAt, longAt, nextOf, rowAt};
+ghost use Rattle.coding.specs.Operands.{IsRow};
+ghost use Rattle.coding.specs.Parts.{partsBy, partsIn};
 ghost use Rattle.coding.specs.Puts.{Puts};
+ghost use Rattle.coding.specs.ReplyBytes.{headBytes, replyBytes};
 use bench::Reply;
 
 // ---- calls
 
-// What stands at the front of a list of calls.
-pub enum Next {
-    // Nothing, a call that is cut off, an unknown one, or a hand out without room for its reply.
-    Halt,
-    Load { place: u8, len: usize },
-    Clear { place: u8 },
-    Judge { place: u8, len: usize },
-    Compile { place: u8 },
-    Evaluate { place: u8, len: usize },
-    Compare { bound: u8 },
-    HandOut { len: usize },
+// The call at the front of a list of calls: its code, a byte, where a file stands and how long it is, how long a buffer is to lend,
+// and how many bytes the call takes. The code is 0 where there is none: nothing is left, or a call is cut off or unknown, or has no
+// room for its reply.
+pub struct Next {
+    pub code: u8,
+    pub byte: u8,
+    pub from: usize,
+    pub len: usize,
+    pub lend: usize,
+    pub used: usize,
+}
+
+// The operands of a call.
+struct Row {
+    bytes: usize,
+    files: usize,
+    buffers: usize,
+}
+
+// By code: 1 for each operand that the call has. No call has the code 0.
+const BYTES: [u8; 8] = [0, 1, 1, 1, 1, 1, 1, 0];
+
+const FILES: [u8; 8] = [0, 1, 0, 1, 0, 1, 0, 0];
+
+const BUFFERS: [u8; 8] = [0, 0, 0, 0, 0, 0, 0, 1];
+
+fn row_at(code: u8) -> Row
+    ensures { λ r. ⌜ IsRow (rowAt code) r ⌝ }
+{
+    if 8 <= code {
+        return Row {
+            bytes: 0,
+            files: 0,
+            buffers: 0,
+        };
+    }
+    let at = laws::wide(code);
+    Row {
+        bytes: laws::wide(BYTES[at]),
+        files: laws::wide(FILES[at]),
+        buffers: laws::wide(BUFFERS[at]),
+    }
 }
 
 // A number of four bytes, high byte first.
 fn long_at(s: &[u8], i: usize) -> usize
-    requires { ⌜ i < 16 ⌝ }
+    requires { ⌜ i < 1152921504606846976 ⌝ }
     ensures { λ r. ⌜ (r ≡ longAt (now (s .entry)) i) × (r < 4294967296) ⌝ }
 {
     let a = laws::wide(laws::byte(s, i));
@@ -36,50 +69,12 @@ fn long_at(s: &[u8], i: usize) -> usize
     ((a * 256 + b) * 256 + c) * 256 + d
 }
 
-fn pick(b: bool, x: Next, y: Next) -> Next
-    ensures { λ r. ⌜ r ≡ cond b x y ⌝ }
+// The same where there is such an operand, else 0.
+fn length_at(s: &[u8], many: usize, i: usize) -> usize
+    requires { ⌜ i < 1152921504606846976 ⌝ }
+    ensures { λ r. ⌜ (r ≡ lengthAt (now (s .entry)) many i) × (r < 4294967296) ⌝ }
 {
-    if b { x } else { y }
-}
-
-// Codes 1, 3 and 5.
-fn file_call(s: &[u8]) -> Next
-    ensures { λ r. ⌜ r ≡ fileCall (now (s .entry)) ⌝ }
-{
-    let code = laws::byte(s, 0);
-    let place = laws::byte(s, 1);
-    let len = long_at(s, 2);
-    let asks = pick(
-        code == 3,
-        Next::Judge { place, len },
-        Next::Evaluate { place, len },
-    );
-    let whole = pick(code == 1, Next::Load { place, len }, asks);
-    pick(6 + len <= s.len(), whole, Next::Halt)
-}
-
-// Codes 2, 4 and 6.
-fn short_call(s: &[u8]) -> Next
-    ensures { λ r. ⌜ r ≡ shortCall (now (s .entry)) ⌝ }
-{
-    let code = laws::byte(s, 0);
-    let operand = laws::byte(s, 1);
-    let asks = pick(
-        code == 4,
-        Next::Compile { place: operand },
-        Next::Compare { bound: operand },
-    );
-    let whole = pick(code == 2, Next::Clear { place: operand }, asks);
-    pick(2 <= s.len(), whole, Next::Halt)
-}
-
-// Code 7.
-fn hand_out_call(s: &[u8], room: usize) -> Next
-    ensures { λ r. ⌜ r ≡ handOutCall (now (s .entry)) room ⌝ }
-{
-    let len = long_at(s, 1);
-    let whole = pick(5 + len <= room, Next::HandOut { len }, Next::Halt);
-    pick(5 <= s.len(), whole, Next::Halt)
+    if many == 0 { 0 } else { long_at(s, i) }
 }
 
 // The call at the front of s, where there are `room` bytes for replies.
@@ -87,33 +82,36 @@ pub fn read_next(s: &[u8], room: usize) -> Next
     ensures { λ r. ⌜ r ≡ nextOf (now (s .entry)) room ⌝ }
 {
     let code = laws::byte(s, 0);
-    let last = pick(code == 7, hand_out_call(s, room), Next::Halt);
-    let short = pick(
-        (code == 2) | ((code == 4) | (code == 6)),
-        short_call(s),
-        last,
-    );
-    pick(
-        (code == 1) | ((code == 3) | (code == 5)),
-        file_call(s),
-        short,
-    )
+    let r = row_at(code);
+    let from = 1 + r.bytes + r.files * 4;
+    let len = length_at(s, r.files, 1 + r.bytes);
+    let at = from + len;
+    let lend = length_at(s, r.buffers, at);
+    let used = at + r.buffers * 4;
+    if (1 <= code) & (code < 8) & (used <= s.len()) & (r.buffers * 5 + lend <= room) {
+        return Next {
+            code,
+            byte: laws::byte(s, 1),
+            from,
+            len,
+            lend,
+            used,
+        };
+    }
+    Next {
+        code: 0,
+        byte: 0,
+        from: 0,
+        len: 0,
+        lend: 0,
+        used: 0,
+    }
 }
 
 // ---- replies
 
-// Puts xs at the front of out if it fits.
-fn put(out: &mut [u8], xs: &[u8]) -> usize
-    ensures { λ r. ⌜ Puts (now (xs .entry)) (now (out .entry)) r (now (out .exit)) ⌝ }
-{
-    if out.len() < xs.len() {
-        return 0;
-    }
-    bytes::copy(xs, out)
-}
-
 // Puts xs and behind it ys at the front of out if both fit.
-fn put_both(out: &mut [u8], xs: &[u8], ys: &[u8]) -> usize
+fn put(out: &mut [u8], xs: &[u8], ys: &[u8]) -> usize
     ensures { λ r. ⌜ Puts (now (xs .entry) ++ now (ys .entry)) (now (out .entry)) r (now (out .exit)) ⌝ }
 {
     if out.len() < xs.len() {
@@ -127,87 +125,71 @@ fn put_both(out: &mut [u8], xs: &[u8], ys: &[u8]) -> usize
     n + m
 }
 
+// A reply taken apart: its status, how many bytes follow it and which, whether compile's list stands behind them, and the length
+// that was written.
+struct Parts {
+    status: u8,
+    many: u8,
+    first: u8,
+    second: u8,
+    listed: bool,
+    length: usize,
+}
+
+fn told(status: u8, many: u8, first: u8, second: u8, listed: bool, length: usize) -> Parts
+    ensures { λ p. ⌜ p ≡ partsBy status many first second listed length ⌝ }
+{
+    Parts {
+        status,
+        many,
+        first,
+        second,
+        listed,
+        length,
+    }
+}
+
+fn parts_of(r: Reply) -> Parts
+    ensures { λ p. ⌜ p ≡ partsIn r ⌝ }
+{
+    match r {
+        Reply::Done => told(0, 0, 0, 0, false, 0),
+        Reply::Rule(n) => told(0, 1, n, 0, false, 0),
+        Reply::Records(n) => told(0, 1, n, 0, true, 0),
+        Reply::FirstFalse(n) => told(0, 1, n, 0, false, 0),
+        Reply::NoDifference => told(0, 1, 0, 0, false, 0),
+        Reply::Difference(n) => told(0, 2, 1, n, false, 0),
+        Reply::Written(n) => told(0, 0, 0, 0, false, n),
+        Reply::Refused(n) => told(n, 0, 0, 0, false, 0),
+    }
+}
+
 // Puts a reply, with compile's list where it has one.
 pub fn say(out: &mut [u8], r: Reply, list: &[u8]) -> usize
     ensures { λ n. ⌜ Puts (replyBytes (replyOf r (now (list .entry)))) (now (out .entry)) n (now (out .exit)) ⌝ }
 {
-    match r {
-        Reply::Done => {
-            let a = [0u8];
-            put(out, &a)
-        }
-        Reply::Rule(n) => {
-            let a = [0u8, n];
-            put(out, &a)
-        }
-        Reply::Records(n) => {
-            let a = [0u8, n];
-            put_both(out, &a, list)
-        }
-        Reply::FirstFalse(n) => {
-            let a = [0u8, n];
-            put(out, &a)
-        }
-        Reply::NoDifference => {
-            let a = [0u8, 0u8];
-            put(out, &a)
-        }
-        Reply::Difference(n) => {
-            let a = [0u8, 1u8, n];
-            put(out, &a)
-        }
-        Reply::Written(n) => {
-            let a = [0u8];
-            put(out, &a)
-        }
-        Reply::Refused(n) => {
-            let a = [n];
-            put(out, &a)
-        }
+    let p = parts_of(r);
+    let a = [p.status, p.first, p.second];
+    let bytes = laws::front(&a, 1 + laws::wide(p.many));
+    let none = laws::front(list, 0);
+    if p.listed {
+        return put(out, bytes, list);
     }
+    put(out, bytes, none)
 }
 
-fn status_of(r: Reply) -> u8
-    ensures { λ n. ⌜ n ≡ status (replyOf r []) ⌝ }
-{
-    match r {
-        Reply::Done => 0,
-        Reply::Rule(n) => 0,
-        Reply::Records(n) => 0,
-        Reply::FirstFalse(n) => 0,
-        Reply::NoDifference => 0,
-        Reply::Difference(n) => 0,
-        Reply::Written(n) => 0,
-        Reply::Refused(n) => n,
-    }
-}
-
-fn length_in(r: Reply) -> usize
-    ensures { λ n. ⌜ n ≡ lengthIn (replyOf r []) ⌝ }
-{
-    match r {
-        Reply::Done => 0,
-        Reply::Rule(n) => 0,
-        Reply::Records(n) => 0,
-        Reply::FirstFalse(n) => 0,
-        Reply::NoDifference => 0,
-        Reply::Difference(n) => 0,
-        Reply::Written(n) => n,
-        Reply::Refused(n) => 0,
-    }
-}
-
-// Puts a hand out's first five bytes.
+// Puts the first five bytes of the reply to a call that was lent a buffer.
 pub fn head(out: &mut [u8], r: Reply) -> usize
     ensures { λ n. ⌜ Puts (headBytes (replyOf r [])) (now (out .entry)) n (now (out .exit)) ⌝ }
 {
-    let n = length_in(r);
+    let p = parts_of(r);
+    let n = p.length;
     let a = [
-        status_of(r),
+        p.status,
         fields::low(n / 16777216),
         fields::low(n / 65536),
         fields::low(n / 256),
         fields::low(n),
     ];
-    put(out, &a)
+    put(out, &a, laws::front(&a, 0))
 }

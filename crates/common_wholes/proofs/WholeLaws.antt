@@ -1,15 +1,15 @@
 -- A composition that asks for a source gives a part its whole: the sources are wholes, and there is only one whole.
 -- Assumes nothing.
 use Prim.Native.Nat.{_<_, _≤_, ℕ}
-use mathlib.Core.Bool.{Bool, _&&_, false, true}
+use mathlib.Core.Bool.{Bool, _&&_, true}
 use mathlib.Core.Logic.{⊎-elim}
-use mathlib.Core.Path.{_∙_, _≡_, ap, sym}
+use mathlib.Core.Path.{_∙_, _≡_, ap}
 use native.Mathlib.Omega.{arith}
 use lib.Bits.{bitAnd}
 use lib.ListN.{getD}
 use Rattle.laws.specs.Bits.{bit}
 use Rattle.laws.specs.Bounded.{tally}
-use Rattle.laws.proofs.BitLaws.{bit-and}
+use Rattle.laws.proofs.BitLaws.{bit-both}
 use Rattle.laws.proofs.BoundedLaws.{any-of}
 use Rattle.laws.proofs.ConnectiveLaws.{and-both, and-left, and-right, known}
 use Rattle.laws.proofs.CountLaws.{tally-less, tally-mono}
@@ -54,6 +54,6 @@ pub common-both : (x : Lines) (t a b : ℕ) → Common x t a → Common x t b �
 common-both x t a b f g = record {
   at = λ w c d p l e. record {
     there = f .at w c d p l e .there;
-    typed = λ o m h. bit-and (w .kind o) a b ∙ and-both (bit (w .kind o) a) (bit (w .kind o) b) (f .at w c d p l e .typed o m h) (g .at w c d p l e .typed o m h);
+    typed = λ o m h. bit-both (w .kind o) a b (f .at w c d p l e .typed o m h) (g .at w c d p l e .typed o m h);
   };
 }

@@ -18,8 +18,9 @@ use Rattle.records.proofs.WrittenLaws.{written-count}
 use Rattle.writing.proofs.WrittenLaws.{written-read-back}
 use Rattle.fillings.specs.Witness.{Witness}
 use Rattle.searching.specs.declared.Found.{Found}
-use Rattle.comparing.specs.Compared.{Compares, witnessIn}
-use Rattle.comparing.specs.Difference.{Finds, Gap, Least, NoneUpTo}
+use Rattle.smallest_records.specs.Difference.{Gap}
+use Rattle.smallest_records.specs.Smallest.{Chooses, Fewest}
+use Rattle.comparing.specs.Compared.{Compares, foundIn}
 use Rattle.comparing.specs.Sought.{Sought}
 
 pub few-objects : (bound most : ℕ) → most ≡ min 8 bound → most ≤ 8
@@ -30,16 +31,16 @@ module _ {old new : Diagram} where
   gap-of : WfDiagram old → (m : MemoryRecord) → Witness old new m → Gap old new (writeRecord (recordOf old m)) (recordOf old m)
   gap-of d m w = record { reads = written-read-back old m d (w .within); legal = w .legal; illegal = w .illegal }
 
-  least-of : {bound most : ℕ} {f : Found} → WfDiagram old → most ≡ min 8 bound → Sought old new most f → f .ok ≡ true → Least old new bound (recordOf old (f .witness))
+  least-of : {bound most : ℕ} {f : Found} → WfDiagram old → most ≡ min 8 bound → Sought old new most f → f .ok ≡ true → Fewest (Gap old new) bound (recordOf old (f .witness))
   least-of {f = f} d e s t =
       let count : objectCount (recordOf old (f .witness)) ≡ f .witness .count = written-count old (f .witness) in
       record {
         bounded = let b = s .bounded t in omega arith;
-        gap = gap-of d (f .witness) (s .sound t);
+        is = gap-of d (f .witness) (s .sound t);
         least = λ file r g. let l = s .least t .at-least r (read-wf file r (g .reads)) (g .legal) (g .illegal) in omega arith;
       }
 
-  none-of : {bound most : ℕ} {f : Found} → most ≡ min 8 bound → Sought old new most f → f .ok ≡ false → NoneUpTo old new bound
+  none-of : {bound most : ℕ} {f : Found} → most ≡ min 8 bound → Sought old new most f → f .ok ≡ false → Chooses (Gap old new) bound none
   none-of e s t file r g =
       let w = read-wf file r (g .reads) in
       let l = s .complete t .at-least r w (g .legal) (g .illegal) in
@@ -47,9 +48,9 @@ module _ {old new : Diagram} where
       omega arith
 
   pub compared : {bound most : ℕ} {f : Found} → WfDiagram old → most ≡ min 8 bound → Sought old new most f → Compares old new bound f
-  unfolding witnessIn
+  unfolding foundIn
   compared {bound} {most} {f} d e s = record { finds = go (f .ok) refl; within = λ t. s .sound t .within }
     where
-      go : (b : Bool) → f .ok ≡ b → Finds old new bound (cond b (some (recordOf old (f .witness))) none)
+      go : (b : Bool) → f .ok ≡ b → Chooses (Gap old new) bound (cond b (some (recordOf old (f .witness))) none)
       go true t = least-of d e s t
       go false t = none-of e s t

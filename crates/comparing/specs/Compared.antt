@@ -1,30 +1,21 @@
--- What the code that compares promises, over the definition of a difference, and what handing out a witness does.
+-- What the code that compares promises, over the definition of a difference.
 -- Assumes nothing.
-use Prim.Native.Nat.{_<_, _≤_, ℕ}
-use mathlib.Core.Bool.{cond, false, true}
-use mathlib.Core.List.{List}
+use Prim.Native.Nat.{ℕ}
+use mathlib.Core.Bool.{cond, true}
 use mathlib.Core.Option.{Option, none, some}
 use mathlib.Core.Path.{_≡_}
-use lib.ListN.{length}
 use Rattle.files.specs.Diagram.{Diagram}
 use Rattle.files.specs.Record.{Record}
 use Rattle.records.specs.Written.{Within, recordOf}
 use Rattle.searching.specs.declared.Found.{Found}
-use Rattle.writing.specs.Writes.{Writes}
-use Rattle.comparing.specs.Difference.{Finds}
+use Rattle.smallest_records.specs.Difference.{Gap}
+use Rattle.smallest_records.specs.Smallest.{Chooses}
 
 -- the record that was found, by old's names
-unfoldable pub witnessIn : Diagram → Found → Option Record
-witnessIn old f = cond (f .ok) (some (recordOf old (f .witness))) none
+unfoldable pub foundIn : Diagram → Found → Option Record
+foundIn old f = cond (f .ok) (some (recordOf old (f .witness))) none
 
 -- "difference" with a least witness, or "no difference"; a witness has an index of old for everything
 pub record Compares (old new : Diagram) (bound : ℕ) (f : Found) : Type 0 where
-  pub finds : Finds old new bound (witnessIn old f)
+  pub finds : Chooses (Gap old new) bound (foundIn old f)
   pub within : f .ok ≡ true → Within old (f .witness)
-
--- "hand out (buffer): the witness as a record file at its front, the length returned, later bytes as they were": into at least
--- 60,000 bytes where there is a witness, else nothing is written and 0, which is no file's length, is returned
-pub record HandsOut (old : Diagram) (f : Found) (before : List ℕ) (n : ℕ) (after : List ℕ) : Type 0 where
-  pub handed : f .ok ≡ true → Within old (f .witness) → 60000 ≤ length before → Writes (recordOf old (f .witness)) before n after
-  pub nothing : f .ok ≡ false → (n ≡ 0) × (after ≡ before)
-  pub short : length before < 60000 → (n ≡ 0) × (after ≡ before)

@@ -1,4 +1,2 @@
-pub mod Difference
-pub mod HandedOut
 pub mod Sought
 pub mod Compared

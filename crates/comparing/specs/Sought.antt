@@ -14,7 +14,7 @@ use Rattle.searching.specs.declared.Found.{Found}
 pub record NoneBelow (old new : Diagram) (n : ℕ) : Type 0 where
   pub at-least : (r : Record) → WfRecord r → Legal old r → Illegal new r → n ≤ objectCount r
 
--- f answers "find such a record of at most `most` objects, with fewest"
+-- f is such a record of at most `most` objects, with fewest, or says that there is none
 pub record Sought (old new : Diagram) (most : ℕ) (f : Found) : Type 0 where
   pub bounded : f .ok ≡ true → f .witness .count ≤ most
   pub sound : f .ok ≡ true → Witness old new (f .witness)

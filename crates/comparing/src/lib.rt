@@ -1,5 +1,5 @@
-// Compare: whether some record of at most `bound` objects is legal for the old diagram and illegal for the new one, and the
-// least such record, handed out as a file.
+// Compare: whether some record of at most `bound` objects is legal for the old diagram and illegal for the new one, and one with
+// fewest objects.
 ghost use mathlib.Core.Path.{_≡_};
 ghost use Prim.Native.Nat.{_≤_, min};
 ghost use Rattle.diagrams.specs.View.{diagramOf};
@@ -7,7 +7,7 @@ ghost use Rattle.diagrams.specs.Held.{Held};
 ghost use Rattle.worlds.specs.Kept.{sheet};
 ghost use Rattle.searching.specs.Ready.{Ready};
 ghost use Rattle.comparing.specs.Sought.{Sought};
-ghost use Rattle.comparing.specs.Compared.{Compares, HandsOut};
+ghost use Rattle.comparing.specs.Compared.{Compares};
 use diagrams::StoredDiagram;
 use searching::Found;
 use worlds::Lines;
@@ -109,18 +109,4 @@ pub fn compare(old: StoredDiagram, new: StoredDiagram, bound: u8) -> Found
         lines2,
         at_most_8(bound),
     )
-}
-
-// The witness as a file at the front of the buffer, if there is one and the buffer has 60,000 bytes.
-pub fn hand_out(old: StoredDiagram, f: Found, out: &mut [u8]) -> usize
-    requires { ⌜ Held old ⌝ }
-    ensures { λ r. ⌜ HandsOut (diagramOf old) f (now (out .entry)) r (now (out .exit)) ⌝ }
-{
-    if !f.ok {
-        return 0;
-    }
-    if out.len() < 60000 {
-        return 0;
-    }
-    writing::write_record(old, f.witness, out)
 }

@@ -12,8 +12,8 @@ use Rattle.laws.proofs.OverLaws.{set-on, over-nil}
 use Rattle.diagrams.specs.View.{diagramOf}
 use Rattle.diagrams.specs.declared.StoredDiagram.{StoredDiagram}
 use Rattle.rules.specs.Compile.{Entry, bare, compile, compiledBytes, entryAt, entryBytes}
-use Rattle.compiling.specs.declared.Entries.{Entries}
-use Rattle.compiling.specs.View.{entryIn}
+use Rattle.entries.specs.declared.Entries.{Entries}
+use Rattle.entries.specs.View.{entryIn}
 use Rattle.compiling.specs.Compiled.{Compiles, bytesTo, written}
 use Rattle.compiling.proofs.GatherLaws.{compiled-at, compiled-number}
 

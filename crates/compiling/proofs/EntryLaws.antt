@@ -12,14 +12,14 @@ use Rattle.diagrams.specs.View.{associationIn, endIn, upperIn}
 use Rattle.diagrams.specs.declared.Associations.{Associations}
 use Rattle.rules.specs.Arrow.{r1, r2}
 use Rattle.rules.specs.Compile.{bare, byRule6, byRule7, entryFor, kind5, limited, sideNumber}
-use Rattle.compiling.specs.View.{entryOf}
-use Rattle.compiling.specs.Table.{asked, entriesFor, sideOf}
+use Rattle.rules.specs.Evaluate.{sideOf}
+use Rattle.entries.specs.View.{entryOf}
+use Rattle.compiling.specs.Table.{asked, entriesFor}
 
 -- ---- limits
 
 module _ (kind i side low up : ℕ) (h : side ≤ 1) where
   side-number : sideNumber (sideOf side) ≡ side
-  unfolding sideOf
   side-number = go side h
     where
       go : (s : ℕ) → s ≤ 1 → sideNumber (cond (eqb s 0) r2 r1) ≡ s
@@ -68,7 +68,7 @@ module _ (a : Associations) (i kind side : ℕ) where
   pub six-asked : (w : ℕ) → w ≡ side → side ≤ 1 → kind ≡ 1
       → limited 1 i (sideOf side) (getD (a .lows) (i * 2 + 1 - w) 0) (upperIn (getD (a .ups) (i * 2 + 1 - w) 0)) ∷ []
       ≡ entriesFor i (associationIn a i) (asked kind side)
-  unfolding entriesFor entryFor sideOf associationIn endIn
+  unfolding entriesFor entryFor associationIn endIn
   six-asked w p h e = rw (p, asked-one kind side e) (go side h)
     where
       go : (s : ℕ) → s ≤ 1
@@ -82,7 +82,7 @@ module _ (a : Associations) (i kind side : ℕ) where
   pub seven-asked : (w : ℕ) → w ≡ side → side ≤ 1 → (kind ≡ 0 → ⊥) → (kind ≡ 5 → ⊥) → (kind ≡ 1 → ⊥)
       → limited 3 i (sideOf side) (getD (a .lows) (i * 2 + w) 0) (upperIn (getD (a .ups) (i * 2 + w) 0)) ∷ []
       ≡ entriesFor i (associationIn a i) (asked kind side)
-  unfolding entriesFor entryFor sideOf associationIn endIn
+  unfolding entriesFor entryFor associationIn endIn
   seven-asked w p h e f g = rw (p, asked-three kind side e f g) (go side h)
     where
       go : (s : ℕ) → s ≤ 1

@@ -1,13 +1,14 @@
 -- Association by association, the entries become those of the diagram.
 -- Assumes nothing.
-use Prim.Native.Nat.{ℕ, zero, suc, _+_, _*_, _<_, _≤_}
+use Prim.Native.Nat.{ℕ, _+_, _*_, _<_, _≤_}
 use native.Mathlib.Omega.{arith}
 use native.Mathlib.Decide.{decLt}
 use mathlib.Core.List.{List, _++_}
 use mathlib.Core.Path.{_≡_, refl, sym, ap, _∙_}
-use lib.ListN.{length, getD, replicate, List·getD-eq-default}
+use lib.ListN.{length, List·getD-eq-default}
 use Rattle.laws.specs.Lists.{joined}
-use Rattle.laws.proofs.JoinedLaws.{joined-more, joined-ext, getD-each}
+use Rattle.laws.proofs.JoinedLaws.{joined-more, joined-ext}
+use Rattle.laws.proofs.ListLaws.{zeros}
 use Rattle.files.specs.Diagram.{Association, associationAt}
 use Rattle.diagrams.specs.View.{associationIn, diagramOf}
 use Rattle.diagrams.specs.Held.{Held}
@@ -15,20 +16,15 @@ use Rattle.diagrams.specs.declared.Associations.{Associations}
 use Rattle.diagrams.specs.declared.StoredDiagram.{StoredDiagram}
 use Rattle.diagrams.proofs.ViewLaws.{association-count, association-at}
 use Rattle.rules.specs.Compile.{Entry, bare, compile, entriesOf, entryAt}
-use Rattle.compiling.specs.declared.Entries.{Entries}
-use Rattle.compiling.specs.View.{Appends, entriesIn, entryIn, entryOf, noEntries}
+use Rattle.entries.specs.declared.Entries.{Entries}
+use Rattle.entries.specs.View.{Appends, entriesIn, entryIn, entryOf, noEntries}
 use Rattle.compiling.specs.Compiled.{Compiles, Gathered, entriesTo}
-use Rattle.compiling.proofs.AppendLaws.{grown, number-is}
-
-zero-at : (n k : ℕ) → _≡_ {A = ℕ} (getD (replicate n 0) k 0) 0
-zero-at zero k = refl
-zero-at (suc n) zero = refl
-zero-at (suc n) (suc k) = zero-at n k
+use Rattle.entries.proofs.AppendLaws.{entry-at, grown, number-is}
 
 module _ (a : Associations) where
   pub gathered-none : Gathered a 0 noEntries
   unfolding noEntries entriesIn entriesTo joined entryIn
-  gathered-none = record { entries = refl; most = omega arith; rest = λ k h. ap (λ (x : ℕ). entryOf x x x x x) (zero-at 64 k) }
+  gathered-none = record { entries = refl; most = omega arith; rest = λ k h. ap (λ (x : ℕ). entryOf x x x x x) (zeros 64 k) }
 
   pub gathered-more : {i : ℕ} {r q : Entries} → Gathered a i r → Appends r q (entriesOf i (associationIn a i)) → q .number ≤ r .number + 4 → Gathered a (i + 1) q
   unfolding entriesTo
@@ -67,11 +63,10 @@ module _ (d : StoredDiagram) (e : Entries) (c : Compiles d e) where
   compiled-number = sym (number-is e) ∙ ap length (c .entries)
 
   pub compiled-at : (k : ℕ) → entryIn e k ≡ entryAt (compile (diagramOf d)) k
-  unfolding entriesIn
   compiled-at k = go (decLt k (e .number))
     where
       go : Dec (k < e .number) → entryIn e k ≡ entryAt (compile (diagramOf d)) k
-      go (yes l) = sym (getD-each (entryIn e) (bare 0 0) (e .number) k l) ∙ ap (λ (es : List Entry). getD es k (bare 0 0)) (c .entries)
+      go (yes l) = sym (entry-at e k l) ∙ ap (λ (es : List Entry). entryAt es k) (c .entries)
       go (no l) =
           let h : length (compile (diagramOf d)) ≤ k = omega (arith, compiled-number) in
           c .rest k (let m : e .number ≤ k = omega arith in m) ∙ sym (List·getD-eq-default (compile (diagramOf d)) (bare 0 0) h)

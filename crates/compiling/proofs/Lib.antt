@@ -1,4 +1,3 @@
-pub mod AppendLaws
 pub mod TableLaws
 pub mod EntryLaws
 pub mod GatherLaws

@@ -1,13 +1,14 @@
 -- The limits in the entries of a diagram are at most 100, so each fits its byte.
 -- Assumes nothing.
-use Prim.Native.Nat.{ℕ, zero, suc, _<_, _≤_}
-use native.Mathlib.Nat.{le-step, lt-suc-self}
+use Prim.Native.Nat.{ℕ, _≤_}
 use native.Mathlib.Omega.{arith}
 use mathlib.Core.Bool.{Bool, true, false, cond}
-use mathlib.Core.List.{List, [], _∷_, _++_}
+use mathlib.Core.List.{[], _∷_}
 use mathlib.Core.Path.{sym, subst}
 use lib.ListN.{length, getD}
 use Rattle.laws.specs.Lists.{joined}
+use Rattle.laws.proofs.ListLaws.{append-each, one-each}
+use Rattle.laws.proofs.JoinedLaws.{joined-each}
 use Rattle.files.specs.Diagram.{Association, Diagram, Upper, associationAt, atMost, isComposition, noLimit}
 use Rattle.files.specs.WellFormedDiagram.{WfAssociation, WfDiagram, WfUpper}
 use Rattle.diagrams.specs.View.{diagramOf}
@@ -15,29 +16,10 @@ use Rattle.diagrams.specs.Held.{Held}
 use Rattle.diagrams.specs.declared.StoredDiagram.{StoredDiagram}
 use Rattle.rules.specs.Arrow.{Side, r1, r2}
 use Rattle.rules.specs.Compile.{Asked, Entry, bare, byRule6, byRule7, compile, entriesOf, entryAt, entryFor, kind5, limited, rowOf}
-use Rattle.compiling.specs.declared.Entries.{Entries}
-use Rattle.compiling.specs.View.{Small, entryIn}
-use Rattle.compiling.specs.Compiled.{Compiles}
+use Rattle.entries.specs.declared.Entries.{Entries}
+use Rattle.entries.specs.View.{entryIn}
+use Rattle.compiling.specs.Compiled.{Compiles, Small}
 use Rattle.compiling.proofs.GatherLaws.{compiled-at}
-
--- ---- what holds of each element of two lists, and of rows one behind the other
-
-module _ {ℓ} {A : Type ℓ} (P : A → Type 0) (d : A) where
-  pub append-each : (xs ys : List A) → ((k : ℕ) → P (getD xs k d)) → ((k : ℕ) → P (getD ys k d)) → (k : ℕ) → P (getD (xs ++ ys) k d)
-  append-each [] ys f g k = g k
-  append-each (x ∷ xs) ys f g zero = f zero
-  append-each (x ∷ xs) ys f g (suc k) = append-each xs ys (λ j. f (suc j)) g k
-
-  pub joined-each : P d → (g : ℕ → List A) (n : ℕ) → ((i : ℕ) → i < n → (k : ℕ) → P (getD (g i) k d)) → (k : ℕ) → P (getD (joined g n) k d)
-  unfolding joined
-  joined-each p g zero f k = p
-  joined-each p g (suc n) f k = append-each (joined g n) (g n) (joined-each p g n (λ i l. f i (le-step l))) (f n (lt-suc-self n)) k
-
-  pub one-each : P d → (x : A) → P x → (k : ℕ) → P (getD (x ∷ []) k d)
-  one-each p x q zero = q
-  one-each p x q (suc k) = p
-
--- ---- entries
 
 record Fits (e : Entry) : Type 0 where
   low : e .low ≤ 100

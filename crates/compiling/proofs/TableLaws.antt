@@ -14,10 +14,10 @@ use Rattle.laws.proofs.BoundedLaws.{all-at}
 use Rattle.laws.proofs.JoinedLaws.{joined-more, each-of}
 use Rattle.files.specs.Diagram.{Association, isComposition}
 use Rattle.rules.specs.Compile.{Asked, Entry, arrowRows, bare, entriesOf, entryFor, kind5, rowOf}
-use Rattle.compiling.specs.declared.Entries.{Entries}
-use Rattle.compiling.specs.View.{Appends}
-use Rattle.compiling.specs.Table.{asked, entriesFor, sideOf, wholeFor}
-use Rattle.compiling.proofs.AppendLaws.{appends-as, appends-then}
+use Rattle.entries.specs.declared.Entries.{Entries}
+use Rattle.entries.specs.View.{Appends}
+use Rattle.compiling.specs.Table.{asked, entriesFor, wholeFor}
+use Rattle.entries.proofs.AppendLaws.{appends-as, appends-then}
 
 -- the code's table
 abbrev pub kinds : List (List ℕ)
@@ -37,7 +37,7 @@ unfoldable pub askedTo : ℕ → ℕ → List Asked
 askedTo arrow s = joined (λ k. asked (kindAt arrow k) (sideAt arrow k)) s
 
 pub table : (arrow : ℕ) → arrow < 5 → askedTo arrow 3 ≡ getD arrowRows arrow []
-unfolding askedTo asked sideOf joined
+unfolding askedTo asked joined
 table zero h = refl
 table (suc zero) h = refl
 table (suc (suc zero)) h = refl

@@ -1,17 +1,17 @@
 -- What the compiler gives: the entries of a diagram, and their bytes.
 -- Assumes nothing.
-use Prim.Native.Nat.{ℕ, _*_, _≤_}
+use Prim.Native.Nat.{ℕ, _*_, _<_, _≤_}
 use mathlib.Core.List.{List}
 use mathlib.Core.Path.{_≡_}
-use lib.ListN.{length, replicate}
+use lib.ListN.{getD, length, replicate}
 use Rattle.laws.specs.Lists.{joined, over}
 use Rattle.diagrams.specs.View.{associationIn, diagramOf}
 use Rattle.diagrams.specs.declared.Associations.{Associations}
 use Rattle.diagrams.specs.declared.StoredDiagram.{StoredDiagram}
 use Rattle.rules.specs.Compile.{Entry, bare, compile, compiledBytes, entriesOf, entryBytes}
-use Rattle.compiling.specs.declared.Entries.{Entries}
+use Rattle.entries.specs.declared.Entries.{Entries}
 use Rattle.compiling.specs.declared.Compiled.{Compiled}
-use Rattle.compiling.specs.View.{entriesIn, entryIn}
+use Rattle.entries.specs.View.{entriesIn, entryIn}
 
 -- the entries of the first n associations
 unfoldable pub entriesTo : Associations → ℕ → List Entry
@@ -28,6 +28,11 @@ pub record Compiles (d : StoredDiagram) (r : Entries) : Type 0 where
   pub entries : entriesIn r ≡ compile (diagramOf d)
   pub few : r .number ≤ 64
   pub rest : (k : ℕ) → r .number ≤ k → entryIn r k ≡ bare 0 0
+
+-- the limits of each entry fit their bytes
+pub record Small (e : Entries) : Type 0 where
+  pub low : (k : ℕ) → getD (e .lows) k 0 < 256
+  pub up : (k : ℕ) → getD (e .ups) k 0 < 256
 
 -- the bytes of the first n entries
 unfoldable pub bytesTo : Entries → ℕ → List ℕ

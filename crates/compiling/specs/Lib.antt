@@ -1,3 +1,2 @@
-pub mod View
 pub mod Table
 pub mod Compiled

@@ -5,12 +5,8 @@ use mathlib.Core.Bool.{cond}
 use mathlib.Core.List.{List, [], _∷_, map}
 use lib.Dec.{eqb}
 use Rattle.files.specs.Diagram.{Association, isComposition}
-use Rattle.rules.specs.Arrow.{Side, r1, r2}
 use Rattle.rules.specs.Compile.{Asked, Entry, bare, byRule6, byRule7, entryFor, kind5}
-
--- "side (0 for r2, 1 for r1)"
-unfoldable pub sideOf : ℕ → Side
-sideOf side = cond (eqb side 0) r2 r1
+use Rattle.rules.specs.Evaluate.{sideOf}
 
 -- kind 1 is asked by rule 6 and kind 3 by rule 7
 unfoldable pub asked : ℕ → ℕ → List Asked

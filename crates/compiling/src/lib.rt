@@ -5,19 +5,11 @@ ghost use Prim.Native.Nat.{_+_, _<_, _≤_};
 ghost use Rattle.diagrams.specs.View.{associationIn, upperIn};
 ghost use Rattle.diagrams.specs.Held.{Held};
 ghost use Rattle.rules.specs.Compile.{entriesOf, limited, rowOf};
-ghost use Rattle.compiling.specs.View.{entryOf, noEntries, Appends, Small};
-ghost use Rattle.compiling.specs.Table.{sideOf, asked, entriesFor, wholeFor};
-ghost use Rattle.compiling.specs.Compiled.{Compiles, Gives, bytesTo, written};
-
-// Entry i is kind, association, side, low and up at i; those past the number are zero.
-pub struct Entries {
-    pub number: usize,
-    pub kinds: [u8; 64],
-    pub associations: [u8; 64],
-    pub sides: [u8; 64],
-    pub lows: [u16; 64],
-    pub ups: [u16; 64],
-}
+ghost use Rattle.rules.specs.Evaluate.{sideOf};
+ghost use Rattle.entries.specs.View.{Appends};
+ghost use Rattle.compiling.specs.Table.{asked, entriesFor, wholeFor};
+ghost use Rattle.compiling.specs.Compiled.{Compiles, Gives, Small, bytesTo, written};
+use entries::Entries;
 
 pub struct Compiled {
     pub number: usize,
@@ -31,31 +23,15 @@ const SIDES: [[u8; 3]; 5] = [[0, 0, 0], [0, 0, 0], [1, 1, 0], [0, 1, 0], [0, 1, 
 
 // ---- entries
 
-// One entry more.
-fn push(e: Entries, kind: u8, association: u8, side: u8, low: u16, up: u16) -> Entries
-    requires { ⌜ e .number < 64 ⌝ }
-    ensures { λ r. ⌜ Appends e r (entryOf kind association side low up ∷ []) × (r .number ≡ e .number + 1) ⌝ }
-{
-    let mut r = e;
-    let at = e.number;
-    r.kinds[at] = kind;
-    r.associations[at] = association;
-    r.sides[at] = side;
-    r.lows[at] = low;
-    r.ups[at] = up;
-    r.number = at + 1;
-    r
-}
-
 // One entry more, of a kind with limits: without an upper one it is the next kind, and up is 0.
 fn push_limited(e: Entries, kind: u8, association: u8, side: u8, low: u16, up: u16) -> Entries
     requires { ⌜ (e .number < 64) × ((kind < 4) × (side ≤ 1)) ⌝ }
     ensures { λ r. ⌜ Appends e r (limited kind association (sideOf side) low (upperIn up) ∷ []) × (r .number ≡ e .number + 1) ⌝ }
 {
     if up == 65535 {
-        return push(e, kind + 1, association, side, low, 0);
+        return entries::push(e, kind + 1, association, side, low, 0);
     }
-    push(e, kind, association, side, low, up)
+    entries::push(e, kind, association, side, low, up)
 }
 
 // What a place of the table asks for, of association i. Side 0 goes from the left end to the right one, side 1 back; rule 6 has the
@@ -68,7 +44,7 @@ fn push_asked(e: Entries, a: diagrams::Associations, i: usize, kind: u8, side: u
         return e;
     }
     if kind == 5 {
-        return push(e, 5, i as u8, 0, 0, 0);
+        return entries::push(e, 5, i as u8, 0, 0, 0);
     }
     let from = i * 2 + laws::wide(side);
     let to = i * 2 + 1 - laws::wide(side);
@@ -99,7 +75,7 @@ fn push_whole(e: Entries, a: diagrams::Associations, i: usize) -> Entries
     ensures { λ r. ⌜ Appends e r (wholeFor i (associationIn a i)) × (r .number ≤ e .number + 1) ⌝ }
 {
     if a.forms[i] == 1 {
-        return push(e, 6, i as u8, 0, 0, 0);
+        return entries::push(e, 6, i as u8, 0, 0, 0);
     }
     e
 }
@@ -113,20 +89,6 @@ fn push_association(e: Entries, a: diagrams::Associations, i: usize) -> Entries
     push_whole(r, a, i)
 }
 
-// Nothing compiled yet: all zero.
-fn no_entries() -> Entries
-    ensures { λ r. ⌜ r ≡ noEntries ⌝ }
-{
-    Entries {
-        number: 0,
-        kinds: [0u8; 64],
-        associations: [0u8; 64],
-        sides: [0u8; 64],
-        lows: [0u16; 64],
-        ups: [0u16; 64],
-    }
-}
-
 // The entries of a diagram, association by association.
 pub fn compile_entries(d: diagrams::StoredDiagram) -> Entries
     requires { ⌜ Held d ⌝ }
@@ -134,7 +96,7 @@ pub fn compile_entries(d: diagrams::StoredDiagram) -> Entries
 {
     let a = d.associations;
     let count = a.count;
-    let mut r = no_entries();
+    let mut r = entries::no_entries();
     let mut i: usize = 0;
     while i < count {
         r = push_association(r, a, i);

@@ -7,8 +7,8 @@ use mathlib.Core.Path.{_∙_, _≡_, ap}
 use native.Mathlib.Omega.{arith}
 use lib.Bits.{bitAnd}
 use Rattle.laws.specs.Bits.{bit}
-use Rattle.laws.proofs.BitLaws.{bit-and, bit-zero}
-use Rattle.laws.proofs.ConnectiveLaws.{and-both, true-false}
+use Rattle.laws.proofs.BitLaws.{bit-zero, bit-both}
+use Rattle.laws.proofs.ConnectiveLaws.{true-false}
 use Rattle.growing.specs.World.{World}
 use Rattle.growing.specs.Demand.{AtLeast, candidates, extras}
 use Rattle.growing.proofs.SplitLaws.{from-least}
@@ -61,7 +61,7 @@ module _ (s : Start) where
         → low - candidates (λ t. bit t mask) (λ o. bit o shut) (s .types) (s .k) ≤ extras (bitAnd mask (s .free)) (s .k) w
     limited-need w a p l =
         needs-of S (s .types) (s .k) 0 (s .k + s .spare) (s .free) (λ v e h. h .0 .extra) (λ _. p) low (bitAnd mask (s .free)) (λ t. bit t mask) (λ o. bit o shut) (λ v e h. h .1)
-        (λ t x y. bit-and t mask (s .free) ∙ and-both (bit t mask) (bit t (s .free)) x y) w
+        (λ t x y. bit-both t mask (s .free) x y) w
         (record { few = a .few; many = a .many; kept = a .kept; avoids = λ o _ _. bit-zero (w .kind o) })
         (a, record { enough = l .within .least; typed = l .typed; free = l .apart })
       where

@@ -9,16 +9,15 @@ use native.Mathlib.Omega.{arith}
 use lib.ListN.{getD}
 use Rattle.laws.specs.Bits.{bit}
 use Rattle.laws.proofs.ConnectiveLaws.{known, true-false}
-use Rattle.growing.specs.World.{World}
-use Rattle.link_search.specs.Nets.{Within}
+use Rattle.growing.specs.World.{World, targetCount}
+use Rattle.link_search.specs.Nets.{InLimits}
 use Rattle.demands.specs.declared.Start.{Start}
 use Rattle.demands.specs.declared.Wish.{Wish}
 use Rattle.demands.specs.Wishes.{Known, Limited, Sharpens, Started}
-use Rattle.clashes.specs.Counts.{targetCount}
 use Rattle.demands.specs.Families.{RowsOpen}
 
 -- both limits hold
-pub within-both : (a b c d low high n : ℕ) → low ≡ max a c → high ≡ min b d → Within a b n → Within c d n → Within low high n
+pub within-both : (a b c d low high n : ℕ) → low ≡ max a c → high ≡ min b d → InLimits a b n → InLimits c d n → InLimits low high n
 within-both a b c d low high n e f u v = record { least = omega (arith, u .least, v .least); most = omega (arith, u .most, v .most) }
 
 module _ (targets lows highs shut : List ℕ) (s : Start) (fine : Known s) (o i x y : ℕ) (given : o < s .k) (slot : i < 32) (from : x ≡ getD (s .types) o 0 * 32)
@@ -28,12 +27,12 @@ module _ (targets lows highs shut : List ℕ) (s : Start) (fine : Known s) (o i 
   place w a = let e : w .kind o ≡ getD (s .types) o 0 = a .kept o given in omega arith
 
   module _ (w : World) (a : Started s w) (h : RowsOpen targets lows highs shut w) where
-    row-within : Within (getD lows (x + i) 0) (getD highs (x + i) 0) (targetCount w i o)
+    row-within : InLimits (getD lows (x + i) 0) (getD highs (x + i) 0) (targetCount w i o)
     row-within =
-        subst (λ (z : ℕ). Within (getD lows z 0) (getD highs z 0) (targetCount w i o)) (place w a)
+        subst (λ (z : ℕ). InLimits (getD lows z 0) (getD highs z 0) (targetCount w i o)) (place w a)
         (h .rows .limited i o slot (omega (arith, a .many)))
 
-    row-limited : (low high : ℕ) → Within low high (targetCount w i o) → Limited low high (getD targets (x + i) 0) (getD shut y 0) (λ p. w .link i o p) w
+    row-limited : (low high : ℕ) → InLimits low high (targetCount w i o) → Limited low high (getD targets (x + i) 0) (getD shut y 0) (λ p. w .link i o p) w
     row-limited low high l = record {
       within = l;
       typed = λ p b e. subst (λ (z : ℕ). bit (w .kind p) (getD targets z 0) ≡ true) (place w a) (h .rows .allowed i o p slot (omega (arith, a .many)) b e);
@@ -55,7 +54,7 @@ module _ (targets lows highs shut : List ℕ) (s : Start) (fine : Known s) (o i 
 
     pub own-sharp : (low high lower upper : ℕ) → lower ≡ max (getD lows (x + i) 0) low → upper ≡ min (getD highs (x + i) 0) high
         → ((p : World → ℕ → Bool) → Sharpens (λ w. Limited lower upper (getD targets (x + i) 0) (getD shut y 0) (p w) w) s best r)
-        → Sharpens (λ w. RowsOpen targets lows highs shut w × Within low high (targetCount w i o)) s best r
+        → Sharpens (λ w. RowsOpen targets lows highs shut w × InLimits low high (targetCount w i o)) s best r
     own-sharp low high lower upper e g f = record {
       at = λ w a h. f (λ v p. v .link i o p) .at w a
           (row-limited w a (h .0) _ _ (within-both _ _ low high lower upper (targetCount w i o) e g (row-within w a (h .0)) (h .1)));

@@ -1,15 +1,14 @@
 -- Laws of sets of types as masks: one set without another, and the types of the first objects.
 -- Assumes nothing.
 use Prim.Native.Nat.{_+_, ℕ}
-use mathlib.Core.Bool.{Bool, _&&_, _||_, false, not, true}
+use mathlib.Core.Bool.{Bool, _&&_, _||_, not}
 use mathlib.Core.List.{List}
-use mathlib.Core.Path.{_∙_, _≡_, ap, ap₂, refl, sym}
-use lib.Bits.{bitAnd, bitOr, bitXor}
+use mathlib.Core.Path.{_∙_, _≡_, ap, ap₂, sym}
+use lib.Bits.{bitAnd}
 use lib.Dec.{eqb}
 use lib.ListN.{getD}
 use Rattle.laws.specs.Bits.{bit}
-use Rattle.laws.specs.Connective.{same}
-use Rattle.laws.proofs.BitLaws.{bit-and, bit-or, bit-xor, bit-zero}
+use Rattle.laws.proofs.BitLaws.{bit-and, bit-zero}
 use Rattle.laws.proofs.BoundedLaws.{any-more}
 use Rattle.laws.proofs.LoopLaws.{any-begin}
 use Rattle.demands.specs.Wishes.{available, present}

@@ -10,9 +10,9 @@ use lib.Dec.{eqb}
 use lib.ListN.{getD}
 use borrow.Author.Tests.{eq-eqb, not-true}
 use Rattle.laws.specs.Bits.{bit}
-use Rattle.laws.proofs.BitLaws.{bit-and, bit-zero}
+use Rattle.laws.proofs.BitLaws.{bit-zero, bit-both}
 use Rattle.laws.proofs.BoundedLaws.{any-no}
-use Rattle.laws.proofs.ConnectiveLaws.{and-both, and-left, and-right, or-right, true-false}
+use Rattle.laws.proofs.ConnectiveLaws.{and-left, and-right, or-right, true-false}
 use Rattle.growing.specs.World.{World}
 use Rattle.growing.specs.Demand.{extras}
 use Rattle.growing.proofs.DemandLaws.{single-needs}
@@ -38,7 +38,7 @@ module _ (s : Start) (singles t : ℕ) (small : t < 24) (single : bit t singles 
   single-need m is w a h =
       single-needs S (s .types) (s .k) 0 (s .k + s .spare) (s .free) (λ v e p. p .0 .extra) t (bitAnd m (s .free))
       (λ v p. let z = p .1 .at t small single in omega arith) absent
-      (λ e. bit-and t m (s .free) ∙ and-both (bit t m) (bit t (s .free)) (is t ∙ or-right (bit t 0) (eqb t t) (eq-eqb t t refl)) e) w
+      (λ e. bit-both t m (s .free) (is t ∙ or-right (bit t 0) (eqb t t) (eq-eqb t t refl)) e) w
       (record { few = a .few; many = a .many; kept = a .kept; avoids = λ o _ _. bit-zero (w .kind o) }) (a, h)
     where
       S : World → Type 0

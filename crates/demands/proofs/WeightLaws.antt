@@ -6,7 +6,7 @@ use Rattle.growing.specs.World.{World}
 use Rattle.growing.specs.Demand.{extras}
 use Rattle.worlds.specs.declared.Lines.{Lines}
 use Rattle.worlds.specs.declared.Query.{Query}
-use Rattle.worlds.specs.Asked.{Asked}
+use Rattle.worlds.specs.Asked.{Satisfies}
 use Rattle.worlds.specs.Kept.{Allowed, sheet}
 use Rattle.weights.specs.declared.Shortage.{Shortage}
 use Rattle.weights.specs.Weigh.{Begins, Short}
@@ -20,7 +20,7 @@ begins s w h = record { many = h .many; known = h .known; kept = h .kept; extra 
 
 -- all worlds that the tables allow, whatever the usable types and the singletons are, and that the query asks for
 abbrev pub Weighed : List ℕ → List ℕ → List ℕ → Lines → Query → Start → Wish → Wish → Type 0
-Weighed targets lows highs x q s a b = (usable singles : ℕ) → Sharpens (λ w. Allowed (sheet usable singles targets lows highs x) w × Asked q w) s a b
+Weighed targets lows highs x q s a b = (usable singles : ℕ) → Sharpens (λ w. Allowed (sheet usable singles targets lows highs x) w × Satisfies q w) s a b
 
 -- one more way of counting
 pub weigh-more : (targets lows highs : List ℕ) (x : Lines) (q : Query) (s : Start) (a b c : Wish) (r : Shortage) → Weighed targets lows highs x q s a b

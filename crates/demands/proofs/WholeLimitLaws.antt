@@ -2,7 +2,6 @@
 -- Assumes nothing.
 use Prim.Native.Nat.{_<_, ℕ}
 use mathlib.Core.Bool.{Bool}
-use mathlib.Core.Path.{_≡_}
 use native.Mathlib.Omega.{arith}
 use lib.ListN.{getD}
 use Rattle.laws.proofs.BitLaws.{bit-zero}
@@ -12,7 +11,7 @@ use Rattle.worlds.specs.Kept.{ColumnsKept, WholesKept, wholeOf}
 use Rattle.common_wholes.specs.Common.{Common}
 use Rattle.demands.specs.declared.Start.{Start}
 use Rattle.demands.specs.declared.Wish.{Wish}
-use Rattle.demands.specs.Wishes.{Limited, Sharpens, Started}
+use Rattle.demands.specs.Wishes.{Limited, Sharpens}
 
 pub whole-sharp : (x : Lines) (s : Start) (best r : Wish) (p mask : ℕ) → p < s .k → Common x (getD (s .types) p 0) mask
     → ((q : World → ℕ → Bool) → Sharpens (λ w. Limited 1 1 mask 0 (q w) w) s best r) → Sharpens (λ w. ColumnsKept x w × WholesKept x w) s best r

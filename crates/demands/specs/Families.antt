@@ -5,10 +5,9 @@ use mathlib.Core.Bool.{false, true}
 use mathlib.Core.List.{List}
 use mathlib.Core.Path.{_≡_}
 use Rattle.laws.specs.Bits.{bit}
-use Rattle.growing.specs.World.{World}
-use Rattle.link_search.specs.Nets.{Within, netOf}
+use Rattle.growing.specs.World.{World, sourceCount}
+use Rattle.link_search.specs.Nets.{InLimits, netOf}
 use Rattle.worlds.specs.Kept.{RowsKept}
-use Rattle.clashes.specs.Counts.{sourceCount}
 
 -- the rows by the tables, without the links that must not stand
 pub record RowsOpen (targets lows highs shut : List ℕ) (w : World) : Type 0 where
@@ -16,5 +15,5 @@ pub record RowsOpen (targets lows highs shut : List ℕ) (w : World) : Type 0 wh
   pub apart : (o s p : ℕ) → o < 8 → s < 32 → p < 8 → netOf shut (o * 32 + s) p ≡ true → w .link s o p ≡ false
 
 -- the number of sources of each object with a type of the mask `to` lies within the limits
-pub record ColumnKept (s mask to low high : ℕ) (w : World) : Type 0 where
-  pub at : (p : ℕ) → p < w .size → bit (w .kind p) to ≡ true → Within low high (sourceCount w s mask p)
+pub record SourcesWithin (s mask to low high : ℕ) (w : World) : Type 0 where
+  pub at : (p : ℕ) → p < w .size → bit (w .kind p) to ≡ true → InLimits low high (sourceCount w s mask p)

@@ -10,7 +10,7 @@ use Rattle.laws.specs.Bits.{bit}
 use Rattle.laws.specs.Bounded.{any, tally}
 use Rattle.growing.specs.World.{World}
 use Rattle.growing.specs.Growth.{Extra}
-use Rattle.link_search.specs.Nets.{Within}
+use Rattle.link_search.specs.Nets.{InLimits}
 use Rattle.demands.specs.declared.Start.{Start}
 use Rattle.demands.specs.declared.Wish.{Wish}
 
@@ -47,6 +47,6 @@ pub record Sharpens (P : World → Type 0) (s : Start) (a b : Wish) : Type 0 whe
 
 -- p holds at `low` to `high` objects of w; these have types of the mask, and are not among the objects `shut`
 pub record Limited (low high mask shut : ℕ) (p : ℕ → Bool) (w : World) : Type 0 where
-  pub within : Within low high (tally p (w .size))
+  pub within : InLimits low high (tally p (w .size))
   pub typed : (o : ℕ) → o < w .size → p o ≡ true → bit (w .kind o) mask ≡ true
   pub apart : (o : ℕ) → o < w .size → p o ≡ true → bit o shut ≡ false

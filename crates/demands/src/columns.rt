@@ -1,12 +1,11 @@
 // Needs by columns: how many sources an object has in a role slot.
-ghost use mathlib.Core.Path.{_≡_};
-ghost use Prim.Native.Nat.{ℕ, _<_};
-ghost use Rattle.growing.specs.World.{World};
-ghost use Rattle.link_search.specs.Nets.{Within};
+ghost use Prim.Native.Nat.{_<_};
+ghost use Rattle.growing.specs.World.{sourceCount};
+ghost use Rattle.link_search.specs.Nets.{InLimits};
 ghost use Rattle.worlds.specs.Kept.{ColumnsKept, Slotted};
 ghost use Rattle.demands.specs.Wishes.{Known, Sharpens};
-ghost use Rattle.clashes.specs.Counts.{SourcesKept, sourceCount};
-ghost use Rattle.demands.specs.Families.{ColumnKept};
+ghost use Rattle.clashes.specs.Sources.{SourcesKept};
+ghost use Rattle.demands.specs.Families.{SourcesWithin};
 use crate::Start;
 use crate::Wish;
 
@@ -22,7 +21,7 @@ pub fn with_sources(
     p: u8,
 ) -> Wish
     requires { ⌜ Known s × (slot < 32) × (p < s .k) ⌝ }
-    ensures { λ r. ⌜ Sharpens (λ w. SourcesKept (now (sources .entry)) w × Within low high (sourceCount w slot mask p)) s best r ⌝ }
+    ensures { λ r. ⌜ Sharpens (λ w. SourcesKept (now (sources .entry)) w × InLimits low high (sourceCount w slot mask p)) s best r ⌝ }
 {
     let types = s.types;
     let x = clashes::rows_at(&types, p) + laws::wide(slot);
@@ -41,7 +40,7 @@ fn with_column(
     high: u8,
 ) -> Wish
     requires { ⌜ Known s × (slot < 32) ⌝ }
-    ensures { λ r. ⌜ Sharpens (λ w. SourcesKept (now (sources .entry)) w × ColumnKept slot mask to low high w) s best r ⌝ }
+    ensures { λ r. ⌜ Sharpens (λ w. SourcesKept (now (sources .entry)) w × SourcesWithin slot mask to low high w) s best r ⌝ }
 {
     let types = s.types;
     let k = s.k;

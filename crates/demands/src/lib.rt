@@ -1,10 +1,9 @@
 // Which types one more object must have: what a search by types asks before it looks at links.
-ghost use mathlib.Core.Path.{_≡_};
 ghost use Prim.Native.Nat.{ℕ, _<_, _≤_};
 ghost use lib.Dec.{ltb};
 ghost use lib.ListN.{getD};
 ghost use Rattle.growing.specs.Growth.{Demanded};
-ghost use Rattle.worlds.specs.Kept.{Slotted, Turned, sheet};
+ghost use Rattle.worlds.specs.Kept.{Slotted, SourceTable, sheet};
 ghost use Rattle.worlds.specs.Asked.{Sane, Solution};
 
 mod columns;
@@ -45,7 +44,7 @@ pub fn demand<'a>(
     forb: u32,
     n: u8,
 ) -> Wish
-    requires { ⌜ Slotted lines × Turned (now targets) (now sources) × Sane q × (q .seeds ≤ k) × (k ≤ n) × (n ≤ 8) × ((o : ℕ) → getD types o 0 < 24) ⌝ }
+    requires { ⌜ Slotted lines × SourceTable (now targets) (now sources) × Sane q × (q .seeds ≤ k) × (k ≤ n) × (n ≤ 8) × ((o : ℕ) → getD types o 0 < 24) ⌝ }
     ensures { λ r. ⌜ Demanded (Solution (sheet usable singles (now (targets .entry)) (now (lows .entry)) (now (highs .entry)) lines) q n) 24 types k forb n (r .dead) (ltb k n) (r .g) ⌝ }
 {
     let here = sets::types_present(&types, k);

@@ -1,10 +1,8 @@
 // Needs by what a query asks of its first object.
-ghost use mathlib.Core.Path.{_≡_};
 ghost use Prim.Native.Nat.{_≤_};
-ghost use Rattle.growing.specs.World.{World};
-ghost use Rattle.worlds.specs.Asked.{Asked, Sane};
+ghost use Rattle.worlds.specs.Asked.{Satisfies, Sane};
 ghost use Rattle.demands.specs.Wishes.{Known, Sharpens};
-ghost use Rattle.clashes.specs.Counts.{SourcesKept};
+ghost use Rattle.clashes.specs.Sources.{SourcesKept};
 ghost use Rattle.demands.specs.Families.{RowsOpen};
 use crate::Start;
 use crate::Wish;
@@ -20,7 +18,7 @@ pub fn with_own<'a>(
     q: worlds::Query,
 ) -> Wish
     requires { ⌜ Known s × Sane q × (q .seeds ≤ s .k) ⌝ }
-    ensures { λ r. ⌜ Sharpens (λ w. RowsOpen (now (targets .entry)) (now (lows .entry)) (now (highs .entry)) (q .shut) w × SourcesKept (now (sources .entry)) w × Asked q w) s best r ⌝ }
+    ensures { λ r. ⌜ Sharpens (λ w. RowsOpen (now (targets .entry)) (now (lows .entry)) (now (highs .entry)) (q .shut) w × SourcesKept (now (sources .entry)) w × Satisfies q w) s best r ⌝ }
 {
     if q.seeds == 0 {
         return best;

@@ -1,7 +1,5 @@
 // Needs by compositions that give a part its whole: this has a type that each of them asks for.
-ghost use mathlib.Core.Path.{_≡_};
 ghost use Prim.Native.Nat.{_<_};
-ghost use Rattle.growing.specs.World.{World};
 ghost use Rattle.worlds.specs.Kept.{ColumnsKept, WholesKept};
 ghost use Rattle.demands.specs.Wishes.{Known, Sharpens};
 use crate::Start;

@@ -1,9 +1,7 @@
 // Needs by rows: how many targets an object has in a role slot.
-ghost use mathlib.Core.Path.{_≡_};
-ghost use Prim.Native.Nat.{ℕ, _*_, _<_, _≤_, max, min};
-ghost use Rattle.growing.specs.World.{World};
-ghost use Rattle.link_search.specs.Nets.{Within};
-ghost use Rattle.clashes.specs.Counts.{targetCount};
+ghost use Prim.Native.Nat.{_*_, _<_};
+ghost use Rattle.growing.specs.World.{targetCount};
+ghost use Rattle.link_search.specs.Nets.{InLimits};
 ghost use Rattle.demands.specs.Wishes.{Known, Sharpens};
 ghost use Rattle.demands.specs.Families.{RowsOpen};
 use crate::Start;
@@ -82,7 +80,7 @@ pub fn with_first_row<'a>(
     high: u8,
 ) -> Wish
     requires { ⌜ Known s × (0 < s .k) × (row < 32) ⌝ }
-    ensures { λ r. ⌜ Sharpens (λ w. RowsOpen (now (targets .entry)) (now (lows .entry)) (now (highs .entry)) (now (shut .entry)) w × Within low high (targetCount w row 0)) s best r ⌝ }
+    ensures { λ r. ⌜ Sharpens (λ w. RowsOpen (now (targets .entry)) (now (lows .entry)) (now (highs .entry)) (now (shut .entry)) w × InLimits low high (targetCount w row 0)) s best r ⌝ }
 {
     let types = s.types;
     let i = laws::wide(row);

@@ -3,7 +3,7 @@ ghost use mathlib.Core.Path.{_≡_};
 ghost use Prim.Native.Nat.{ℕ};
 ghost use Rattle.laws.specs.Bits.{bit};
 ghost use Rattle.worlds.specs.Kept.{SinglesKept};
-ghost use Rattle.demands.specs.Wishes.{Known, Sharpens, present};
+ghost use Rattle.demands.specs.Wishes.{Sharpens, present};
 use crate::Start;
 use crate::Wish;
 

@@ -1,10 +1,8 @@
 // Needs by weights: the first objects ask for more links than they have room for.
-ghost use mathlib.Core.Path.{_≡_};
 ghost use Prim.Native.Nat.{ℕ, _≤_};
-ghost use Rattle.growing.specs.World.{World};
 ghost use Rattle.growing.specs.Demand.{extras};
-ghost use Rattle.worlds.specs.Asked.{Asked, Sane};
-ghost use Rattle.worlds.specs.Kept.{Allowed, Slotted, Turned, sheet};
+ghost use Rattle.worlds.specs.Asked.{Satisfies, Sane};
+ghost use Rattle.worlds.specs.Kept.{Allowed, Slotted, SourceTable, sheet};
 ghost use Rattle.demands.specs.Wishes.{Known, Sharpens};
 use crate::Start;
 use crate::Wish;
@@ -55,8 +53,8 @@ pub fn with_weights<'a>(
     lines: worlds::Lines,
     q: worlds::Query,
 ) -> Wish
-    requires { ⌜ Known s × Slotted lines × Turned (now targets) (now sources) × Sane q × (q .seeds ≤ s .k) ⌝ }
-    ensures { λ r. ⌜ ((usable singles : ℕ) → Sharpens (λ w. Allowed (sheet usable singles (now (targets .entry)) (now (lows .entry)) (now (highs .entry)) lines) w × Asked q w) s best r) ⌝ }
+    requires { ⌜ Known s × Slotted lines × SourceTable (now targets) (now sources) × Sane q × (q .seeds ≤ s .k) ⌝ }
+    ensures { λ r. ⌜ ((usable singles : ℕ) → Sharpens (λ w. Allowed (sheet usable singles (now (targets .entry)) (now (lows .entry)) (now (highs .entry)) lines) w × Satisfies q w) s best r) ⌝ }
 {
     let types = s.types;
     let k = s.k;

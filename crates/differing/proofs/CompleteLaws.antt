@@ -3,8 +3,7 @@
 use Prim.Native.Nat.{_<_, ℕ}
 use mathlib.Core.Bool.{Bool, false}
 use mathlib.Core.List.{List}
-use mathlib.Core.Path.{_∙_, _≡_, ap, subst, sym}
-use lib.ListN.{getD, length}
+use mathlib.Core.Path.{_∙_, _≡_, sym}
 use Rattle.laws.specs.Bits.{bit}
 use Rattle.laws.specs.Connective.{unless}
 use Rattle.laws.proofs.ConnectiveLaws.{either-neither}
@@ -23,13 +22,13 @@ use Rattle.worlds.specs.Kept.{Allowed, Sheet, worldIn, worldOf}
 use Rattle.worlds.specs.Tables.{SheetOf, linksMissing}
 use Rattle.worlds.specs.declared.Lines.{Lines}
 use Rattle.rulings.specs.Ruled.{Ruled}
-use Rattle.rulings.specs.Shaped.{Shaped, kindIn}
+use Rattle.rulings.specs.Shaped.{kindIn}
 use Rattle.rulings.proofs.AllowedLaws.{ruled-allowed}
 use Rattle.rulings.proofs.KeptLaws.{keeps-ruled}
 use Rattle.rulings.proofs.LegalLaws.{legal-ruled, legal-shaped}
 use Rattle.meeting.proofs.MeetingLaws.{rules-met}
 use Rattle.type_values.specs.Bad.{badBy}
-use Rattle.type_values.proofs.GoodLaws.{KeepsValues, good-keeps}
+use Rattle.type_values.proofs.GoodLaws.{good-keeps}
 use Rattle.differing.specs.Others.{TablesOf}
 use Rattle.differing.proofs.PossibleLaws.{legal-usable}
 
@@ -43,7 +42,7 @@ module _ (old new : Diagram) (r : Record) (m : MemoryRecord) (h : Stands old r m
   legal-allowed x of = ruled-allowed old (h .wf-diagram) m x of (legal-shaped old r m h legal) (legal-usable old r m h legal (x .usable) (of .usable)) (legal-ruled old r m h legal)
 
   module _ (wn : WfDiagram new) (bad singles : ℕ) (missing : Bool) (targets lows highs : List ℕ) (x : Lines)
-      (of : TablesOf old new bad singles missing targets lows highs x) (k : worlds.Keeps bad singles missing targets lows highs x (worldOf m)) where
+      (of : TablesOf old new bad singles missing targets lows highs x) (k : worlds.AllKept bad singles missing targets lows highs x (worldOf m)) where
     neither : (o : ℕ) → o < m .count → bit (kindIn m o) bad ≡ false
     unfolding worldIn
     neither o l = k .types .at o l

@@ -7,7 +7,7 @@ use native.Mathlib.Omega.{arith}
 use mathlib.Core.Bool.{Bool, cond, false, not, true}
 use mathlib.Core.List.{List}
 use mathlib.Core.Logic.{_≢_, ⊎-elim}
-use mathlib.Core.Path.{_∙_, _≡_, ap, refl, subst, sym}
+use mathlib.Core.Path.{_∙_, _≡_, ap, subst, sym}
 use lib.Dec.{ltb}
 use lib.ListN.{getD, length}
 use borrow.Author.Tests.{eq-eqb, eqb-true, le-ltb, lt-ltb, ltb-true, ne-eqb}
@@ -20,7 +20,7 @@ use Rattle.files.proofs.NameLaws.{same-self}
 use Rattle.records.specs.Slots.{attributeSlot, ownAttribute}
 use Rattle.records.specs.Written.{recordOf, valueIn}
 use Rattle.records.specs.declared.MemoryRecord.{MemoryRecord}
-use Rattle.memory_rules.proofs.SlotLaws.{attribute-known}
+use Rattle.records.proofs.SlotLaws.{attribute-known}
 use Rattle.fillings.specs.Witness.{Witness}
 use Rattle.type_tables.specs.Due.{declaresFor, due}
 use Rattle.worlds.specs.Kept as worlds
@@ -93,10 +93,10 @@ module _ (old new : Diagram) (wo : WfDiagram old) (wn : WfDiagram new) (x : Shee
   }
 
   pub filled-witness : (bad singles : ℕ) (missing : Bool) (targets lows highs : List ℕ) (y : Lines) → TablesOf old new bad singles missing targets lows highs y
-      → (worlds.Keeps bad singles missing targets lows highs y (worldIn n types links) → ⊥) → Witness old new m
+      → (worlds.AllKept bad singles missing targets lows highs y (worldIn n types links) → ⊥) → Witness old new m
   filled-witness bad singles missing targets lows highs y tables broken =
       allowed-witness old wo m x of allowed values-fit new wn bad singles missing targets lows highs y tables told
-      (λ k. broken (subst (worlds.Keeps bad singles missing targets lows highs y) (sym same-world) k))
+      (λ k. broken (subst (worlds.AllKept bad singles missing targets lows highs y) (sym same-world) k))
     where
       told : KeepsValues new (recordOf old m) → (o : ℕ) → o < m .count → badBy old new (kindIn m o) ≡ false
       told keeps o l = ⊎-elim (λ t. absurd (filled-breaks old new wo wn types links n m few filled usable-objects (allowed-legal old wo m x of allowed values-fit) o l t keeps)) (λ f. f) (known (badBy old new (kindIn m o)))

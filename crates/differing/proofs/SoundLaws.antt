@@ -1,24 +1,22 @@
 -- A record in memory whose world is allowed by old's tables, with values that old allows, is that of a record that is legal for old. If
 -- its world does not keep the tables of new, and its values tell a bad type, that record is illegal for new.
 -- Assumes nothing.
-use Prim.Native.Nat.{_*_, _+_, _-_, _<_, _≤_, ℕ}
+use Prim.Native.Nat.{_-_, _<_, _≤_, ℕ}
 use native.Mathlib.Omega.{arith}
 use mathlib.Core.Bool.{Bool, false, not, true}
 use mathlib.Core.List.{List}
 use mathlib.Core.Logic.{_≢_}
 use mathlib.Core.Path.{_∙_, _≡_, ap, sym}
-use lib.ListN.{getD, length}
-use Rattle.laws.specs.Bits.{bit}
-use Rattle.laws.specs.Connective.{both, either, unless}
+use lib.ListN.{length}
+use Rattle.laws.specs.Connective.{unless}
 use Rattle.laws.proofs.ConnectiveLaws.{both-of}
+use Rattle.laws.proofs.SearchLaws.{either-none}
 use Rattle.files.specs.Diagram.{Diagram}
-use Rattle.files.specs.Record.{Record}
 use Rattle.files.specs.WellFormedDiagram.{WfDiagram}
-use Rattle.records.specs.Slots.{ownAttribute, roleCount}
+use Rattle.records.specs.Slots.{ownAttribute}
 use Rattle.records.specs.Written.{IsValue, Within, recordOf, valueIn}
 use Rattle.records.specs.declared.MemoryRecord.{MemoryRecord}
-use Rattle.rules.specs.Judge.{Illegal, Legal, judge}
-use Rattle.rules.specs.Site.{siteOf}
+use Rattle.rules.specs.Judge.{Illegal, Legal}
 use Rattle.rules.specs.ValueRules.{rule4}
 use Rattle.rules.proofs.JudgeLaws.{legal-keeps}
 use Rattle.memory_rules.specs.JudgeIn.{lowestIn, rule3In, rule5In}
@@ -40,11 +38,6 @@ use Rattle.meeting.proofs.MeetingLaws.{rules-met}
 use Rattle.type_values.specs.Bad.{badBy}
 use Rattle.type_values.proofs.GoodLaws.{KeepsValues}
 use Rattle.differing.specs.Others.{TablesOf}
-
--- two tests that fail
-neither : (a b : Bool) → a ≡ false → b ≡ false → either a b ≡ false
-unfolding either
-neither a b e f = rw (e, f)
 
 -- values that old allows
 pub record ValuesFit (old : Diagram) (m : MemoryRecord) : Type 0 where
@@ -96,7 +89,7 @@ module _ (old : Diagram) (wo : WfDiagram old) (m : MemoryRecord) (x : Sheet) (of
   module _ (new : Diagram) (wn : WfDiagram new) (bad singles : ℕ) (missing : Bool) (targets lows highs : List ℕ) (y : Lines)
       (tables : TablesOf old new bad singles missing targets lows highs y)
       (told : KeepsValues new (recordOf old m) → (o : ℕ) → o < m .count → badBy old new (kindIn m o) ≡ false)
-      (broken : worlds.Keeps bad singles missing targets lows highs y (worldOf m) → ⊥) where
+      (broken : worlds.AllKept bad singles missing targets lows highs y (worldOf m) → ⊥) where
     pub broken-illegal : Illegal new (recordOf old m)
     broken-illegal legal =
         let k = legal-keeps new (recordOf old m) legal in
@@ -115,7 +108,7 @@ module _ (old : Diagram) (wo : WfDiagram old) (m : MemoryRecord) (x : Sheet) (of
         broken (record { types = kept .types; present = tables .missing-is ∙ kept .present; singles-kept = kept .singles-kept; rows = kept .rows; columns = kept .columns; mirrors = kept .mirrors; wholes = kept .wholes })
       where
         avoided : ((o : ℕ) → o < m .count → badBy old new (kindIn m o) ≡ false) → ((o : ℕ) → o < m .count → linksMissing old new (kindIn m o) ≡ false) → TypesAvoided bad (worldOf m)
-        avoided good linked = record { at = λ o l. unfold worldIn in tables .bad-is (kindIn m o) (shaped .known o l) ∙ neither _ _ (good o l) (linked o l) }
+        avoided good linked = record { at = λ o l. unfold worldIn in tables .bad-is (kindIn m o) (shaped .known o l) ∙ either-none (good o l) (linked o l) }
 
     pub allowed-witness : Witness old new m
     allowed-witness = record { within = allowed-within; legal = allowed-legal; illegal = broken-illegal }

@@ -17,7 +17,6 @@ use Rattle.rules.specs.Evaluate.{firstFailing}
 use Rattle.memory_rules.specs.SiteIn.{siteIn}
 use Rattle.memory_rules.proofs.JudgeInLaws.{evaluate-in}
 use Rattle.judging.proofs.FileLaws.{file-stands, no-record}
-use Rattle.evaluating.specs.declared.Evaluation.{Evaluation}
 use Rattle.evaluating.specs.Evaluates.{Evaluates}
 
 pub file-evaluated : {d : StoredDiagram} {file : List ℕ} {m : MemoryRecord} → Held d → Resolves (diagramOf d) file m → {no first : ℕ} → no ≡ refusalOf (readRecord file) → no ≡ 0

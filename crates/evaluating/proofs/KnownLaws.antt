@@ -1,13 +1,16 @@
--- Every compiled record names an association of its diagram.
+-- Every compiled entry names an association of its diagram; and a list of entries by index.
 -- Assumes nothing.
 use Prim.Native.Nat.{ℕ, zero, suc, _-_, _<_, _≤_}
 use native.Mathlib.Omega.{arith}
 use mathlib.Core.Bool.{Bool, true, false, cond}
-use mathlib.Core.List.{List, [], _∷_}
-use mathlib.Core.Path.{_≡_, refl, ap, _∙_}
+use mathlib.Core.List.{[], _∷_}
+use mathlib.Core.Path.{_≡_, refl, sym, ap, _∙_}
 use lib.ListN.{length, getD}
 use Rattle.laws.specs.Bounded.{firstNot}
 use Rattle.laws.specs.Lists.{joined}
+use Rattle.laws.proofs.BoundedLaws.{firstNot-ext}
+use Rattle.laws.proofs.ListLaws.{append-each, one-each}
+use Rattle.laws.proofs.JoinedLaws.{joined-each}
 use Rattle.files.specs.Diagram.{Diagram, Upper, atMost, noLimit, Association, associationAt, isComposition}
 use Rattle.rules.specs.Arrow.{Side}
 use Rattle.rules.specs.Compile.{Entry, Asked, byRule6, byRule7, kind5, limited, bare, entryFor, rowOf, entriesOf, compile, entryAt}
@@ -17,11 +20,12 @@ use Rattle.diagrams.specs.Held.{Held}
 use Rattle.diagrams.proofs.ViewLaws.{association-count}
 use Rattle.rules.specs.Site.{Site}
 use Rattle.rules.specs.Evaluate.{holds, firstFailing}
-use Rattle.compiling.specs.declared.Entries.{Entries}
-use Rattle.compiling.specs.View.{entryIn}
+use Rattle.entries.specs.declared.Entries.{Entries}
+use Rattle.entries.specs.View.{entryIn, entriesIn}
+use Rattle.entries.proofs.AppendLaws.{entry-at, number-is}
 use Rattle.compiling.specs.Compiled.{Compiles}
 use Rattle.compiling.proofs.GatherLaws.{compiled-number, compiled-at}
-use Rattle.compiling.proofs.SmallLaws.{append-each, joined-each, one-each, compiled-small}
+use Rattle.evaluating.specs.Named.{Named}
 
 -- not above the last association
 abbrev Known : ℕ → Entry → Type 0
@@ -73,24 +77,20 @@ compiled-known d k l =
 
 -- ---- of a list in memory
 
-pub entry-known : (d : StoredDiagram) (e : Entries) → Held d → Compiles d e → (k : ℕ) → k < e .number
-    → (getD (e .associations) k 0 < d .associations .count) × (getD (e .ups) k 0 < 65535)
-unfolding entryIn
-entry-known d e held c k l =
-    let small = compiled-small d e held c .up k in
-    let number : e .number ≡ length (compile (diagramOf d)) = compiled-number d e c in
-    let count : length (diagramOf d .associations) ≡ d .associations .count = association-count d in
-    let known : entryAt (compile (diagramOf d)) k .association < length (diagramOf d .associations) = compiled-known (diagramOf d) k (omega arith) in
-    let is : getD (e .associations) k 0 ≡ entryAt (compile (diagramOf d)) k .association = ap (λ (x : Entry). x .association) (compiled-at d e c k) in
-    (omega arith, omega arith)
+pub compiled-named : {d : StoredDiagram} {e : Entries} → Held d → Compiles d e → Named d e
+compiled-named {d} {e} held c = record {
+  few = c .few;
+  association = λ k l.
+      let number : e .number ≡ length (compile (diagramOf d)) = compiled-number d e c in
+      let count : length (diagramOf d .associations) ≡ d .associations .count = association-count d in
+      let known : entryAt (compile (diagramOf d)) k .association < length (diagramOf d .associations) = compiled-known (diagramOf d) k (omega arith) in
+      let is : entryIn e k .association ≡ entryAt (compile (diagramOf d)) k .association = ap (λ (x : Entry). x .association) (compiled-at d e c k) in
+      omega arith;
+}
 
-pub entry-is : (d : StoredDiagram) (x : Site) (e : Entries) → Compiles d e → (k : ℕ) {r : Bool}
-    → r ≡ holds (diagramOf d) x (record { kind = getD (e .kinds) k 0; association = getD (e .associations) k 0; side = getD (e .sides) k 0; low = getD (e .lows) k 0; up = getD (e .ups) k 0 })
-    → r ≡ holds (diagramOf d) x (entryAt (compile (diagramOf d)) k)
-unfolding entryIn
-entry-is d x e c k f = f ∙ ap (holds (diagramOf d) x) (compiled-at d e c k)
-
-pub failing-is : (d : StoredDiagram) (x : Site) (e : Entries) → Compiles d e → {r : ℕ} → r ≡ firstNot (λ k. holds (diagramOf d) x (entryAt (compile (diagramOf d)) k)) (e .number)
-    → r ≡ firstFailing (diagramOf d) x (compile (diagramOf d))
+-- the entries as the arrays have them are those of the list
+pub failing-is : (d : Diagram) (x : Site) (e : Entries) {r : ℕ} → r ≡ firstNot (λ k. holds d x (entryIn e k)) (e .number) → r ≡ firstFailing d x (entriesIn e)
 unfolding firstFailing
-failing-is d x e c f = f ∙ ap (firstNot (λ k. holds (diagramOf d) x (entryAt (compile (diagramOf d)) k))) (compiled-number d e c)
+failing-is d x e f =
+    f ∙ firstNot-ext (λ k. holds d x (entryIn e k)) (λ k. holds d x (entryAt (entriesIn e) k)) (e .number) (λ k l. ap (holds d x) (sym (entry-at e k l)))
+    ∙ ap (firstNot (λ k. holds d x (entryAt (entriesIn e) k))) (sym (number-is e))

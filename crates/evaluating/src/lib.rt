@@ -1,21 +1,21 @@
-// Evaluating: the first compiled predicate that does not hold on a record in memory.
-use compiling::Entries;
+// Evaluating: the first entry of a list that does not hold on a record in memory, and the first compiled one.
 use diagrams::StoredDiagram;
+use entries::Entries;
 use records::MemoryRecord;
 ghost use mathlib.Core.Path.{_≡_};
-ghost use Prim.Native.Nat.{_<_, _≤_};
+ghost use Prim.Native.Nat.{_<_};
 ghost use Rattle.files.specs.Diagram.{associationAt};
 ghost use Rattle.diagrams.specs.View.{diagramOf};
 ghost use Rattle.diagrams.specs.Held.{Held};
 ghost use Rattle.rules.specs.LinkRules.{mirrored};
-ghost use Rattle.rules.specs.Compile.{compile, entryAt};
-ghost use Rattle.laws.specs.Bounded.{firstNot};
+ghost use Rattle.rules.specs.Compile.{compile};
 ghost use Rattle.rules.specs.Evaluate.{sideOf, targetsHold, sourcesHold, oneWhole, holds, firstFailing};
 ghost use Rattle.memory_rules.specs.SiteIn.{siteIn};
 ghost use Rattle.masks.specs.Masks.{limitsOf};
 ghost use Rattle.tables.specs.Tables.{Coded};
-ghost use Rattle.compiling.specs.Compiled.{Compiles};
+ghost use Rattle.entries.specs.View.{entryOf, entryIn, entriesIn};
 ghost use Rattle.judging.specs.Tabled.{Tabled};
+ghost use Rattle.evaluating.specs.Named.{Named};
 ghost use Rattle.evaluating.specs.Evaluates.{Evaluates};
 
 // ---- one kind each, for association i
@@ -36,11 +36,7 @@ fn targets_hold<'a>(
     let a = d.associations;
     let links = m.links;
     let n = m.count as u8;
-    let left = laws::wide(i) * 2;
-    if side == 0 {
-        return link_rules::targets_hold(a, &links, masks, roles, n, left, left + 1, low, up);
-    }
-    link_rules::targets_hold(a, &links, masks, roles, n, left + 1, left, low, up)
+    link_rules::targets_hold(a, &links, masks, roles, n, laws::wide(i), side, low, up)
 }
 
 fn sources_hold<'a>(
@@ -59,11 +55,7 @@ fn sources_hold<'a>(
     let a = d.associations;
     let links = m.links;
     let n = m.count as u8;
-    let left = laws::wide(i) * 2;
-    if side == 0 {
-        return link_rules::sources_hold(a, &links, masks, roles, n, left, left + 1, low, up);
-    }
-    link_rules::sources_hold(a, &links, masks, roles, n, left + 1, left, low, up)
+    link_rules::sources_hold(a, &links, masks, roles, n, laws::wide(i), side, low, up)
 }
 
 fn mirror_holds<'a>(
@@ -98,6 +90,7 @@ fn one_whole<'a>(
 
 // ---- an entry, by its kind
 
+// An upper limit of 65,535 is a number as any other: no record has more objects.
 fn entry_holds<'a>(
     d: StoredDiagram,
     m: MemoryRecord,
@@ -109,8 +102,8 @@ fn entry_holds<'a>(
     low: u16,
     up: u16,
 ) -> bool
-    requires { ⌜ Tabled d m (now masks) (now roles) × ((i < d .associations .count) × (up < 65535)) ⌝ }
-    ensures { λ r. ⌜ r ≡ holds (diagramOf d) (siteIn (diagramOf d) m) (record { kind = kind; association = i; side = side; low = low; up = up }) ⌝ }
+    requires { ⌜ Tabled d m (now masks) (now roles) × (i < d .associations .count) ⌝ }
+    ensures { λ r. ⌜ r ≡ holds (diagramOf d) (siteIn (diagramOf d) m) (entryOf kind i side low up) ⌝ }
 {
     if kind == 1 {
         return targets_hold(d, m, masks, roles, i, side, low, up);
@@ -130,7 +123,7 @@ fn entry_holds<'a>(
     one_whole(d, m, masks, roles, i)
 }
 
-// ---- the compiled list
+// ---- a list of entries
 
 // Entry k holds.
 fn entry_at_holds<'a>(
@@ -141,8 +134,8 @@ fn entry_at_holds<'a>(
     e: Entries,
     k: usize,
 ) -> bool
-    requires { ⌜ Tabled d m (now masks) (now roles) × (Compiles d e × (k < e .number)) ⌝ }
-    ensures { λ r. ⌜ r ≡ holds (diagramOf d) (siteIn (diagramOf d) m) (entryAt (compile (diagramOf d)) k) ⌝ }
+    requires { ⌜ Tabled d m (now masks) (now roles) × (Named d e × (k < e .number)) ⌝ }
+    ensures { λ r. ⌜ r ≡ holds (diagramOf d) (siteIn (diagramOf d) m) (entryIn e k) ⌝ }
 {
     entry_holds(
         d,
@@ -165,8 +158,8 @@ fn first_failing<'a>(
     roles: &'a [u8; 32],
     e: Entries,
 ) -> usize
-    requires { ⌜ Tabled d m (now masks) (now roles) × Compiles d e ⌝ }
-    ensures { λ r. ⌜ r ≡ firstNot (λ k. holds (diagramOf d) (siteIn (diagramOf d) m) (entryAt (compile (diagramOf d)) k)) (e .number) ⌝ }
+    requires { ⌜ Tabled d m (now masks) (now roles) × Named d e ⌝ }
+    ensures { λ r. ⌜ r ≡ firstFailing (diagramOf d) (siteIn (diagramOf d) m) (entriesIn e) ⌝ }
 {
     let n = e.number;
     let mut k = 0;
@@ -178,6 +171,8 @@ fn first_failing<'a>(
     }
     n
 }
+
+// ---- the compiled list
 
 pub fn first_false(d: StoredDiagram, m: MemoryRecord) -> usize
     requires { ⌜ Held d × Coded (diagramOf d) m ⌝ }

@@ -4,9 +4,9 @@
 -- number to another one, and twice leads back, so that a test of all values or links is a test of the same ones.
 -- Assumes nothing.
 use Prim.Native.Nat.{_%_, _*_, _+_, _-_, _/_, _<_, _≤_, ℕ}
-use mathlib.Core.Bool.{Bool, false, not, true}
+use mathlib.Core.Bool.{Bool, not}
 use mathlib.Core.List.{[]}
-use mathlib.Core.Path.{_∙_, _≡_, ap, ap₂, refl, sym}
+use mathlib.Core.Path.{_∙_, _≡_, ap, ap₂, sym}
 use native.Mathlib.Omega.{arith}
 use lib.Dec.{eqb, ltb}
 use lib.ListN.{getD, length}
@@ -27,21 +27,10 @@ use Rattle.exchanging.specs.Exchange.{SameRules, exchanged}
 use Rattle.laws.specs.Swap.{swap}
 use Rattle.exchanging.specs.ExchangedIn.{ExchangedIn, TargetsKnown}
 use Rattle.laws.proofs.BoundedLaws.{all-ext}
-use Rattle.laws.proofs.ConnectiveLaws.{both-left, both-right}
+use Rattle.laws.proofs.ConnectiveLaws.{both-left, both-right, both-under, imp-under}
 use Rattle.exchanging.proofs.AlikeLaws.{alike-rules, exchange-regular}
 use Rattle.exchanging.proofs.ExchangeLaws.{exchange-keeps-rules}
 use Rattle.laws.proofs.SwapLaws.{all-turned, swap-below, swap-twice}
-
--- two answers that agree where a test holds
-both-where : (a b c : Bool) → (a ≡ true → b ≡ c) → both a b ≡ both a c
-unfolding both
-both-where true b c f = f refl
-both-where false b c f = refl
-
-imp-where : (a b c : Bool) → (a ≡ true → b ≡ c) → imp a b ≡ imp a c
-unfolding imp
-imp-where true b c f = f refl
-imp-where false b c f = refl
 
 -- ---- the site of a record in memory whose links go to objects is regular
 
@@ -49,7 +38,7 @@ pub regular-in : (d : Diagram) (m : MemoryRecord) → TargetsKnown d m → Regul
 unfolding siteIn keptValue keptLink linkKept ownRole
 regular-in d m targets = record {
   values = λ p q f. all-ext _ _ (m .count * 32) (λ x l. ap (imp (valueKept d m x)) (f (keptValue d m x) (omega arith)));
-  links = λ p q f. all-ext _ _ (m .count * 256) (λ x l. imp-where (linkKept d m x) _ _ (λ e.
+  links = λ p q f. all-ext _ _ (m .count * 256) (λ x l. imp-under (linkKept d m x) _ _ (λ e.
       let own = both-left (ownRole d (x / 8 % 32)) _ e in
       let from : x / 256 < m .count = omega arith in
       let to : x % 8 < m .count =
@@ -68,13 +57,13 @@ module _ (d : Diagram) (wf : WfDiagram d) (i j : ℕ) (m n : MemoryRecord) (few 
 
   valued-in : (o : ℕ) (w : Name) → o < m .count → valuedIn d m (swap i j o) w ≡ valuedIn d n o w
   unfolding valuedIn
-  valued-in o w l = both-where (ltb (attributeSlot d w) (length (d .attributes))) _ _ (λ e.
+  valued-in o w l = both-under (ltb (attributeSlot d w) (length (d .attributes))) _ _ (λ e.
       let below : attributeSlot d w < length (d .attributes) = ltb-true _ _ e in
       ap (λ (k : ℕ). not (eqb k 0)) (sym (h .values o (attributeSlot d w) l (omega (arith, wf .few-attributes)))))
 
   linked-in : (o : ℕ) (w : Name) (p : ℕ) → o < m .count → p < m .count → linkedIn d m (swap i j o) w (swap i j p) ≡ linkedIn d n o w p
   unfolding linkedIn
-  linked-in o w p l k = both-where (ltb (roleSlot d w) (roleCount d)) _ _ (λ e.
+  linked-in o w p l k = both-under (ltb (roleSlot d w) (roleCount d)) _ _ (λ e.
       let below : roleSlot d w < roleCount d = ltb-true _ _ e in
       sym (h .links o (roleSlot d w) p l (omega (arith, wf .few-associations)) (omega arith)))
 

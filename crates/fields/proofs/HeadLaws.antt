@@ -8,7 +8,7 @@ use mathlib.Core.Path.{_≡_, refl, _∙_}
 use lib.Dec.{leb}
 use lib.ListN.{length, getD, take, drop}
 use borrow.Author.Tests.{le-leb, lt-leb, leb-true}
-use Rattle.files.specs.Field.{Rows, end, cut, row, rows, rowsAfter}
+use Rattle.files.specs.Field.{end, cut, row, rows, rowsAfter}
 use Rattle.files.proofs.FieldLaws.{rows-after}
 use Rattle.fields.specs.Head.{headOf}
 use Rattle.fields.specs.declared.Head.{Head}

@@ -1,3 +1,2 @@
 pub mod HeadLaws
 pub mod NameLaws
-pub mod PutsLaws

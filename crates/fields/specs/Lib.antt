@@ -1,3 +1,2 @@
 pub mod Head
 pub mod Slot
-pub mod Puts

@@ -1,14 +1,11 @@
 // Fields and names: read off the unread rest of a file, and written into the unused rest of a buffer.
 ghost use mathlib.Core.Path.{_≡_};
-ghost use Prim.Native.Nat.{_+_, _*_, _/_, _%_, _≤_, _<_, min};
-ghost use lib.ListN.{length, take, drop};
-ghost use Rattle.laws.specs.Lists.{over};
-ghost use Rattle.files.specs.Field.{field};
+ghost use Prim.Native.Nat.{_+_, _*_, _/_, _%_, _<_, min};
+ghost use lib.ListN.{take, drop};
 ghost use Rattle.files.specs.Name.{nameByte, validName, sameName, before};
 ghost use Rattle.files.specs.Content.{nameIn, pastName, startsName, startsConstant};
 ghost use Rattle.fields.specs.Head.{headOf};
 ghost use Rattle.fields.specs.Slot.{slotName};
-ghost use Rattle.fields.specs.Puts.{fieldFits, PutsField};
 
 // ---- a field at the front
 
@@ -156,38 +153,4 @@ pub fn low(n: usize) -> u8
     ensures { λ r. ⌜ r ≡ n % 256 ⌝ }
 {
     (n % 256) as u8
-}
-
-// A content of n bytes is a field, and a buffer of `room` bytes holds it.
-fn field_fits(n: usize, room: usize) -> bool
-    ensures { λ r. ⌜ r ≡ fieldFits n room ⌝ }
-{
-    if 65536 <= n {
-        return false;
-    }
-    3 + n <= room
-}
-
-// A field that fits, at the front of the unused rest, whose later bytes stay; its length is returned.
-fn put_fitting(out: &mut [u8], tag: u8, c: &[u8]) -> usize
-    requires { ⌜ (3 + length (now c) ≤ length (now out)) × (length (now c) < 65536) ⌝ }
-    ensures { λ r. ⌜ (r ≡ 3 + length (now (c .entry))) × (now (out .exit) ≡ over (field tag (now (c .entry))) (now (out .entry))) ⌝ }
-{
-    let n = c.len();
-    out[0] = tag;
-    out[1] = high(n);
-    out[2] = low(n);
-    let m = bytes::copy(c, &mut out[3..]);
-    3 + m
-}
-
-// One field at the front of the unused rest, whose later bytes stay; its length is returned, or 0 where it does not fit.
-pub fn put_field(out: &mut [u8], tag: u8, c: &[u8]) -> usize
-    ensures { λ r. ⌜ PutsField tag (now (c .entry)) (now (out .entry)) r (now (out .exit)) ⌝ }
-{
-    if field_fits(c.len(), out.len()) {
-        put_fitting(out, tag, c)
-    } else {
-        0
-    }
 }

@@ -1,5 +1,6 @@
 pub mod AnswerLaws
 pub mod NameLaws
+pub mod MembershipLaws
 pub mod FieldLaws
 pub mod ContentLaws
 pub mod RefusalLaws

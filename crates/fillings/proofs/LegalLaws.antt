@@ -5,6 +5,7 @@ use lib.ListN.{length}
 use Rattle.files.specs.Diagram.{Diagram}
 use Rattle.files.specs.Record.{Record, objectCount, objectType}
 use Rattle.records.specs.Slots.{typeIndex}
+use Rattle.records.proofs.SlotLaws.{index-known}
 use Rattle.rules.specs.Instance.{hasType}
 use Rattle.rules.specs.Judge.{Legal}
 use Rattle.rules.specs.Site.{siteOf}
@@ -12,7 +13,6 @@ use Rattle.rules.specs.TypeRules.{rule1, rule1At}
 use Rattle.laws.proofs.BoundedLaws.{all-at, any-at}
 use Rattle.laws.proofs.ConnectiveLaws.{both-left}
 use Rattle.rules.proofs.JudgeLaws.{Keeps, legal-keeps}
-use Rattle.memory_rules.proofs.SlotLaws.{index-known}
 
 module _ (d : Diagram) (r : Record) (legal : Legal d r) where
   keeps : Keeps d (siteOf r)

@@ -7,11 +7,11 @@ use Prim.Native.Nat.{_*_, _+_, _<_, _≤_, suc, ℕ}
 use native.Mathlib.Omega.{arith}
 use mathlib.Core.Bool.{true}
 use mathlib.Core.Logic.{_↔_, _⊎_, inl, inr, ⊎-elim}
-use mathlib.Core.Path.{_∙_, _≡_, ap, ap₂}
+use mathlib.Core.Path.{_∙_, _≡_, ap}
 use lib.ListN.{length}
 use borrow.Author.Tests.{eqb-true, ltb-true}
 use Rattle.files.specs.Diagram.{Diagram, attributeAt}
-use Rattle.files.specs.Name.{Name, before}
+use Rattle.files.specs.Name.{before, key}
 use Rattle.files.specs.Record.{Link, Record, linkAt, valueAt}
 use Rattle.files.specs.RecordFile.{linkBefore}
 use Rattle.files.specs.WellFormedDiagram.{WfDiagram}
@@ -23,23 +23,23 @@ use Rattle.rules.specs.Site.{siteOf}
 use Rattle.fillings.specs.Ordered.{Ordered}
 use Rattle.laws.proofs.ConnectiveLaws.{both-left, both-right, either-cases}
 use Rattle.laws.proofs.RisingLaws.{rising-few}
-use Rattle.files.proofs.NameLaws.{same-equal}
+use Rattle.files.proofs.NameLaws.{before-left, before-right, same-key}
 use Rattle.records.proofs.RankLaws.{rank-below, rank-rises}
+use Rattle.records.proofs.SlotLaws.{attribute-name, role-alike, role-name}
 use Rattle.rules.proofs.JudgeLaws.{Keeps, legal-keeps}
 use Rattle.memory_rules.proofs.LinkLaws.{link-known}
 use Rattle.memory_rules.proofs.RiseLaws.{value-cases}
-use Rattle.memory_rules.proofs.SlotLaws.{attribute-name, role-name}
 use Rattle.memory_rules.proofs.ValueLaws.{value-known}
 
 -- by object, or by role name at one object, or by target at one object and role
 link-cases : (k l : Link) → linkBefore k l ≡ true
-    → (k .from < l .from) ⊎ ((k .from ≡ l .from) × ((before (k .role) (l .role) ≡ true) ⊎ ((k .role ≡ l .role) × (k .to < l .to))))
+    → (k .from < l .from) ⊎ ((k .from ≡ l .from) × ((before (k .role) (l .role) ≡ true) ⊎ ((key (k .role) ≡ key (l .role)) × (k .to < l .to))))
 unfolding linkBefore
 link-cases k l e =
     ⊎-elim (λ a. inl (ltb-true _ _ a))
     (λ b. inr (
       eqb-true _ _ (both-left _ _ b),
-      ⊎-elim (λ c. inl c) (λ c. inr (same-equal _ _ (both-left _ _ c), ltb-true _ _ (both-right _ _ c))) (either-cases _ _ (both-right _ _ b)),
+      ⊎-elim (λ c. inl c) (λ c. inr (same-key _ _ (both-left _ _ c), ltb-true _ _ (both-right _ _ c))) (either-cases _ _ (both-right _ _ b)),
     ))
     (either-cases _ _ e)
 
@@ -63,7 +63,7 @@ module _ (d : Diagram) (r : Record) (diagram : WfDiagram d) (ordered : Ordered r
   attribute-rises : (i j : ℕ) → i < length (r .values) → j < length (r .values) → before (valueAt r i .attribute) (valueAt r j .attribute) ≡ true → attributeRank i < attributeRank j
   attribute-rises i j l k e =
       rank-rises (λ s. attributeAt d s .name) (length (d .attributes)) (attributeSlot d (valueAt r i .attribute)) (attributeSlot d (valueAt r j .attribute)) (value-slot i l)
-      (ap₂ before (attribute-name d (valueAt r i .attribute) (value-slot i l)) (attribute-name d (valueAt r j .attribute) (value-slot j k)) ∙ e)
+      (before-left _ _ _ (attribute-name d (valueAt r i .attribute) (value-slot i l)) ∙ before-right _ _ _ (attribute-name d (valueAt r j .attribute) (value-slot j k)) ∙ e)
 
   abbrev valueNumber : ℕ → ℕ
   valueNumber i = valueAt r i .object * 32 + attributeRank i
@@ -96,10 +96,10 @@ module _ (d : Diagram) (r : Record) (diagram : WfDiagram d) (ordered : Ordered r
   role-rises : (i j : ℕ) → i < length (r .links) → j < length (r .links) → before (linkAt r i .role) (linkAt r j .role) ≡ true → roleRank i < roleRank j
   role-rises i j l k e =
       rank-rises (roleName d) (roleCount d) (roleSlot d (linkAt r i .role)) (roleSlot d (linkAt r j .role)) (link-slot i l)
-      (ap₂ before (role-name d (linkAt r i .role) (link-slot i l)) (role-name d (linkAt r j .role) (link-slot j k)) ∙ e)
+      (before-left _ _ _ (role-name d (linkAt r i .role) (link-slot i l)) ∙ before-right _ _ _ (role-name d (linkAt r j .role) (link-slot j k)) ∙ e)
 
-  role-same : (i j : ℕ) → linkAt r i .role ≡ linkAt r j .role → roleRank i ≡ roleRank j
-  role-same i j e = ap (λ (w : Name). rank (roleName d) (roleCount d) (roleSlot d w)) e
+  role-same : (i j : ℕ) → key (linkAt r i .role) ≡ key (linkAt r j .role) → roleRank i ≡ roleRank j
+  role-same i j e = ap (rank (roleName d) (roleCount d)) (role-alike d _ _ e)
 
   target-below : (i : ℕ) → i < length (r .links) → linkAt r i .to < 8
   target-below i l = omega (arith, ordered .link i l .to-below, ordered .few)

@@ -2,7 +2,7 @@
 -- Assumes nothing.
 use Prim.Native.Nat.{_%_, _*_, _+_, _/_, _<_, _≤_, ℕ}
 use native.Mathlib.Omega.{arith}
-use mathlib.Core.Bool.{Bool, _&&_, cond}
+use mathlib.Core.Bool.{Bool, cond}
 use mathlib.Core.Path.{_∙_, _≡_, ap, ap₂, refl}
 use lib.Dec.{ltb}
 use lib.ListN.{getD}
@@ -17,11 +17,7 @@ use Rattle.records.specs.Slots.{typeIndex}
 use Rattle.memory_rules.specs.Stands.{Stands}
 use Rattle.fillings.specs.Memory.{memoryOf}
 use Rattle.laws.proofs.JoinedLaws.{getD-each}
-use Rattle.laws.proofs.MaskLaws.{mask-bit}
-
--- a bit of a mask of 8
-mask-at : (q : ℕ → Bool) (p : ℕ) → p < 8 → bit p (maskOf q 8) ≡ q p
-mask-at q p l = mask-bit q 8 p ∙ ap (λ (b : Bool). b && q p) (lt-ltb p 8 l)
+use Rattle.laws.proofs.MaskLaws.{mask-bit, marks-at}
 
 module _ (d : Diagram) (r : Record) where
   -- ---- by index of an array
@@ -56,7 +52,7 @@ module _ (d : Diagram) (r : Record) where
   link-at : (o s p : ℕ) → o < 8 → s < 32 → p < 8 → bit p (getD (memoryOf d r .links) (o * 32 + s) 0) ≡ linkBit d r o s p
   link-at o s p l k j =
       ap (bit p) (memory-links (o * 32 + s) (omega arith) ∙ ap₂ (λ (o s : ℕ). maskOf (linkBit d r o s) 8) (row o s k) (column o s k))
-      ∙ mask-at (linkBit d r o s) p j
+      ∙ marks-at (linkBit d r o s) 8 _ (mask-bit (linkBit d r o s) 8) p j
 
   -- ---- the record
 

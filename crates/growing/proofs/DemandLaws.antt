@@ -12,39 +12,15 @@ use lib.ListN.{getD}
 use borrow.Author.Tests.{eqb-true, eq-eqb, ne-eqb}
 use Rattle.laws.specs.Bits.{bit}
 use Rattle.laws.specs.Bounded.{tally}
-use Rattle.laws.proofs.BitLaws.{bit-zero}
 use Rattle.laws.proofs.BoundedLaws.{tally-none}
-use Rattle.laws.proofs.CountLaws.{tally-mono}
-use Rattle.laws.proofs.ConnectiveLaws.{and-left, and-right, and-both, true-false}
+use Rattle.laws.proofs.CountLaws.{tally-mono, tally-holds}
+use Rattle.laws.proofs.ConnectiveLaws.{and-left, and-right, and-both}
 use Rattle.growing.specs.World.{World}
-use Rattle.growing.specs.Growth.{Extends, Nowhere, Extra, Demanded}
-use Rattle.growing.specs.Demand.{from, extras, Needs, Available, AtLeast, candidates, RowAtLeast, ColumnAtLeast}
-use Rattle.growing.proofs.SplitLaws.{tally-holds, from-split, from-least, from-mono}
-
--- ---- what a need says
-
-module _ (S : World → Type 0) (kinds : List ℕ) (k forb n : ℕ) where
-  -- more extra objects than spare places
-  pub needs-room : (g c : ℕ) → Needs S kinds k forb n g c → n - k < c → Nowhere S kinds k forb n
-  needs-room g c need h w e s =
-      let v = from-least (λ o. bit (w .kind o) g) k (w .size) c (need w e s) in
-      omega (arith, v .0, e .few)
-
-  -- an extra object, and no type that it could have
-  pub needs-type : (g c : ℕ) → Needs S kinds k forb n g c → 0 < c → g ≡ 0 → Nowhere S kinds k forb n
-  needs-type g c need h none w e s =
-      let v = from-least (λ o. bit (w .kind o) g) k (w .size) c (need w e s) .1 h in
-      true-false (v .3) (ap (bit (w .kind (v .0))) none ∙ bit-zero (w .kind (v .0)))
+use Rattle.growing.specs.Growth.{Extends, Extra, Demanded}
+use Rattle.growing.specs.Demand.{extras, Needs, Available, AtLeast, candidates, RowAtLeast, ColumnAtLeast}
+use Rattle.growing.proofs.SplitLaws.{from-split, from-least, from-mono}
 
 module _ (S : World → Type 0) (types : ℕ) (kinds : List ℕ) (k forb n : ℕ) where
-  -- there is no wanted world
-  pub demanded-dead : (more : Bool) (g : ℕ) → Nowhere S kinds k forb n → Demanded S types kinds k forb n true more g
-  demanded-dead more g none = record {
-    nowhere = λ _. none;
-    beyond = λ _ w e s. absurd (none w e s);
-    extra = λ w e s _. absurd (none w e s);
-  }
-
   -- wanted worlds have types of the diagram
   module _ (small : (w : World) → S w → (o : ℕ) → o < w .size → w .kind o < types) where
     -- an extra object, of one of these types

@@ -4,7 +4,7 @@
 -- goes to place k, and the world so made starts with the given types and t, avoids what is forbidden, and is still wanted, so
 -- the growth with t at place k has covered it.
 -- Assumes nothing.
-use mathlib.Core.Path.{_≡_, sym, ap, ap₂, subst, _∙_}
+use mathlib.Core.Path.{_≡_, sym, ap, _∙_}
 use mathlib.Core.Bool.{Bool, true, false, not, _&&_, _||_}
 use mathlib.Core.Logic.{⊎-elim, _⊎_}
 use mathlib.Core.List.{List}
@@ -12,17 +12,18 @@ use Prim.Native.Nat.{ℕ, _+_, _≤_, _<_}
 use native.Mathlib.Nat.{eq-or-lt-of-le}
 use native.Mathlib.Omega.{arith}
 use lib.Dec.{eqb, leb}
-use lib.ListN.{length, getD, set}
+use lib.ListN.{length, set}
 use lib.Seq.{getD-set-same, getD-set-other}
-use borrow.Author.Tests.{eqb-true, eqb-false, leb-true, le-leb}
+use borrow.Author.Tests.{eqb-true, leb-true, le-leb}
 use Rattle.laws.specs.Bits.{bit}
 use Rattle.laws.specs.Bounded.{any}
 use Rattle.laws.proofs.BoundedLaws.{any-at, any-no}
 use Rattle.laws.proofs.ConnectiveLaws.{and-left, and-right, and-both, or-cases, or-left, true-false, known}
 use Rattle.growing.specs.World.{World, exchanged, Blind}
 use Rattle.laws.specs.Swap.{swap}
-use Rattle.growing.specs.Growth.{Extends, Nowhere, Extra, Demanded, Ended, Grown, Tried}
+use Rattle.growing.specs.Growth.{Extends, Nowhere, Ended, Grown, Tried}
 use Rattle.laws.proofs.SwapLaws.{swap-first, swap-else, swap-among}
+use Rattle.laws.proofs.ListLaws.{set-more}
 
 -- below m + 1: m, or below m
 below-next : {x m : ℕ} → x < m + 1 → (x ≡ m) ⊎ (x < m)
@@ -34,13 +35,6 @@ outside x forb f sub e = ⊎-elim (λ p. absurd (true-false (sub p) e)) (λ p. p
 
 -- ---- one more type
 
--- the given types and x at place k: what holds of x at k, and of each given type at its place, holds of each
-kinds-cases : (P : ℕ → ℕ → Type 0) (kinds : List ℕ) (k x : ℕ) → k < length kinds → P k x → ((o : ℕ) → o < k → P o (getD kinds o 0))
-    → (o : ℕ) → o < k + 1 → P o (getD (set kinds k x) o 0)
-kinds-cases P kinds k x room here before o h = ⊎-elim
-    (λ e. subst (λ (m : ℕ). P m (getD (set kinds k x) m 0)) (sym e) (rw (getD-set-same kinds k x 0 room) here))
-    (λ l. rw (getD-set-other kinds k o x 0 (omega arith)) (before o l)) (below-next h)
-
 -- the extra object o goes to place k
 pub into : (kinds : List ℕ) (k forb n : ℕ) → k < length kinds → (w : World) → Extends kinds k forb n w
     → (f x o : ℕ) → k ≤ o → o < w .size → w .kind o ≡ x → ((p : ℕ) → k ≤ p → p < w .size → bit (w .kind p) f ≡ false)
@@ -48,8 +42,8 @@ pub into : (kinds : List ℕ) (k forb n : ℕ) → k < length kinds → (w : Wor
 into kinds k forb n room w e f x o past below is free = record {
   few = e .few;
   many = omega (arith, past, below);
-  kept = kinds-cases (λ p v. w .kind (swap k o p) ≡ v) kinds k x room (ap (w .kind) (swap-first k o) ∙ is)
-      (λ p l. ap (w .kind) (swap-else k o p (λ z. omega arith) (λ z. omega arith)) ∙ e .kept p l);
+  kept = set-more (λ p v. w .kind (swap k o p) ≡ v) kinds k x room
+      (λ p l. ap (w .kind) (swap-else k o p (λ z. omega arith) (λ z. omega arith)) ∙ e .kept p l) (ap (w .kind) (swap-first k o) ∙ is);
   avoids = λ p h l. free (swap k o p)
       (swap-among (λ (m : ℕ). k ≤ m) k o p (omega arith) past (omega arith))
       (swap-among (λ (m : ℕ). m < w .size) k o p (omega arith) below l);
@@ -71,32 +65,11 @@ out-of kinds k forb f n x room free sub w e = record {
     first : (o : ℕ) → k ≡ o → bit (w .kind o) forb ≡ false
     first o z = ap (λ (m : ℕ). bit (w .kind m) forb) (sym z) ∙ ap (λ (y : ℕ). bit y forb) is-x ∙ free
 
--- the list still has types of the diagram only
-pub kinds-more : (types m : ℕ) (kinds : List ℕ) (k x : ℕ) → k < length kinds → x < types
-    → ((o : ℕ) → o < m → getD kinds o 0 < types) → (o : ℕ) → o < m → getD (set kinds k x) o 0 < types
-kinds-more types m kinds k x room h small o l = ⊎-elim
-    (λ e. let z : o ≡ k = eqb-true o k e in subst (λ (p : ℕ). getD (set kinds k x) p 0 < types) (sym z) (rw (getD-set-same kinds k x 0 room) h))
-    (λ e. rw (getD-set-other kinds k o x 0 (eqb-false o k e)) (small o l)) (known (eqb o k))
-
 -- ---- blind properties
 
 -- a property that is blind from place k on is so from each later place on
 pub blind-later : (S : World → Type 0) (k l : ℕ) → k ≤ l → Blind k S → Blind l S
 blind-later S k l h blind w i j a b = blind w i j (omega arith) (omega arith)
-
--- two properties that are blind from place k on, taken together, are so too
-pub blind-both : (S R : World → Type 0) (k : ℕ) → Blind k S → Blind k R → Blind k (λ w. S w × R w)
-blind-both S R k f g w i j a b c d s = (f w i j a b c d (s .0), g w i j a b c d (s .1))
-
--- a property of the first k objects' types and links is blind from k on
-pub blind-kind : (k o x : ℕ) → o < k → Blind k (λ w. w .kind o ≡ x)
-blind-kind k o x h w i j a b c d s = ap (w .kind) (swap-else i j o (λ z. omega arith) (λ z. omega arith)) ∙ s
-
-pub blind-link : (k r o p : ℕ) (b : Bool) → o < k → p < k → Blind k (λ w. w .link r o p ≡ b)
-blind-link k r o p b ho hp w i j a c d e s =
-    let x = swap-else i j o (λ z. omega arith) (λ z. omega arith) in
-    let y = swap-else i j p (λ z. omega arith) (λ z. omega arith) in
-    ap₂ (w .link r) x y ∙ s
 
 -- ---- the loop over the types of one more object
 
@@ -194,21 +167,3 @@ module _ (S : World → Type 0) (types : ℕ) (kinds : List ℕ) (k forb n : ℕ
     sound = r .sound;
     complete = λ z. absurd (true-false e z);
   }
-
-  -- where nothing was found with the k objects alone, each wanted world has an extra object
-  pub beyond-end : (dead more ok : Bool) (g : ℕ) (m : World) → Demanded S types kinds k forb n dead more g → Ended S kinds k more ok m → ok ≡ false
-      → (w : World) → Extends kinds k forb n w → S w → k < w .size
-  beyond-end dead more ok g m a b e w x s = ⊎-elim (λ z. a .beyond z w x s)
-      (λ z. ⊎-elim (λ y. absurd (b .complete e z w (sym y) (x .kept) s)) (λ l. l) (eq-or-lt-of-le (x .many))) (known more)
-
-  -- and where no place is spare, there is none
-  pub no-room : (dead more ok : Bool) (g : ℕ) (m : World) → n ≤ k → Demanded S types kinds k forb n dead more g → Ended S kinds k more ok m → ok ≡ false
-      → Nowhere S kinds k forb n
-  no-room dead more ok g m full a b e w x s = omega (arith, x .few, beyond-end dead more ok g m a b e w x s)
-
-  -- and where all types were tried
-  pub all-tried : (dead more ok : Bool) (g t f : ℕ) (m : World) → types ≤ t → Demanded S types kinds k forb n dead more g → Ended S kinds k more ok m
-      → ok ≡ false → Tried S types kinds k forb n g t f → Nowhere S kinds k forb n
-  all-tried dead more ok g t f m h a b e r w x s =
-      let v = a .extra w x s (beyond-end dead more ok g m a b e w x s) in
-      r .none w x s (v .at) (v .past) (v .below) (omega (arith, v .small)) (v .typed)

@@ -1,36 +1,12 @@
--- Laws of `tally` over a range that is split at a place. General: nothing here is about worlds.
+-- Laws of a count from a place on.
 -- Assumes nothing.
-use mathlib.Core.Path.{_≡_, refl, ap, _∙_}
-use mathlib.Core.Bool.{Bool, true, false}
-use Prim.Native.Nat.{ℕ, zero, suc, _+_, _-_, _<_, _≤_}
+use mathlib.Core.Path.{_≡_, ap, _∙_}
+use mathlib.Core.Bool.{Bool, true}
+use Prim.Native.Nat.{ℕ, _+_, _-_, _<_, _≤_}
 use native.Mathlib.Omega.{arith}
-use Rattle.laws.specs.Bounded.{any, tally}
-use Rattle.laws.proofs.BoundedLaws.{any-at, any-no, tally-none}
-use Rattle.laws.proofs.CountLaws.{tally-le, tally-mono, tally-less}
-use Rattle.laws.proofs.ConnectiveLaws.{true-false}
+use Rattle.laws.specs.Bounded.{tally}
+use Rattle.laws.proofs.CountLaws.{tally-le, tally-mono, tally-some, tally-split}
 use Rattle.growing.specs.Demand.{from}
-
--- below k, and the m places from there on
-pub tally-split : (q : ℕ → Bool) (k m : ℕ) → tally q (k + m) ≡ tally q k + tally (λ i. q (k + i)) m
-unfolding tally
-tally-split q k zero = let e : k + 0 ≡ k = omega arith in let a = ap (tally q) e in omega arith
-tally-split q k (suc m) =
-    let e : k + suc m ≡ suc (k + m) = omega arith in
-    let a = ap (tally q) e in
-    let b = tally-split q k m in omega arith
-
--- a test that holds at an index is counted
-pub tally-holds : (q : ℕ → Bool) (n k : ℕ) → k < n → q k ≡ true → 0 < tally q n
-tally-holds q n k h e =
-    let a = tally-less (λ _. false) q n k (λ i l z. absurd (true-false z refl)) h refl e in omega arith
-
--- a test that is counted holds at an index
-pub tally-some : (q : ℕ → Bool) (n : ℕ) → 0 < tally q n → (k : ℕ) × (k < n) × (q k ≡ true)
-tally-some q n h = go (any q n) refl
-  where
-    go : (b : Bool) → any q n ≡ b → (k : ℕ) × (k < n) × (q k ≡ true)
-    go true e = any-at q n e
-    go false e = let z : tally q n ≡ 0 = tally-none q n (any-no q n e) in absurd (omega arith)
 
 module _ (q : ℕ → Bool) (k n : ℕ) where
   pub from-split : k ≤ n → tally q n ≡ tally q k + from q k n

@@ -7,7 +7,7 @@ use mathlib.Core.List.{List}
 use lib.ListN.{getD}
 use Rattle.laws.specs.Bits.{bit}
 use Rattle.laws.specs.Bounded.{tally}
-use Rattle.growing.specs.World.{World}
+use Rattle.growing.specs.World.{World, sourceCount}
 use Rattle.growing.specs.Growth.{Extends}
 
 -- at how many places from k on, below n, q holds
@@ -44,6 +44,6 @@ RowAtLeast r o low targets closed w = AtLeast (λ p. w .link r o p) low (λ x. b
 -- the column of object p in role slot r: it is the target of no fewer than low objects with types of the mask `counted`; types of
 -- the mask `sources` may have such a link at all
 pub record ColumnAtLeast (r p low counted sources : ℕ) (closed : ℕ → Bool) (w : World) : Type 0 where
-  pub enough : low ≤ tally (λ o. bit (w .kind o) counted && w .link r o p) (w .size)
+  pub enough : low ≤ sourceCount w r counted p
   pub typed : (o : ℕ) → o < w .size → w .link r o p ≡ true → bit (w .kind o) sources ≡ true
   pub free : (o : ℕ) → o < w .size → w .link r o p ≡ true → closed o ≡ false

@@ -2,7 +2,9 @@
 -- may be is a matter of the type alone. Types, role slots and objects are numbers.
 -- Assumes nothing.
 use Prim.Native.Nat.{ℕ, _<_, _≤_}
-use mathlib.Core.Bool.{Bool}
+use mathlib.Core.Bool.{Bool, _&&_}
+use Rattle.laws.specs.Bits.{bit}
+use Rattle.laws.specs.Bounded.{tally}
 use Rattle.laws.specs.Swap.{swap}
 
 -- `link r o p`: object o has a link in role slot r to the target p. Only what stands below `size` counts.
@@ -10,6 +12,14 @@ pub record World : Type 0 where
   pub size : ℕ
   pub kind : ℕ → ℕ
   pub link : ℕ → ℕ → ℕ → Bool
+
+-- the number of targets of object o in slot s
+abbrev pub targetCount : World → ℕ → ℕ → ℕ
+targetCount w s o = tally (λ p. w .link s o p) (w .size)
+
+-- the number of sources of object p in slot s, among objects with types of the mask
+abbrev pub sourceCount : World → ℕ → ℕ → ℕ → ℕ
+sourceCount w s mask p = tally (λ o. bit (w .kind o) mask && w .link s o p) (w .size)
 
 -- the world in which the objects i and j have changed places
 abbrev pub exchanged : ℕ → ℕ → World → World

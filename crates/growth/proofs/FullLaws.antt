@@ -1,6 +1,6 @@
 -- Growth to exactly n objects: below n one more is always wanted, and at n the search for links decides.
 -- Assumes nothing.
-use Prim.Native.Nat.{_+_, _<_, _≤_, suc, zero, ℕ}
+use Prim.Native.Nat.{_<_, _≤_, ℕ}
 use mathlib.Core.Bool.{Bool, false, true}
 use mathlib.Core.List.{List}
 use mathlib.Core.Logic.{⊎-elim}
@@ -10,21 +10,20 @@ use lib.Dec.{ltb}
 use lib.ListN.{getD, length, replicate, set}
 use borrow.Author.Tests.{lt-ltb}
 use Rattle.laws.proofs.ConnectiveLaws.{known}
+use Rattle.laws.proofs.ListLaws.{set-each, zeros}
 use Rattle.growing.specs.World.{World}
 use Rattle.growing.specs.Growth.{Demanded, Ended, Grown, Nowhere, Tried}
-use Rattle.growing.proofs.GrowthLaws.{grown-end, grown-none, kinds-more}
+use Rattle.growing.proofs.GrowthLaws.{grown-end, grown-none}
 
 -- as many zeros as there are places
 pub small-zeros : (n o : ℕ) → getD (replicate n 0) o 0 < 24
-small-zeros zero o = omega arith
-small-zeros (suc n) zero = omega arith
-small-zeros (suc n) (suc o) = small-zeros n o
+small-zeros n o = omega (arith, zeros n o)
 
 -- a type more among the given ones: r is the list with x at place k
 pub small-more : {r : List ℕ} (kinds : List ℕ) (k x : ℕ) → r ≡ set kinds k x → k < length kinds → x < 24
     → ((o : ℕ) → getD kinds o 0 < 24) → (o : ℕ) → getD r o 0 < 24
 small-more kinds k x e room h small o =
-    subst (λ (l : List ℕ). getD l o 0 < 24) (sym e) (kinds-more 24 (o + 1) kinds k x room h (λ i l. small i) o (omega arith))
+    subst (λ (l : List ℕ). getD l o 0 < 24) (sym e) (set-each (λ (v : ℕ). v < 24) kinds k x o room (small o) h)
 
 module _ (S : World → Type 0) (kinds : List ℕ) (k forb n : ℕ) where
   -- all n objects are given

@@ -1,24 +1,13 @@
 // The search for a world that a query asks for: first the types of the seeds, then one extra object after the other, of the types that
 // a demand names, and at n objects the search for links.
 ghost use mathlib.Core.Path.{_≡_};
-ghost use mathlib.Core.Bool.{false, not, _&&_};
+ghost use mathlib.Core.Bool.{not, _&&_};
 ghost use Prim.Native.Nat.{ℕ, _<_, _≤_};
 ghost use lib.ListN.{getD, set};
 ghost use Rattle.laws.specs.Bits.{bit};
 ghost use Rattle.growing.specs.Growth.{Grown};
 ghost use Rattle.worlds.specs.Asked.{Answers, Sane, Solution, worldBuilt};
-ghost use Rattle.worlds.specs.Kept.{Slotted, Turned, sheet};
-
-// No world.
-fn nothing() -> worlds::Built
-    ensures { λ r. ⌜ r .ok ≡ false ⌝ }
-{
-    worlds::Built {
-        ok: false,
-        types: [0u8; 8],
-        links: [0u8; 256],
-    }
-}
+ghost use Rattle.worlds.specs.Kept.{Slotted, SourceTable, sheet};
 
 // The types with t at place k.
 fn put(types: [u8; 8], k: u8, t: u8) -> [u8; 8]
@@ -63,7 +52,7 @@ fn grow<'a>(
     forb: u32,
     n: u8,
 ) -> worlds::Built
-    requires { ⌜ Slotted lines × Turned (now targets) (now sources) × Sane q × (q .seeds ≤ k) × (k ≤ n) × (n ≤ 8) × ((o : ℕ) → getD types o 0 < 24) ⌝ }
+    requires { ⌜ Slotted lines × SourceTable (now targets) (now sources) × Sane q × (q .seeds ≤ k) × (k ≤ n) × (n ≤ 8) × ((o : ℕ) → getD types o 0 < 24) ⌝ }
     ensures { λ r. ⌜ Grown (Solution (sheet usable singles (now (targets .entry)) (now (lows .entry)) (now (highs .entry)) lines) q n) types k forb n (r .ok) (worldBuilt n r) ⌝ }
 {
     let d = demands::demand(
@@ -81,7 +70,7 @@ fn grow<'a>(
         n,
     );
     if d.dead {
-        return nothing();
+        return worlds::nothing();
     }
     if k == n {
         return leaves::ends(targets, lows, highs, lines, usable, singles, q, types, n);
@@ -112,7 +101,7 @@ fn grow<'a>(
         }
         t += 1;
     }
-    nothing()
+    worlds::nothing()
 }
 
 // The same where the first k objects are seeds: the types of the other seeds are tried first.
@@ -129,7 +118,7 @@ fn seed<'a>(
     k: u8,
     n: u8,
 ) -> worlds::Built
-    requires { ⌜ Slotted lines × Turned (now targets) (now sources) × Sane q × (k ≤ q .seeds) × (q .seeds ≤ n) × (n ≤ 8) × ((o : ℕ) → getD types o 0 < 24) ⌝ }
+    requires { ⌜ Slotted lines × SourceTable (now targets) (now sources) × Sane q × (k ≤ q .seeds) × (q .seeds ≤ n) × (n ≤ 8) × ((o : ℕ) → getD types o 0 < 24) ⌝ }
     ensures { λ r. ⌜ Grown (Solution (sheet usable singles (now (targets .entry)) (now (lows .entry)) (now (highs .entry)) lines) q n) types k 0 n (r .ok) (worldBuilt n r) ⌝ }
 {
     if k == q.seeds {
@@ -145,10 +134,10 @@ fn seed<'a>(
             types,
             n,
         ) {
-            return nothing();
+            return worlds::nothing();
         }
         if relaxing::is_stuck(targets, highs, lines, usable, q, types) {
-            return nothing();
+            return worlds::nothing();
         }
         return grow(
             targets,
@@ -188,7 +177,7 @@ fn seed<'a>(
         }
         t += 1;
     }
-    nothing()
+    worlds::nothing()
 }
 
 // A world of n objects that the tables allow and the query asks for.
@@ -203,11 +192,11 @@ pub fn find<'a>(
     q: worlds::Query,
     n: u8,
 ) -> worlds::Built
-    requires { ⌜ Slotted lines × Turned (now targets) (now sources) × Sane q × (n ≤ 8) ⌝ }
+    requires { ⌜ Slotted lines × SourceTable (now targets) (now sources) × Sane q × (n ≤ 8) ⌝ }
     ensures { λ r. ⌜ Answers (Solution (sheet usable singles (now (targets .entry)) (now (lows .entry)) (now (highs .entry)) lines) q n) (r .ok) (worldBuilt n r) ⌝ }
 {
     if n < q.seeds {
-        return nothing();
+        return worlds::nothing();
     }
     seed(
         targets,

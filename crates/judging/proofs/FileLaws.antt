@@ -1,10 +1,10 @@
 -- A record file is refused or accepted; one that is accepted, taken into memory, stands for its record.
 -- Assumes nothing.
-use Prim.Native.Nat.{ℕ, _<_, _≤_}
+use Prim.Native.Nat.{ℕ}
 use native.Mathlib.Omega.{arith}
 use mathlib.Core.List.{List}
 use mathlib.Core.Logic.{_≢_}
-use mathlib.Core.Path.{_≡_, refl, sym, ap, _∙_, subst}
+use mathlib.Core.Path.{_≡_, refl, sym, ap, _∙_}
 use Rattle.files.specs.Diagram.{Diagram}
 use Rattle.files.specs.Field.{rows}
 use Rattle.files.specs.Record.{Record, noRecord}
@@ -17,12 +17,10 @@ use Rattle.diagrams.specs.View.{diagramOf}
 use Rattle.diagrams.specs.Held.{Held}
 use Rattle.records.specs.declared.MemoryRecord.{MemoryRecord}
 use Rattle.resolving.specs.Resolves.{Resolves}
-use Rattle.rules.specs.Judge.{judge}
 use Rattle.memory_rules.specs.Stands.{Stands}
 use Rattle.memory_rules.specs.JudgeIn.{lowestIn}
 use Rattle.memory_rules.proofs.JudgeInLaws.{judge-in}
 use Rattle.tables.specs.Tables.{Coded}
-use Rattle.judging.specs.declared.Judgement.{Judgement}
 use Rattle.judging.specs.Judges.{Judges}
 use Rattle.tables.proofs.CodedLaws.{stands-coded}
 

@@ -3,7 +3,7 @@
 use Prim.Native.Nat.{ℕ, _%_, _*_, _+_, _-_, _/_, _^_, _<_, _≤_}
 use mathlib.Core.Bool.{Bool, true, false, _&&_, _||_}
 use mathlib.Core.List.{[]}
-use mathlib.Core.Path.{_≡_, refl, sym, ap, ap₂, _∙_}
+use mathlib.Core.Path.{_≡_, sym, ap, ap₂, _∙_}
 use lib.Dec.{eqb, ltb}
 use lib.ListN.{length, getD}
 use borrow.Author.Tests.{eq-eqb, ne-eqb, le-ltb, lt-ltb}
@@ -11,6 +11,7 @@ use Rattle.laws.specs.Bounded.{all}
 use Rattle.laws.specs.Connective.{both, either}
 use Rattle.laws.proofs.JoinedLaws.{length-each}
 use Rattle.laws.proofs.SearchLaws.{both-no, both-yes, either-no, either-yes}
+use Rattle.laws.proofs.ConnectiveLaws.{and-is-both, or-is-either}
 use Rattle.files.specs.Diagram.{valueTypeAt}
 use Rattle.fields.specs.Slot.{slotName}
 use Rattle.diagrams.specs.declared.StoredDiagram.{StoredDiagram}
@@ -24,13 +25,6 @@ use Rattle.records.proofs.WithinLaws.{row-below}
 -- a mask of targets by one comparison
 pub row-by : (n x : ℕ) {w p : ℕ} → w ≡ x → w < 256 → p ≡ 2 ^ n → ltb w p ≡ rowKnown n x
 row-by n x e l q = ap (ltb _) q ∙ row-below n _ l ∙ ap (rowKnown n) e
-
--- the code's strict `|` and `&` are the connectives
-or-either : (a b c : Bool) → a || (b && c) ≡ either a (both b c)
-unfolding either both
-or-either true b c = refl
-or-either false true c = refl
-or-either false false c = refl
 
 module _ (d : StoredDiagram) where
   -- ---- one value
@@ -58,7 +52,7 @@ module _ (d : StoredDiagram) where
   value-typed v t n z e l q =
       either-no {b = named v} (ne-eqb v 0 z)
       (both-yes (ap₂ ltb (sym e) (value-type-count d) ∙ lt-ltb t (d .values .count) l)
-      (or-either (ltb ((v - 1) % 8) n) (eqb n 0) (eqb ((v - 1) % 8) 0)
+      (or-is-either (ltb ((v - 1) % 8) n) _ ∙ ap (either (ltb ((v - 1) % 8) n)) (and-is-both (eqb n 0) (eqb ((v - 1) % 8) 0))
       ∙ ap (λ (k : ℕ). either (ltb ((v - 1) % 8) k) (both (eqb k 0) (eqb ((v - 1) % 8) 0))) size))
     where
       size : n ≡ length (valueTypeAt (diagramOf d) ((v - 1) / 8) .constants)

@@ -2,7 +2,6 @@
 ghost use mathlib.Core.Path.{_≡_};
 ghost use mathlib.Core.Bool.{not};
 ghost use mathlib.Core.List.{_∷_, []};
-ghost use Prim.Native.Nat.{_≤_};
 ghost use Rattle.laws.specs.Bounded.{all, any};
 ghost use Rattle.laws.specs.Lists.{joined};
 ghost use Rattle.files.specs.Name.{sameName, differ};

@@ -9,12 +9,12 @@ use borrow.Author.Tests.{ltb-false, ltb-true}
 use lib.Dec.{eqb, ltb}
 use lib.ListN.{getD, set}
 use Rattle.laws.specs.Bits.{Marks, bit}
+use Rattle.laws.proofs.BitLaws.{first-bit}
 use Rattle.worlds.specs.declared.Lines.{Lines}
 use Rattle.worlds.specs.declared.Query.{Query}
 use Rattle.leaves.specs.Fitting.{typed}
 use Rattle.leaves.specs.Arrays.{ColumnsAsk, Longer, Objects, RowLimits, RowsAsk, Spread, columnBy, ifSeeded, isAsked, limitAt, rowBy, rowHigh, rowLow, spotOf}
 use Rattle.leaves.proofs.FilledLaws.{filled-at, set-with}
-use Rattle.leaves.proofs.MaskLaws.{first-bit}
 
 -- ---- rows
 

@@ -11,7 +11,7 @@ use lib.ListN.{getD}
 use Rattle.laws.specs.Bounded.{tally}
 use Rattle.laws.proofs.ConnectiveLaws.{and-both, and-left, and-right}
 use Rattle.laws.proofs.CountLaws.{tally-le}
-use Rattle.link_search.specs.Nets.{Net, Within}
+use Rattle.link_search.specs.Nets.{Net, InLimits}
 use Rattle.link_search.specs.Families.{Columns, Slots, source}
 use Rattle.worlds.specs.declared.Lines.{Lines}
 use Rattle.worlds.specs.declared.Query.{Query}
@@ -48,7 +48,7 @@ module _ (x : Lines) (q : Query) (types : List ℕ) (n : ℕ) (r : ColumnArrays)
   module _ (link : ℕ → ℕ → ℕ → Bool) (v : Net) (g : Agree n link v) where
     -- the number of sources of each target that is asked by a column lies within its limits
     abbrev Each : Type 0
-    Each = (j p : ℕ) → j < 17 → p < 8 → isAsked x q types n j p ≡ true → Within (lowBy j) (highBy j) (tally (λ o. typed types (fromBy j) o && link (slotBy j) o p) n)
+    Each = (j p : ℕ) → j < 17 → p < 8 → isAsked x q types n j p ≡ true → InLimits (lowBy j) (highBy j) (tally (λ o. typed types (fromBy j) o && link (slotBy j) o p) n)
 
     count : (j p : ℕ) → j < 17 → p < 8 → tally (source (r .slot) (r .from) v j p) 8 ≡ tally (λ o. typed types (fromBy j) o && link (slotBy j) o p) n
     count j p hj hp =
@@ -70,13 +70,13 @@ module _ (x : Lines) (q : Query) (types : List ℕ) (n : ℕ) (r : ColumnArrays)
 
     -- the limits by the query
     abbrev ColumnAsked : Type 0
-    ColumnAsked = 0 < q .seeds → Within (q .least) (q .most) (tally (sourceAsked q (made n types link)) n)
+    ColumnAsked = 0 < q .seeds → InLimits (q .least) (q .most) (tally (sourceAsked q (made n types link)) n)
 
     pub columns-of : ColumnsKept x (made n types link) → ColumnAsked → Columns (r .slot) (r .from) (r .low) (r .high) v
     columns-of k c = columns-each (λ j p hj hp e. go j p (ltb j 16) refl e)
       where
         go : (j p : ℕ) → (b : Bool) → ltb j 16 ≡ b → cond b (ltb p n && typed types (getD (x .columnto) j 0) p) (ltb 0 (q .seeds) && eqb p 0) ≡ true
-            → Within (cond b (getD (x .columnlow) j 0) (q .least)) (cond b (getD (x .columnhigh) j 0) (q .most))
+            → InLimits (cond b (getD (x .columnlow) j 0) (q .least)) (cond b (getD (x .columnhigh) j 0) (q .most))
             (tally (λ o. typed types (cond b (getD (x .columnfrom) j 0) (q .from)) o && link (cond b (getD (x .columnslot) j 0) (q .column)) o p) n)
         go j p true z e = k .at j p (ltb-true j 16 z) (ltb-true p n (and-left (ltb p n) _ e)) (and-right (ltb p n) (typed types (getD (x .columnto) j 0) p) e)
         go j p false z e =
@@ -90,9 +90,9 @@ module _ (x : Lines) (q : Query) (types : List ℕ) (n : ℕ) (r : ColumnArrays)
         where
           go : (j p : ℕ) → p < n → typed types (getD (x .columnto) j 0) p ≡ true → (b : Bool) → b ≡ true
               → (cond b (ltb p n && typed types (getD (x .columnto) j 0) p) (ltb 0 (q .seeds) && eqb p 0) ≡ true
-              → Within (cond b (getD (x .columnlow) j 0) (q .least)) (cond b (getD (x .columnhigh) j 0) (q .most))
+              → InLimits (cond b (getD (x .columnlow) j 0) (q .least)) (cond b (getD (x .columnhigh) j 0) (q .most))
               (tally (λ o. typed types (cond b (getD (x .columnfrom) j 0) (q .from)) o && link (cond b (getD (x .columnslot) j 0) (q .column)) o p) n))
-              → Within (getD (x .columnlow) j 0) (getD (x .columnhigh) j 0) (tally (sourceBy x (made n types link) j p) n)
+              → InLimits (getD (x .columnlow) j 0) (getD (x .columnhigh) j 0) (tally (sourceBy x (made n types link) j p) n)
           go j p hp e true z f = f (and-both (ltb p n) _ (lt-ltb p n hp) e)
           go j p hp e false z f = absurd (false≢true z)
 

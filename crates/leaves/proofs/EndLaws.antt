@@ -7,15 +7,15 @@ use mathlib.Core.Path.{_≡_, refl}
 use Rattle.laws.proofs.ConnectiveLaws.{true-false}
 use Rattle.growing.specs.World.{World}
 use Rattle.growing.specs.Growth.{Ended}
-use Rattle.link_search.specs.Families.{Fits}
-use Rattle.link_search.specs.Answers.{Answer}
+use Rattle.link_search.specs.Families.{NetFits}
+use Rattle.link_search.specs.Answers.{NetAnswer}
 use Rattle.worlds.specs.declared.Lines.{Lines}
 use Rattle.worlds.specs.declared.Query.{Query}
 use Rattle.worlds.specs.Kept.{Slotted, sheet, worldIn}
 use Rattle.worlds.specs.Asked.{Sane, Solution}
 use Rattle.leaves.specs.declared.ColumnArrays.{ColumnArrays}
 use Rattle.leaves.specs.declared.RowArrays.{RowArrays}
-use Rattle.leaves.specs.Fitting.{Small, typesFit}
+use Rattle.leaves.specs.Fitting.{SmallTypes, typesFit}
 use Rattle.leaves.specs.Arrays.{Mays, Prepared, allCovered}
 use Rattle.leaves.proofs.FittingLaws.{fit-at}
 use Rattle.leaves.proofs.RetypedLaws.{made, retyped}
@@ -41,9 +41,9 @@ module _ (usable singles : ℕ) (targets lows highs : List ℕ) (x : Lines) (q :
   ended-must m may a e = none-ended m (λ link s. true-false (world-covered usable singles targets lows highs x q types n link s may a) e)
 
   pub ended-links : (may : List ℕ) (r : RowArrays) (c : ColumnArrays) (mf mt wf wt : List ℕ) → Prepared targets lows highs x q types n may r c mf mt wf wt
-      → Slotted x → Sane q → n ≤ 8 → Small types → typesFit usable singles q types n ≡ true
+      → Slotted x → Sane q → n ≤ 8 → SmallTypes types → typesFit usable singles q types n ≡ true
       → allCovered (q .must) may ≡ true → (rows may′ : List ℕ) (ok : Bool)
-      → Answer (Fits (r .low) (r .high) (c .slot) (c .from) (c .low) (c .high) (x .mirrorright) (x .mirrorleft) mf mt (x .wholeslot) wf wt) (q .must) may rows may′ ok
+      → NetAnswer (NetFits (r .low) (r .high) (c .slot) (c .from) (c .low) (c .high) (x .mirrorright) (x .mirrorleft) mf mt (x .wholeslot) wf wt) (q .must) may rows may′ ok
       → Ended Wanted types n false ok (worldIn n types rows)
   unfolding worldIn
   ended-links may r c mf mt wf wt a slotted sane few small fit all-may rows may′ ok z = record {

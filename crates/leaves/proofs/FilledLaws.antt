@@ -10,24 +10,24 @@ use lib.Dec.{eqb, ltb}
 use lib.ListN.{getD, getD-replicate, length, length-replicate, length-set, replicate, set}
 use lib.Seq.{getD-set-other, getD-set-same}
 use Rattle.laws.proofs.ListLaws.{set-more}
-use Rattle.leaves.specs.Filled.{Filled}
+use Rattle.leaves.specs.Filled.{FilledTo}
 
 module _ (P : ℕ → ℕ → Type 0) (d size : ℕ) where
-  pub filled-begin : Filled P d size 0 (replicate size d)
+  pub filled-begin : FilledTo P d size 0 (replicate size d)
   filled-begin = record { long = length-replicate size d; done = λ k h. absurd (omega arith); rest = λ k a b. getD-replicate size k d 0 b }
 
-  pub filled-next : (m v : ℕ) (l : List ℕ) → m < size → Filled P d size m l → P m v → Filled P d size (m + 1) (set l m v)
+  pub filled-next : (m v : ℕ) (l : List ℕ) → m < size → FilledTo P d size m l → P m v → FilledTo P d size (m + 1) (set l m v)
   filled-next m v l h f p = record {
     long = length-set l m v ∙ f .long;
     done = set-more P l m v (omega (arith, f .long)) (f .done) p;
     rest = λ k a b. getD-set-other l m k v 0 (λ e. omega arith) ∙ f .rest k (omega arith) b;
   }
 
-  pub filled-done : (m e : ℕ) (l : List ℕ) → m ≤ e → e ≤ m → Filled P d size m l → Filled P d size e l
-  filled-done m e l a b f = let q : m ≡ e = omega arith in subst (λ (x : ℕ). Filled P d size x l) q f
+  pub filled-done : (m e : ℕ) (l : List ℕ) → m ≤ e → e ≤ m → FilledTo P d size m l → FilledTo P d size e l
+  filled-done m e l a b f = let q : m ≡ e = omega arith in subst (λ (x : ℕ). FilledTo P d size x l) q f
 
 -- each element, where the first ones are a function's values
-pub filled-at : (f : ℕ → ℕ) (d size m : ℕ) (l : List ℕ) → Filled (λ k v. v ≡ f k) d size m l → (k : ℕ) → k < size → getD l k 0 ≡ cond (ltb k m) (f k) d
+pub filled-at : (f : ℕ → ℕ) (d size m : ℕ) (l : List ℕ) → FilledTo (λ k v. v ≡ f k) d size m l → (k : ℕ) → k < size → getD l k 0 ≡ cond (ltb k m) (f k) d
 filled-at f d size m l a k h = go (ltb k m) refl
   where
     go : (b : Bool) → ltb k m ≡ b → getD l k 0 ≡ cond b (f k) d

@@ -1,5 +1,4 @@
 pub mod FilledLaws
-pub mod MaskLaws
 pub mod ArrayLaws
 pub mod FittingLaws
 pub mod WithinLaws

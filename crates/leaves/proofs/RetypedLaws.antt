@@ -14,7 +14,7 @@ use Rattle.laws.proofs.CountLaws.{tally-ext}
 use Rattle.growing.specs.World.{World}
 use Rattle.worlds.specs.declared.Query.{Query}
 use Rattle.worlds.specs.Kept.{Allowed, Sheet, sourceBy, wholeBy, wholeOf}
-use Rattle.worlds.specs.Asked.{Asked, Solution, sourceAsked}
+use Rattle.worlds.specs.Asked.{Satisfies, Solution, sourceAsked}
 use Rattle.leaves.proofs.WithinLaws.{within-same}
 
 -- the world of n objects with types in an array
@@ -69,7 +69,7 @@ module _ (x : Sheet) (q : Query) (n : ℕ) (types : List ℕ) (w : World) (size 
     };
   }
 
-  asked-typed : Asked q w → Asked q v
+  asked-typed : Satisfies q w → Satisfies q v
   asked-typed a = record {
     many = omega (arith, a .many);
     typed = λ o h. sym (in-set o (getD (q .types) o 0) (omega (arith, a .many))) ∙ a .typed o h;

@@ -11,8 +11,8 @@ use lib.ListN.{getD}
 use Rattle.laws.specs.Bounded.{tally}
 use Rattle.laws.proofs.BoundedLaws.{tally-none}
 use Rattle.laws.proofs.CountLaws.{tally-le}
-use Rattle.link_search.specs.Nets.{Net, Within}
-use Rattle.link_search.specs.Families.{Rows}
+use Rattle.link_search.specs.Nets.{Net, InLimits}
+use Rattle.link_search.specs.Families.{RowsFit}
 use Rattle.worlds.specs.declared.Query.{Query}
 use Rattle.leaves.specs.declared.RowArrays.{RowArrays}
 use Rattle.leaves.specs.Arrays.{RowsAsk, rowHigh, rowLow, spotOf}
@@ -23,10 +23,10 @@ module _ (lows highs types : List ℕ) (n : ℕ) (q : Query) (r : RowArrays) (a 
     (g : Agree n link v) where
   -- the limits by the tables, and those by the query
   abbrev Limited : Type 0
-  Limited = (s o : ℕ) → s < 32 → o < n → Within (getD lows (getD types o 0 * 32 + s) 0) (getD highs (getD types o 0 * 32 + s) 0) (tally (λ p. link s o p) n)
+  Limited = (s o : ℕ) → s < 32 → o < n → InLimits (getD lows (getD types o 0 * 32 + s) 0) (getD highs (getD types o 0 * 32 + s) 0) (tally (λ p. link s o p) n)
 
   abbrev RowAsked : Type 0
-  RowAsked = 0 < q .seeds → Within (q .low) (q .high) (tally (λ p. link (q .row) 0 p) n)
+  RowAsked = 0 < q .seeds → InLimits (q .low) (q .high) (tally (λ p. link (q .row) 0 p) n)
 
   count : (i : ℕ) → i < 256 → tally (v i) 8 ≡ tally (λ p. link (i % 32) (i / 32) p) n
   count i h =
@@ -40,7 +40,7 @@ module _ (lows highs types : List ℕ) (n : ℕ) (q : Query) (r : RowArrays) (a 
       let m : i % 32 ≡ q .row = omega arith in
       count i h ∙ ap₂ (λ (x y : ℕ). tally (λ p. link x y p) n) m d
 
-  row-within : Limited → RowAsked → (i : ℕ) → i < 256 → Within (rowLow lows types n q i) (rowHigh highs types n q i) (tally (v i) 8)
+  row-within : Limited → RowAsked → (i : ℕ) → i < 256 → InLimits (rowLow lows types n q i) (rowHigh highs types n q i) (tally (v i) 8)
   unfolding rowLow rowHigh
   row-within f c i h =
       tight-of (ltb i (n * 32)) (eqb i (q .row)) (ltb 0 (q .seeds)) (getD lows (spotOf types i) 0) (getD highs (spotOf types i) 0) (q .low) (q .high) (tally (v i) 8) (tally-le (v i) 8)
@@ -48,11 +48,11 @@ module _ (lows highs types : List ℕ) (n : ℕ) (q : Query) (r : RowArrays) (a 
       (λ e. let t = ltb-false i (n * 32) e in count i h ∙ tally-none (λ p. link (i % 32) (i / 32) p) n (λ p _. off n types link v g (i % 32) (i / 32) p (λ x y. omega arith)))
       (λ e s. within-same refl refl (sym (first-count i h (eqb-true i (q .row) e))) (c (ltb-true 0 (q .seeds) s)))
 
-  pub rows-of : Limited → RowAsked → Rows (r .low) (r .high) v
+  pub rows-of : Limited → RowAsked → RowsFit (r .low) (r .high) v
   rows-of f c = record { at = λ i h. within-same (sym (a .low i h)) (sym (a .high i h)) refl (row-within f c i h) }
 
-  module _ (w : Rows (r .low) (r .high) v) where
-    at : (i : ℕ) → i < 256 → Within (rowLow lows types n q i) (rowHigh highs types n q i) (tally (v i) 8)
+  module _ (w : RowsFit (r .low) (r .high) v) where
+    at : (i : ℕ) → i < 256 → InLimits (rowLow lows types n q i) (rowHigh highs types n q i) (tally (v i) 8)
     at i h = within-same (a .low i h) (a .high i h) refl (w .at i h)
 
     pub limited-of : Limited

@@ -9,7 +9,7 @@ use mathlib.Core.Logic.{⊎-elim}
 use mathlib.Core.Path.{_≡_, _∙_, ap, ap₂}
 use Rattle.laws.proofs.ConnectiveLaws.{known, true-false}
 use Rattle.link_search.specs.Nets.{Between, Net, netOf}
-use Rattle.link_search.specs.Families.{Fits}
+use Rattle.link_search.specs.Families.{NetFits}
 use Rattle.worlds.specs.declared.Lines.{Lines}
 use Rattle.worlds.specs.declared.Query.{Query}
 use Rattle.worlds.specs.Kept.{Slotted, sheet}
@@ -78,7 +78,7 @@ module _ (usable singles : ℕ) (targets lows highs : List ℕ) (x : Lines) (q :
     world-between = record { least = must-stand; most = λ i p h l e _. may-of targets types n (q .shut) may m i p (is-open i p h l e) }
 
   module _ (slotted : Slotted x) (sane : Sane q) (may : List ℕ) (r : RowArrays) (c : ColumnArrays) (mf mt wf wt : List ℕ) (a : Prepared targets lows highs x q types n may r c mf mt wf wt) where
-    pub net-fits : Fits (r .low) (r .high) (c .slot) (c .from) (c .low) (c .high) (x .mirrorright) (x .mirrorleft) mf mt (x .wholeslot) wf wt (netIn link)
+    pub net-fits : NetFits (r .low) (r .high) (c .slot) (c .from) (c .low) (c .high) (x .mirrorright) (x .mirrorleft) mf mt (x .wholeslot) wf wt (netIn link)
     net-fits = record {
       rows = rows-of lows highs types n q r (a .rows) (sane .row) link (netIn link) agree (s .allowed .rows .limited) (s .asked .row);
       columns = columns-of x q types n c (a .columns) slotted (sane .column) link (netIn link) agree (s .allowed .columns) (s .asked .column);

@@ -12,14 +12,14 @@ use lib.Dec.{ltb}
 use lib.ListN.{getD}
 use Rattle.laws.proofs.ConnectiveLaws.{and-left, and-right, known, true-false}
 use Rattle.link_search.specs.Nets.{Between, netOf}
-use Rattle.link_search.specs.Families.{Fits}
+use Rattle.link_search.specs.Families.{NetFits}
 use Rattle.worlds.specs.declared.Lines.{Lines}
 use Rattle.worlds.specs.declared.Query.{Query}
 use Rattle.worlds.specs.Kept.{Slotted, sheet}
 use Rattle.worlds.specs.Asked.{Sane, Solution}
 use Rattle.leaves.specs.declared.ColumnArrays.{ColumnArrays}
 use Rattle.leaves.specs.declared.RowArrays.{RowArrays}
-use Rattle.leaves.specs.Fitting.{Small, typed}
+use Rattle.leaves.specs.Fitting.{SmallTypes, typed}
 use Rattle.leaves.specs.Arrays.{Prepared, allCovered}
 use Rattle.leaves.proofs.FittingLaws.{Fit}
 use Rattle.leaves.proofs.RetypedLaws.{made}
@@ -33,10 +33,10 @@ use Rattle.leaves.proofs.MayLaws.{Open, covered-at, may-at}
 abbrev pub linksIn : List ℕ → ℕ → ℕ → ℕ → Bool
 linksIn rows s o p = ltb s 32 && (ltb o 8 && (ltb p 8 && netOf rows (o * 32 + s) p))
 
-module _ (usable singles : ℕ) (targets lows highs : List ℕ) (x : Lines) (q : Query) (types : List ℕ) (n : ℕ) (slotted : Slotted x) (sane : Sane q) (few : n ≤ 8) (small : Small types)
+module _ (usable singles : ℕ) (targets lows highs : List ℕ) (x : Lines) (q : Query) (types : List ℕ) (n : ℕ) (slotted : Slotted x) (sane : Sane q) (few : n ≤ 8) (small : SmallTypes types)
     (fit : Fit usable singles q types n) (may : List ℕ) (r : RowArrays) (c : ColumnArrays) (mf mt wf wt : List ℕ) (a : Prepared targets lows highs x q types n may r c mf mt wf wt)
     (all-may : allCovered (q .must) may ≡ true) (rows : List ℕ) (b : Between (q .must) may (netOf rows))
-    (f : Fits (r .low) (r .high) (c .slot) (c .from) (c .low) (c .high) (x .mirrorright) (x .mirrorleft) mf mt (x .wholeslot) wf wt (netOf rows)) where
+    (f : NetFits (r .low) (r .high) (c .slot) (c .from) (c .low) (c .high) (x .mirrorright) (x .mirrorleft) mf mt (x .wholeslot) wf wt (netOf rows)) where
   -- a link that stands
   stands : (s o p : ℕ) → s < 32 → o < 8 → p < 8 → netOf rows (o * 32 + s) p ≡ linksIn rows s o p
   stands s o p hs ho hp = sym (ap₂ (λ (u v : Bool). u && (v && (ltb p 8 && netOf rows (o * 32 + s) p))) (lt-ltb s 32 hs) (lt-ltb o 8 ho) ∙ ap (λ (u : Bool). u && netOf rows (o * 32 + s) p) (lt-ltb p 8 hp))

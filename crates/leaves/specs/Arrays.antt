@@ -13,7 +13,7 @@ use Rattle.worlds.specs.declared.Lines.{Lines}
 use Rattle.worlds.specs.declared.Query.{Query}
 use Rattle.leaves.specs.declared.RowArrays.{RowArrays}
 use Rattle.leaves.specs.declared.ColumnArrays.{ColumnArrays}
-use Rattle.leaves.specs.Filled.{Filled}
+use Rattle.leaves.specs.Filled.{FilledTo}
 use Rattle.leaves.specs.Fitting.{typed}
 
 -- ---- rows
@@ -24,7 +24,7 @@ spotOf types i = getD types (i / 32) 0 * 32 + i % 32
 
 -- the limits of the rows of the first n objects, by a table; the others have the limit d
 abbrev pub RowLimits : List ℕ → List ℕ → ℕ → ℕ → List ℕ → Type 0
-RowLimits table types n d r = Filled (λ i v. v ≡ getD table (spotOf types i) 0) d 256 (n * 32) r
+RowLimits table types n d r = FilledTo (λ i v. v ≡ getD table (spotOf types i) 0) d 256 (n * 32) r
 
 -- row i may go to object p: to its type, and the query does not shut it
 abbrev pub mayGo : List ℕ → List ℕ → List ℕ → ℕ → ℕ → Bool
@@ -32,7 +32,7 @@ mayGo targets types shut i p = typed types (getD targets (spotOf types i) 0) p &
 
 -- the objects that each row may go to
 abbrev pub Mays : List ℕ → List ℕ → ℕ → List ℕ → List ℕ → Type 0
-Mays targets types n shut r = Filled (λ i v. Marks (mayGo targets types shut i) n v) 0 256 (n * 32) r
+Mays targets types n shut r = FilledTo (λ i v. Marks (mayGo targets types shut i) n v) 0 256 (n * 32) r
 
 -- the bits of a are bits of b
 unfoldable pub covered : ℕ → ℕ → Bool
@@ -64,18 +64,18 @@ pub record RowsAsk (lows highs types : List ℕ) (n : ℕ) (q : Query) (r : RowA
 
 -- for each set of types, which of the first n objects have a type of it
 abbrev pub Objects : List ℕ → ℕ → List ℕ → List ℕ → Type 0
-Objects types n sets r = Filled (λ j v. Marks (typed types (getD sets j 0)) n v) 0 16 16 r
+Objects types n sets r = FilledTo (λ j v. Marks (typed types (getD sets j 0)) n v) 0 16 16 r
 
 -- 16 elements and one more
 abbrev pub Longer : List ℕ → ℕ → List ℕ → Type 0
-Longer l x r = Filled (λ j v. v ≡ getD l j 0) x 17 16 r
+Longer l x r = FilledTo (λ j v. v ≡ getD l j 0) x 17 16 r
 
 -- the limit of target x % 8 by column x / 8: the column's if it is one of the targets that are asked, else d
 unfoldable pub limitAt : List ℕ → List ℕ → ℕ → ℕ → ℕ
 limitAt to limit d x = cond (bit (x % 8) (getD to (x / 8) 0)) (getD limit (x / 8) 0) d
 
 abbrev pub Spread : List ℕ → List ℕ → ℕ → List ℕ → Type 0
-Spread to limit d r = Filled (λ x v. v ≡ limitAt to limit d x) d 136 136 r
+Spread to limit d r = FilledTo (λ x v. v ≡ limitAt to limit d x) d 136 136 r
 
 -- column j: the association's, or the query's as the last one
 abbrev pub columnBy : List ℕ → ℕ → ℕ → ℕ

@@ -11,8 +11,8 @@ use Rattle.laws.specs.Connective.{both, imp}
 use Rattle.worlds.specs.declared.Query.{Query}
 
 -- a diagram has at most 24 types
-abbrev pub Small : List ℕ → Type 0
-Small types = (o : ℕ) → getD types o 0 < 24
+abbrev pub SmallTypes : List ℕ → Type 0
+SmallTypes types = (o : ℕ) → getD types o 0 < 24
 
 -- object o has a type of the set
 abbrev pub typed : List ℕ → ℕ → ℕ → Bool

@@ -3,7 +3,7 @@ ghost use mathlib.Core.Path.{_≡_};
 ghost use mathlib.Core.Bool.{_&&_, not};
 ghost use Prim.Native.Nat.{ℕ, _<_, _≤_};
 ghost use Rattle.laws.specs.Bits.{bit, Marks};
-ghost use Rattle.leaves.specs.Fitting.{Small};
+ghost use Rattle.leaves.specs.Fitting.{SmallTypes};
 ghost use Rattle.leaves.specs.Arrays.{Mays, RowLimits, RowsAsk, allCovered, covered, mayGo, spotOf};
 use crate::RowArrays;
 use crate::among;
@@ -11,7 +11,7 @@ use crate::pick;
 
 // Where a table has row i.
 fn spot(types: &[u8; 8], i: usize) -> usize
-    requires { ⌜ (i < 256) × Small (now types) ⌝ }
+    requires { ⌜ (i < 256) × SmallTypes (now types) ⌝ }
     ensures { λ r. ⌜ (r ≡ spotOf (now (types .entry)) i) × (r < 768) ⌝ }
 {
     laws::wide(types[i / 32]) * 32 + i % 32
@@ -19,7 +19,7 @@ fn spot(types: &[u8; 8], i: usize) -> usize
 
 // The limits by a table; d past the first n objects.
 fn row_limits<'a>(table: &'a [u8; 768], types: &'a [u8; 8], n: u8, d: u8) -> [u8; 256]
-    requires { ⌜ (n ≤ 8) × Small (now types) ⌝ }
+    requires { ⌜ (n ≤ 8) × SmallTypes (now types) ⌝ }
     ensures { λ r. ⌜ RowLimits (now (table .entry)) (now (types .entry)) n d r ⌝ }
 {
     let end = laws::wide(n) * 32;
@@ -40,7 +40,7 @@ pub fn row_arrays<'a>(
     n: u8,
     q: worlds::Query,
 ) -> RowArrays
-    requires { ⌜ (n ≤ 8) × Small (now types) × (q .row < 32) ⌝ }
+    requires { ⌜ (n ≤ 8) × SmallTypes (now types) × (q .row < 32) ⌝ }
     ensures { λ r. ⌜ RowsAsk (now (lows .entry)) (now (highs .entry)) (now (types .entry)) n q r ⌝ }
 {
     let at = laws::wide(q.row);
@@ -66,7 +66,7 @@ fn may_row<'a>(
     shut: &'a [u8; 256],
     i: usize,
 ) -> u8
-    requires { ⌜ (n ≤ 8) × Small (now types) × (i < 256) ⌝ }
+    requires { ⌜ (n ≤ 8) × SmallTypes (now types) × (i < 256) ⌝ }
     ensures { λ r. ⌜ Marks (mayGo (now (targets .entry)) (now (types .entry)) (now (shut .entry)) i) n r ⌝ }
 {
     without(among(types, n, targets[spot(types, i)]), shut[i])
@@ -79,7 +79,7 @@ pub fn mays<'a>(
     n: u8,
     shut: &'a [u8; 256],
 ) -> [u8; 256]
-    requires { ⌜ (n ≤ 8) × Small (now types) ⌝ }
+    requires { ⌜ (n ≤ 8) × SmallTypes (now types) ⌝ }
     ensures { λ r. ⌜ Mays (now (targets .entry)) (now (types .entry)) n (now (shut .entry)) r ⌝ }
 {
     let end = laws::wide(n) * 32;

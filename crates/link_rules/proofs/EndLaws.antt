@@ -4,10 +4,8 @@
 use Prim.Native.Nat.{ℕ, _*_, _+_, _<_, _/_, _%_}
 use native.Mathlib.Decide.{decLt}
 use native.Mathlib.Omega.{arith}
-use mathlib.Core.Bool.{Bool, cond}
 use mathlib.Core.List.{List}
-use mathlib.Core.Path.{_≡_, refl, sym, ap, subst, _∙_}
-use lib.Dec.{eqb}
+use mathlib.Core.Path.{_≡_, ap, subst, _∙_}
 use lib.ListN.{getD, length}
 use Rattle.laws.proofs.FirstLaws.{first-below}
 use Rattle.laws.proofs.JoinedLaws.{length-each, getD-each}

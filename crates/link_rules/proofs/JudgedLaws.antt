@@ -1,7 +1,7 @@
 -- Where the tables are a diagram's and a record's, the rules by the tables are the definitions: rules 6 to 9 whole, and what the
 -- compiled records of association i state.
 -- Assumes nothing.
-use Prim.Native.Nat.{ℕ, _*_, _+_, _<_, _≤_}
+use Prim.Native.Nat.{ℕ, _*_, _+_, _-_, _<_, _≤_}
 use native.Mathlib.Omega.{arith}
 use mathlib.Core.Bool.{Bool}
 use mathlib.Core.List.{List}
@@ -10,22 +10,21 @@ use lib.ListN.{getD, length}
 use Rattle.laws.specs.Bounded.{all}
 use Rattle.laws.specs.Connective.{both, imp}
 use Rattle.laws.proofs.BoundedLaws.{all-ext}
-use Rattle.files.specs.Diagram.{Association, Diagram, Limits, associationAt}
+use Rattle.files.specs.Diagram.{Association, Diagram, End, Limits, associationAt}
 use Rattle.diagrams.specs.declared.Associations.{Associations}
 use Rattle.diagrams.specs.declared.StoredDiagram.{StoredDiagram}
 use Rattle.diagrams.specs.Held.{Held}
 use Rattle.diagrams.specs.View.{associationIn, diagramOf, endIn}
 use Rattle.records.specs.declared.MemoryRecord.{MemoryRecord}
 use Rattle.records.specs.Slots.{roleCount}
-use Rattle.rules.specs.Arrow.{carriesLeft, carriesRight, countedLeft, countedRight, mirrors, r1, r2}
+use Rattle.rules.specs.Arrow.{Side, carries, countedFrom, mirrors, r1, r2, source, target}
 use Rattle.rules.specs.Evaluate.{oneWhole, sourcesHold, targetsHold}
 use Rattle.rules.specs.LinkRules.{mirrored, rule6, rule6For, rule7, rule7For, rule8, rule8For, sources, targets}
-use Rattle.rules.specs.Site.{Site}
 use Rattle.rules.specs.WholeRule.{rule9}
 use Rattle.memory_rules.specs.SiteIn.{siteIn}
 use Rattle.tables.specs.Tables.{Instances, RoleSlots}
 use Rattle.link_rules.specs.Judged.{Judged, Says}
-use Rattle.link_rules.specs.LinksIn.{Fits, endLimits, mirroredIn, rule6AtIn, rule6In, rule6LeftIn, rule6RightIn, rule7AtIn, rule7In, rule7LeftIn, rule7RightIn, rule8AtIn, rule8In, sourcesIn, targetsIn}
+use Rattle.link_rules.specs.LinksIn.{Fits, endLimits, mirroredIn, ownSourcesIn, ownTargetsIn, rule6AtIn, rule6In, rule7AtIn, rule7In, rule8AtIn, rule8In, sourceEnd, sourcesIn, targetEnd, targetsIn}
 use Rattle.link_rules.specs.WholesIn.{oneWholeIn, rule9In}
 use Rattle.link_rules.proofs.EndLaws.{KnownEnd, association-is, count-is, end-known, left-known, own-slot, right-known}
 use Rattle.link_rules.proofs.SideLaws.{mirrored-is, sources-is, targets-is}
@@ -72,49 +71,49 @@ module _ {d : Diagram} {m : MemoryRecord} {a : Associations} {links masks slots 
           let h : e < roleCount d = omega arith in
           omega (arith, j .roles .exact e h, own-slot d e h)
 
-  -- ---- links from any end to any other, with any limits
+  -- ---- the two ends of a side of association i
 
-  pub targets-ends : (limits : Limits) (from to : ℕ) → from < a .count * 2 → to < a .count * 2
-      → targetsIn a links masks slots n from to limits ≡ targets d (siteIn d m) (endIn a from) (endIn a to) limits
-  targets-ends limits from to hf ht =
-      moved (λ (k : List ℕ) (c : ℕ). targetsIn a k masks slots c from to limits)
-      ∙ targets-is d m a masks slots (j .instances) (end from hf) (end to ht) limits
+  source-known : (s : Side) (i : ℕ) → i < a .count → KnownEnd d a slots (sourceEnd s i)
+  source-known r2 i l = end (i * 2 + 0) (omega arith)
+  source-known r1 i l = end (i * 2 + 1) (omega arith)
 
-  pub sources-ends : (limits : Limits) (from to : ℕ) → from < a .count * 2 → to < a .count * 2
-      → sourcesIn a links masks slots n from to limits ≡ sources d (siteIn d m) (endIn a from) (endIn a to) limits
-  sources-ends limits from to hf ht =
-      moved (λ (k : List ℕ) (c : ℕ). sourcesIn a k masks slots c from to limits)
-      ∙ sources-is d m a masks slots (j .instances) (end from hf) (end to ht) limits
+  target-known : (s : Side) (i : ℕ) → i < a .count → KnownEnd d a slots (targetEnd s i)
+  target-known r2 i l = end (i * 2 + 1 - 0) (omega arith)
+  target-known r1 i l = end (i * 2 + 1 - 1) (omega arith)
+
+  source-is : (s : Side) (i : ℕ) → endIn a (sourceEnd s i) ≡ source s (associationIn a i)
+  unfolding associationIn
+  source-is r2 i = let e : i * 2 + 0 ≡ i * 2 = omega arith in ap (endIn a) e
+  source-is r1 i = refl
+
+  target-is : (s : Side) (i : ℕ) → endIn a (targetEnd s i) ≡ target s (associationIn a i)
+  unfolding associationIn
+  target-is r2 i = let e : i * 2 + 1 - 0 ≡ i * 2 + 1 = omega arith in ap (endIn a) e
+  target-is r1 i = let e : i * 2 + 1 - 1 ≡ i * 2 = omega arith in ap (endIn a) e
+
+  targets-ends : (s : Side) (limits : Limits) (i : ℕ) → i < a .count
+      → targetsIn a links masks slots n s i limits ≡ targets d (siteIn d m) (source s (associationIn a i)) (target s (associationIn a i)) limits
+  targets-ends s limits i l =
+      moved (λ (k : List ℕ) (c : ℕ). targetsIn a k masks slots c s i limits)
+      ∙ targets-is d m a masks slots (j .instances) s i (source-known s i l) (target-known s i l) limits
+      ∙ ap₂ (λ (f t : End). targets d (siteIn d m) f t limits) (source-is s i) (target-is s i)
+
+  sources-ends : (s : Side) (limits : Limits) (i : ℕ) → i < a .count
+      → sourcesIn a links masks slots n s i limits ≡ sources d (siteIn d m) (source s (associationIn a i)) (target s (associationIn a i)) limits
+  sources-ends s limits i l =
+      moved (λ (k : List ℕ) (c : ℕ). sourcesIn a k masks slots c s i limits)
+      ∙ sources-is d m a masks slots (j .instances) s i (source-known s i l) (target-known s i l) limits
+      ∙ ap₂ (λ (f t : End). sources d (siteIn d m) f t limits) (source-is s i) (target-is s i)
 
   -- ---- what the compiled records of association i state
 
-  pub targets-right : (limits : Limits) (i : ℕ) → i < a .count → targetsIn a links masks slots n (i * 2) (i * 2 + 1) limits ≡ targetsHold d (siteIn d m) (associationAt d i) r2 limits
-  unfolding targetsHold associationIn
-  targets-right limits i l =
-      moved (λ (k : List ℕ) (c : ℕ). targetsIn a k masks slots c (i * 2) (i * 2 + 1) limits)
-      ∙ targets-is d m a masks slots (j .instances) (left i l) (right i l) limits
-      ∙ ap (λ (x : Association). targetsHold d (siteIn d m) x r2 limits) (sym (association i l))
+  pub targets-side : (s : Side) (limits : Limits) (i : ℕ) → i < a .count → targetsIn a links masks slots n s i limits ≡ targetsHold d (siteIn d m) (associationAt d i) s limits
+  unfolding targetsHold
+  targets-side s limits i l = targets-ends s limits i l ∙ ap (λ (x : Association). targetsHold d (siteIn d m) x s limits) (sym (association i l))
 
-  pub targets-left : (limits : Limits) (i : ℕ) → i < a .count → targetsIn a links masks slots n (i * 2 + 1) (i * 2) limits ≡ targetsHold d (siteIn d m) (associationAt d i) r1 limits
-  unfolding targetsHold associationIn
-  targets-left limits i l =
-      moved (λ (k : List ℕ) (c : ℕ). targetsIn a k masks slots c (i * 2 + 1) (i * 2) limits)
-      ∙ targets-is d m a masks slots (j .instances) (right i l) (left i l) limits
-      ∙ ap (λ (x : Association). targetsHold d (siteIn d m) x r1 limits) (sym (association i l))
-
-  pub sources-right : (limits : Limits) (i : ℕ) → i < a .count → sourcesIn a links masks slots n (i * 2) (i * 2 + 1) limits ≡ sourcesHold d (siteIn d m) (associationAt d i) r2 limits
-  unfolding sourcesHold associationIn
-  sources-right limits i l =
-      moved (λ (k : List ℕ) (c : ℕ). sourcesIn a k masks slots c (i * 2) (i * 2 + 1) limits)
-      ∙ sources-is d m a masks slots (j .instances) (left i l) (right i l) limits
-      ∙ ap (λ (x : Association). sourcesHold d (siteIn d m) x r2 limits) (sym (association i l))
-
-  pub sources-left : (limits : Limits) (i : ℕ) → i < a .count → sourcesIn a links masks slots n (i * 2 + 1) (i * 2) limits ≡ sourcesHold d (siteIn d m) (associationAt d i) r1 limits
-  unfolding sourcesHold associationIn
-  sources-left limits i l =
-      moved (λ (k : List ℕ) (c : ℕ). sourcesIn a k masks slots c (i * 2 + 1) (i * 2) limits)
-      ∙ sources-is d m a masks slots (j .instances) (right i l) (left i l) limits
-      ∙ ap (λ (x : Association). sourcesHold d (siteIn d m) x r1 limits) (sym (association i l))
+  pub sources-side : (s : Side) (limits : Limits) (i : ℕ) → i < a .count → sourcesIn a links masks slots n s i limits ≡ sourcesHold d (siteIn d m) (associationAt d i) s limits
+  unfolding sourcesHold
+  sources-side s limits i l = sources-ends s limits i l ∙ ap (λ (x : Association). sourcesHold d (siteIn d m) x s limits) (sym (association i l))
 
   pub mirrored-at : (i : ℕ) → i < a .count → mirroredIn a links masks slots n i ≡ mirrored d (siteIn d m) (associationAt d i)
   mirrored-at i l =
@@ -130,23 +129,29 @@ module _ {d : Diagram} {m : MemoryRecord} {a : Associations} {links masks slots 
 
   -- ---- the rules
 
+  rule6-side : (s : Side) (i : ℕ) → i < a .count → imp (carries s (associationIn a i)) (ownTargetsIn a links masks slots n s i) ≡ rule6For d (siteIn d m) s (associationIn a i)
+  unfolding ownTargetsIn rule6For endIn
+  rule6-side s i l =
+      let x = associationIn a i in
+      ap (imp (carries s x)) (targets-ends s (endLimits a (targetEnd s i)) i l ∙ ap (λ (t : End). targets d (siteIn d m) (source s x) (target s x) (t .limits)) (target-is s i))
+
   pub rule6-judged : rule6In a links masks slots n ≡ rule6 d (siteIn d m)
-  unfolding rule6In rule6AtIn rule6RightIn rule6LeftIn rule6 rule6For associationIn endIn
+  unfolding rule6In rule6AtIn rule6 associationIn
   rule6-judged =
-      moved (λ (k : List ℕ) (c : ℕ). rule6In a k masks slots c)
-      ∙ each (rule6AtIn a (m .links) masks slots (m .count)) (λ x. both (rule6For d (siteIn d m) r2 x) (rule6For d (siteIn d m) r1 x)) (λ i l.
-      ap₂ (λ (x y : Bool). both (imp (carriesRight (getD (a .arrows) i 0)) x) (imp (carriesLeft (getD (a .arrows) i 0)) y))
-      (targets-is d m a masks slots (j .instances) (left i l) (right i l) (endLimits a (i * 2 + 1)))
-      (targets-is d m a masks slots (j .instances) (right i l) (left i l) (endLimits a (i * 2))))
+      each (rule6AtIn a links masks slots n) (λ x. both (rule6For d (siteIn d m) r2 x) (rule6For d (siteIn d m) r1 x)) (λ i l.
+      ap₂ (λ (x y : Bool). both x y) (rule6-side r2 i l) (rule6-side r1 i l))
+
+  rule7-side : (s : Side) (i : ℕ) → i < a .count → imp (countedFrom s (associationIn a i)) (ownSourcesIn a links masks slots n s i) ≡ rule7For d (siteIn d m) s (associationIn a i)
+  unfolding ownSourcesIn rule7For endIn
+  rule7-side s i l =
+      let x = associationIn a i in
+      ap (imp (countedFrom s x)) (sources-ends s (endLimits a (sourceEnd s i)) i l ∙ ap (λ (f : End). sources d (siteIn d m) (source s x) (target s x) (f .limits)) (source-is s i))
 
   pub rule7-judged : rule7In a links masks slots n ≡ rule7 d (siteIn d m)
-  unfolding rule7In rule7AtIn rule7RightIn rule7LeftIn rule7 rule7For associationIn endIn
+  unfolding rule7In rule7AtIn rule7 associationIn
   rule7-judged =
-      moved (λ (k : List ℕ) (c : ℕ). rule7In a k masks slots c)
-      ∙ each (rule7AtIn a (m .links) masks slots (m .count)) (λ x. both (rule7For d (siteIn d m) r2 x) (rule7For d (siteIn d m) r1 x)) (λ i l.
-      ap₂ (λ (x y : Bool). both (imp (countedRight (getD (a .arrows) i 0)) x) (imp (countedLeft (getD (a .arrows) i 0)) y))
-      (sources-is d m a masks slots (j .instances) (left i l) (right i l) (endLimits a (i * 2)))
-      (sources-is d m a masks slots (j .instances) (right i l) (left i l) (endLimits a (i * 2 + 1))))
+      each (rule7AtIn a links masks slots n) (λ x. both (rule7For d (siteIn d m) r2 x) (rule7For d (siteIn d m) r1 x)) (λ i l.
+      ap₂ (λ (x y : Bool). both x y) (rule7-side r2 i l) (rule7-side r1 i l))
 
   pub rule8-judged : rule8In a links masks slots n ≡ rule8 d (siteIn d m)
   unfolding rule8In rule8AtIn rule8 rule8For associationIn

@@ -7,9 +7,9 @@ use mathlib.Core.List.{List}
 use mathlib.Core.Path.{_≡_, refl, sym, ap, ap₂, _∙_}
 use lib.Bits.{bitOr}
 use lib.Dec.{eqb, leb, ltb}
-use lib.ListN.{getD, length}
+use lib.ListN.{getD}
 use Rattle.laws.specs.Bits.{Marks, bit}
-use Rattle.laws.specs.Bounded.{all, any, tally}
+use Rattle.laws.specs.Bounded.{any, tally}
 use Rattle.laws.specs.Connective.{both, imp}
 use Rattle.laws.proofs.BitLaws.{bit-or, bit-zero}
 use Rattle.laws.proofs.BoundedLaws.{all-ext, any-ext, any-more}
@@ -18,7 +18,7 @@ use Rattle.laws.proofs.MaskLaws.{tally-masked}
 use Rattle.files.specs.Diagram.{Association, Diagram, associationAt, isComposition}
 use Rattle.files.specs.WellFormedDiagram.{WfDiagram}
 use Rattle.diagrams.specs.declared.Associations.{Associations}
-use Rattle.diagrams.specs.View.{associationIn, associationsOf, endIn}
+use Rattle.diagrams.specs.View.{associationIn, associationsOf}
 use Rattle.records.specs.declared.MemoryRecord.{MemoryRecord}
 use Rattle.rules.specs.Evaluate.{oneWhole}
 use Rattle.rules.specs.WholeRule.{isWhole, rule9, rule9At, wholeBy}
@@ -27,7 +27,7 @@ use Rattle.masks.specs.Masks.{wholeIn}
 use Rattle.tables.specs.Tables.{Instances, RoleSlots}
 use Rattle.link_rules.specs.LinksIn.{instancesIn}
 use Rattle.link_rules.specs.WholesIn.{isWholeIn, oneWholeAtIn, oneWholeIn, rule9AtIn, rule9In, wholeAmong, wholeByIn}
-use Rattle.link_rules.proofs.EndLaws.{KnownEnd, association-is, count-is, left-known, right-known}
+use Rattle.link_rules.proofs.EndLaws.{association-is, count-is, left-known, right-known}
 use Rattle.link_rules.proofs.SideLaws.{at-is, linked-is}
 
 -- ---- the mask of an object's wholes

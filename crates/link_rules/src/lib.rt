@@ -1,14 +1,17 @@
 // Rules 6 to 9 on a record in memory, by its diagram's associations and the tables: for each type a mask of its instances, for
 // each end the slot of its role. The left end of association i is end i * 2, the right one end i * 2 + 1.
 ghost use mathlib.Core.Path.{_≡_};
-ghost use Prim.Native.Nat.{ℕ, _<_, _≤_, _*_, _+_};
+ghost use Prim.Native.Nat.{_<_, _≤_, _*_};
 ghost use lib.ListN.{getD};
 ghost use Rattle.laws.specs.Bits.{Marks};
 ghost use Rattle.masks.specs.Masks.{limitsOf};
+ghost use Rattle.laws.specs.Connective.{imp};
+ghost use Rattle.rules.specs.Compile.{sideNumber};
+ghost use Rattle.rules.specs.Evaluate.{sideOf};
 ghost use Rattle.rules.specs.LinkRules.{rule6, rule7, rule8};
 ghost use Rattle.rules.specs.WholeRule.{rule9};
 ghost use Rattle.link_rules.specs.Judged.{Says};
-ghost use Rattle.link_rules.specs.LinksIn.{Fits, instancesIn, targetsIn, rule6RightIn, rule6LeftIn, rule6AtIn, rule6In, sourcesIn, rule7RightIn, rule7LeftIn, rule7AtIn, rule7In, mirroredIn, rule8AtIn, rule8In};
+ghost use Rattle.link_rules.specs.LinksIn.{Fits, instancesIn, targetsIn, ownTargetsIn, rule6AtIn, rule6In, sourcesIn, ownSourcesIn, rule7AtIn, rule7In, mirroredIn, rule8AtIn, rule8In};
 ghost use Rattle.link_rules.specs.WholesIn.{wholeByIn, isWholeIn, rule9AtIn, rule9In, oneWholeAtIn, oneWholeIn};
 use diagrams::Associations;
 
@@ -30,70 +33,60 @@ fn slot<'a>(a: Associations, slots: &'a [u8; 32], n: u8, e: usize) -> u8
     slots[e]
 }
 
+// ---- sides: 0 for r2, whose links go from the left end to the right one; any other for r1, whose links go back
+
+// Which of an association's two ends a side's links come from.
+fn source_of(side: u8) -> usize
+    ensures { λ r. ⌜ (r ≡ sideNumber (sideOf side)) × (r ≤ 1) ⌝ }
+{
+    if side == 0 { 0 } else { 1 }
+}
+
 // ---- rule 6
 
-// Each instance of the one end has only instances of the other as targets, and as many as the limits say.
+// For a side of association i: each instance of the end that its links come from has only instances of the other end as targets,
+// and as many as the limits say.
 pub fn targets_hold<'a>(
     a: Associations,
     links: &'a [u8; 256],
     masks: &'a [u8; 24],
     slots: &'a [u8; 32],
     n: u8,
-    from: usize,
-    to: usize,
+    i: usize,
+    side: u8,
     low: u16,
     up: u16,
 ) -> bool
-    requires { ⌜ Fits a (now slots) n × ((from < a .count * 2) × (to < a .count * 2)) ⌝ }
-    ensures { λ r. ⌜ r ≡ targetsIn a (now (links .entry)) (now (masks .entry)) (now (slots .entry)) n from to (limitsOf low up) ⌝ }
+    requires { ⌜ Fits a (now slots) n × (i < a .count) ⌝ }
+    ensures { λ r. ⌜ r ≡ targetsIn a (now (links .entry)) (now (masks .entry)) (now (slots .entry)) n (sideOf side) i (limitsOf low up) ⌝ }
 {
+    let s = source_of(side);
+    let from = i * 2 + s;
+    let to = i * 2 + 1 - s;
     let owners = instances(a, masks, from);
     let targets = instances(a, masks, to);
     masks::rows_fit(links, slot(a, slots, n, to), owners, targets, low, up, n)
 }
 
-// If r2 is carried: rule 6 from the left end to the right one, with the right end's limits.
-fn rule6_right<'a>(
+// Rule 6 for a side of association i, if its links are carried, with the limits of the end that they go to.
+fn rule6_side<'a>(
     a: Associations,
     links: &'a [u8; 256],
     masks: &'a [u8; 24],
     slots: &'a [u8; 32],
     n: u8,
     i: usize,
+    side: u8,
+    carried: bool,
 ) -> bool
     requires { ⌜ Fits a (now slots) n × (i < a .count) ⌝ }
-    ensures { λ r. ⌜ r ≡ rule6RightIn a (now (links .entry)) (now (masks .entry)) (now (slots .entry)) n i ⌝ }
+    ensures { λ r. ⌜ r ≡ imp carried (ownTargetsIn a (now (links .entry)) (now (masks .entry)) (now (slots .entry)) n (sideOf side) i) ⌝ }
 {
-    if !arrows::carries_right(a.arrows[i]) {
+    if !carried {
         return true;
     }
-    let left = i * 2;
-    let right = i * 2 + 1;
-    let low = a.lows[right];
-    let up = a.ups[right];
-    targets_hold(a, links, masks, slots, n, left, right, low, up)
-}
-
-// If r1 is carried: rule 6 from the right end to the left one, with the left end's limits.
-fn rule6_left<'a>(
-    a: Associations,
-    links: &'a [u8; 256],
-    masks: &'a [u8; 24],
-    slots: &'a [u8; 32],
-    n: u8,
-    i: usize,
-) -> bool
-    requires { ⌜ Fits a (now slots) n × (i < a .count) ⌝ }
-    ensures { λ r. ⌜ r ≡ rule6LeftIn a (now (links .entry)) (now (masks .entry)) (now (slots .entry)) n i ⌝ }
-{
-    if !arrows::carries_left(a.arrows[i]) {
-        return true;
-    }
-    let left = i * 2;
-    let right = i * 2 + 1;
-    let low = a.lows[left];
-    let up = a.ups[left];
-    targets_hold(a, links, masks, slots, n, right, left, low, up)
+    let to = i * 2 + 1 - source_of(side);
+    targets_hold(a, links, masks, slots, n, i, side, a.lows[to], a.ups[to])
 }
 
 // Rule 6 for association i.
@@ -108,10 +101,12 @@ fn rule6_at<'a>(
     requires { ⌜ Fits a (now slots) n × (i < a .count) ⌝ }
     ensures { λ r. ⌜ r ≡ rule6AtIn a (now (links .entry)) (now (masks .entry)) (now (slots .entry)) n i ⌝ }
 {
-    if !rule6_right(a, links, masks, slots, n, i) {
+    let arrow = a.arrows[i];
+    let right = arrows::carries_right(arrow);
+    if !rule6_side(a, links, masks, slots, n, i, 0, right) {
         return false;
     }
-    rule6_left(a, links, masks, slots, n, i)
+    rule6_side(a, links, masks, slots, n, i, 1, arrows::carries_left(arrow))
 }
 
 // Rule 6, for each association.
@@ -137,68 +132,59 @@ pub fn rule6<'a>(
 
 // ---- rule 7
 
-// Each instance of the other end is the target of as many instances of the one as the limits say.
+// For a side of association i: each instance of the end that its links go to is the target of as many instances of the other end
+// as the limits say.
 pub fn sources_hold<'a>(
     a: Associations,
     links: &'a [u8; 256],
     masks: &'a [u8; 24],
     slots: &'a [u8; 32],
     n: u8,
-    from: usize,
-    to: usize,
+    i: usize,
+    side: u8,
     low: u16,
     up: u16,
 ) -> bool
-    requires { ⌜ Fits a (now slots) n × ((from < a .count * 2) × (to < a .count * 2)) ⌝ }
-    ensures { λ r. ⌜ r ≡ sourcesIn a (now (links .entry)) (now (masks .entry)) (now (slots .entry)) n from to (limitsOf low up) ⌝ }
+    requires { ⌜ Fits a (now slots) n × (i < a .count) ⌝ }
+    ensures { λ r. ⌜ r ≡ sourcesIn a (now (links .entry)) (now (masks .entry)) (now (slots .entry)) n (sideOf side) i (limitsOf low up) ⌝ }
 {
+    let s = source_of(side);
+    let from = i * 2 + s;
+    let to = i * 2 + 1 - s;
     let sources = instances(a, masks, from);
     let targets = instances(a, masks, to);
     masks::columns_fit(links, slot(a, slots, n, to), sources, targets, low, up, n)
 }
 
-// Arrow 1: rule 7 from the left end to the right one, with the left end's limits.
-fn rule7_right<'a>(
+// Rule 7 for a side of association i, if its sources are counted, with the limits of the end that its links come from.
+fn rule7_side<'a>(
     a: Associations,
     links: &'a [u8; 256],
     masks: &'a [u8; 24],
     slots: &'a [u8; 32],
     n: u8,
     i: usize,
+    side: u8,
+    counted: bool,
 ) -> bool
     requires { ⌜ Fits a (now slots) n × (i < a .count) ⌝ }
-    ensures { λ r. ⌜ r ≡ rule7RightIn a (now (links .entry)) (now (masks .entry)) (now (slots .entry)) n i ⌝ }
+    ensures { λ r. ⌜ r ≡ imp counted (ownSourcesIn a (now (links .entry)) (now (masks .entry)) (now (slots .entry)) n (sideOf side) i) ⌝ }
 {
-    if !arrows::counted_right(a.arrows[i]) {
+    if !counted {
         return true;
     }
-    let left = i * 2;
-    let right = i * 2 + 1;
-    let least = a.lows[left];
-    let most = a.ups[left];
-    sources_hold(a, links, masks, slots, n, left, right, least, most)
-}
-
-// Arrow 2: rule 7 from the right end to the left one, with the right end's limits.
-fn rule7_left<'a>(
-    a: Associations,
-    links: &'a [u8; 256],
-    masks: &'a [u8; 24],
-    slots: &'a [u8; 32],
-    n: u8,
-    i: usize,
-) -> bool
-    requires { ⌜ Fits a (now slots) n × (i < a .count) ⌝ }
-    ensures { λ r. ⌜ r ≡ rule7LeftIn a (now (links .entry)) (now (masks .entry)) (now (slots .entry)) n i ⌝ }
-{
-    if !arrows::counted_left(a.arrows[i]) {
-        return true;
-    }
-    let left = i * 2;
-    let right = i * 2 + 1;
-    let least = a.lows[right];
-    let most = a.ups[right];
-    sources_hold(a, links, masks, slots, n, right, left, least, most)
+    let from = i * 2 + source_of(side);
+    sources_hold(
+        a,
+        links,
+        masks,
+        slots,
+        n,
+        i,
+        side,
+        a.lows[from],
+        a.ups[from],
+    )
 }
 
 // Rule 7 for association i.
@@ -213,10 +199,12 @@ fn rule7_at<'a>(
     requires { ⌜ Fits a (now slots) n × (i < a .count) ⌝ }
     ensures { λ r. ⌜ r ≡ rule7AtIn a (now (links .entry)) (now (masks .entry)) (now (slots .entry)) n i ⌝ }
 {
-    if !rule7_right(a, links, masks, slots, n, i) {
+    let arrow = a.arrows[i];
+    let right = arrows::counted_right(arrow);
+    if !rule7_side(a, links, masks, slots, n, i, 0, right) {
         return false;
     }
-    rule7_left(a, links, masks, slots, n, i)
+    rule7_side(a, links, masks, slots, n, i, 1, arrows::counted_left(arrow))
 }
 
 // Rule 7, for each association.

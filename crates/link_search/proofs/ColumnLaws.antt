@@ -7,46 +7,40 @@ use mathlib.Core.Logic.{_⊎_, ⊎-elim}
 use mathlib.Core.List.{List}
 use native.Mathlib.Nat.{le-refl}
 use native.Mathlib.Omega.{arith}
-use lib.Dec.{ltb}
 use lib.ListN.{getD}
-use borrow.Author.Tests.{lt-ltb}
 use Rattle.laws.specs.Bits.{bit, Marks}
 use Rattle.laws.specs.Bounded.{tally}
 use Rattle.laws.proofs.ConnectiveLaws.{and-left, and-right, and-both}
 use Rattle.laws.proofs.CountLaws.{tally-le}
-use Rattle.laws.proofs.MaskLaws.{tally-masked}
-use Rattle.link_search.specs.Nets.{Net, netOf, Between, Within}
-use Rattle.link_search.specs.Families.{source, Columns, Slots}
-use Rattle.link_search.specs.Answers.{Judged, ColumnSaid, Looked}
+use Rattle.laws.proofs.MaskLaws.{tally-masked, marks-at}
+use Rattle.link_search.specs.Nets.{Net, netOf, Between, InLimits}
+use Rattle.link_search.specs.Families.{source, Columns}
+use Rattle.link_search.specs.Answers.{BitsJudged, ColumnSaid, Looked}
 use Rattle.link_search.specs.declared.Sight.{Sight}
 use Rattle.link_search.proofs.SeenLaws.{Seen, seen-fine, seen-spot, seen-done}
 
--- a bit of a mask below its width
-marked : (q : ℕ → Bool) (m k : ℕ) → Marks q 8 m → k < 8 → bit k m ≡ q k
-marked q m k f l = f k ∙ ap (λ (b : Bool). b && q k) (lt-ltb k 8 l)
-
 module _ (slot from low high must may : List ℕ) where
   abbrev pub ColumnFine : ℕ → ℕ → Net → Type 0
-  ColumnFine j p w = Within (getD low (j * 8 + p) 0) (getD high (j * 8 + p) 0) (tally (source slot from w j p) 8)
+  ColumnFine j p w = InLimits (getD low (j * 8 + p) 0) (getD high (j * 8 + p) 0) (tally (source slot from w j p) 8)
 
   pub column-said : (j p y a v : ℕ) → p < 8 → getD slot j 0 < 32 → Marks (source slot from (netOf must) j p) 8 y → Marks (source slot from (netOf may) j p) 8 a
-      → Judged y a (getD low (j * 8 + p) 0) (getD high (j * 8 + p) 0) v → ColumnSaid slot from low high must may j p v
+      → BitsJudged y a (getD low (j * 8 + p) 0) (getD high (j * 8 + p) 0) v → ColumnSaid slot from low high must may j p v
   column-said j p y a v hp hs ys ms g =
       let s = getD slot j 0 in
       let here : ℕ → Bool = λ (o : ℕ). bit o (getD from j 0) in
       record {
-        fine = λ e. subst (Within (getD low (j * 8 + p) 0) (getD high (j * 8 + p) 0)) (tally-masked (source slot from (netOf must) j p) y 8 8 (le-refl 8) ys) (g .fine e);
+        fine = λ e. subst (InLimits (getD low (j * 8 + p) 0) (getD high (j * 8 + p) 0)) (tally-masked (source slot from (netOf must) j p) y 8 8 (le-refl 8) ys) (g .fine e);
         dead = λ e w b ok. g .dead e (source slot from w j p)
-            (λ o l h. let z : source slot from (netOf must) j p o ≡ true = sym (marked (source slot from (netOf must) j p) y o ys l) ∙ h in
+            (λ o l h. let z : source slot from (netOf must) j p o ≡ true = sym (marks-at (source slot from (netOf must) j p) 8 y ys o l) ∙ h in
             and-both (here o) (w (o * 32 + s) p) (and-left (here o) (netOf must (o * 32 + s) p) z)
             (b .least (o * 32 + s) p (omega arith) hp (and-right (here o) (netOf must (o * 32 + s) p) z)))
             (λ o l h f. let i = and-left (here o) (w (o * 32 + s) p) h in
-            marked (source slot from (netOf may) j p) a o ms l
+            marks-at (source slot from (netOf may) j p) 8 a ms o l
             ∙ and-both (here o) (netOf may (o * 32 + s) p) i
             (b .most (o * 32 + s) p (omega arith) hp (and-right (here o) (w (o * 32 + s) p) h)
-            (sym (ap (λ (t : Bool). t && netOf must (o * 32 + s) p) i) ∙ sym (marked (source slot from (netOf must) j p) y o ys l) ∙ f)))
+            (sym (ap (λ (t : Bool). t && netOf must (o * 32 + s) p) i) ∙ sym (marks-at (source slot from (netOf must) j p) 8 y ys o l) ∙ f)))
             ok;
-        spot = λ l. and-right (here v) (netOf may (v * 32 + s) p) (sym (marked (source slot from (netOf may) j p) a v ms l) ∙ g .spot l);
+        spot = λ l. and-right (here v) (netOf may (v * 32 + s) p) (sym (marks-at (source slot from (netOf may) j p) 8 a ms v l) ∙ g .spot l);
         few = g .few;
       }
 

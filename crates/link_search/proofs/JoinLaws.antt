@@ -8,7 +8,7 @@ use native.Mathlib.Omega.{arith}
 use lib.Dec.{eqb}
 use borrow.Author.Tests.{eqb-true, eqb-false, eq-eqb, ne-eqb}
 use Rattle.link_search.specs.Nets.{Net, netOf}
-use Rattle.link_search.specs.Families.{Rows, Columns, Mirrors, Wholes, Fits}
+use Rattle.link_search.specs.Families.{RowsFit, Columns, Mirrors, Wholes, NetFits}
 use Rattle.link_search.specs.Answers.{Looked, joined}
 use Rattle.link_search.specs.declared.Sight.{Sight}
 
@@ -59,14 +59,14 @@ looked-dead-part f e x = record {
 
 -- everything, mirrors first: a bit that a mirror wants has no other value
 module _ {rowLow rowHigh columnSlot columnFrom columnLow columnHigh mirrorRight mirrorLeft mirrorFrom mirrorTo wholeSlot wholeFrom wholeTo must may : List ℕ} {a b d e : Sight} where
-  pub looked-fits : Looked (Rows rowLow rowHigh) must may a → Looked (Columns columnSlot columnFrom columnLow columnHigh) must may b
+  pub looked-fits : Looked (RowsFit rowLow rowHigh) must may a → Looked (Columns columnSlot columnFrom columnLow columnHigh) must may b
       → Looked (Mirrors mirrorRight mirrorLeft mirrorFrom mirrorTo) must may d → Looked (Wholes wholeSlot wholeFrom wholeTo) must may e
-      → Looked (Fits rowLow rowHigh columnSlot columnFrom columnLow columnHigh mirrorRight mirrorLeft mirrorFrom mirrorTo wholeSlot wholeFrom wholeTo) must may
+      → Looked (NetFits rowLow rowHigh columnSlot columnFrom columnLow columnHigh mirrorRight mirrorLeft mirrorFrom mirrorTo wholeSlot wholeFrom wholeTo) must may
       (joined (joined (joined d a) b) e)
   looked-fits x y z v =
-      let p = looked-both (Mirrors mirrorRight mirrorLeft mirrorFrom mirrorTo) (Rows rowLow rowHigh) must may d a z x in
-      let q = looked-both (λ w. Mirrors mirrorRight mirrorLeft mirrorFrom mirrorTo w × Rows rowLow rowHigh w) (Columns columnSlot columnFrom columnLow columnHigh) must may (joined d a) b p y in
-      let r = looked-both (λ w. (Mirrors mirrorRight mirrorLeft mirrorFrom mirrorTo w × Rows rowLow rowHigh w) × Columns columnSlot columnFrom columnLow columnHigh w)
+      let p = looked-both (Mirrors mirrorRight mirrorLeft mirrorFrom mirrorTo) (RowsFit rowLow rowHigh) must may d a z x in
+      let q = looked-both (λ w. Mirrors mirrorRight mirrorLeft mirrorFrom mirrorTo w × RowsFit rowLow rowHigh w) (Columns columnSlot columnFrom columnLow columnHigh) must may (joined d a) b p y in
+      let r = looked-both (λ w. (Mirrors mirrorRight mirrorLeft mirrorFrom mirrorTo w × RowsFit rowLow rowHigh w) × Columns columnSlot columnFrom columnLow columnHigh w)
       (Wholes wholeSlot wholeFrom wholeTo) must may (joined (joined d a) b) e q v in
       record {
         fine = λ h. let t = r .fine h in record { mirrors = t .0 .0 .0; rows = t .0 .0 .1; columns = t .0 .1; wholes = t .1 };

@@ -1,6 +1,6 @@
 -- A link and the link back: what must stand of either wants the other, and a net between has both or neither.
 -- Assumes nothing.
-use Prim.Native.Nat.{ℕ, _+_, _*_, _/_, _%_, _≤_, _<_}
+use Prim.Native.Nat.{ℕ, _+_, _*_, _/_, _%_, _<_}
 use mathlib.Core.Path.{_≡_, sym, subst, _∙_}
 use mathlib.Core.Bool.{Bool, true, false}
 use mathlib.Core.List.{List}
@@ -8,9 +8,9 @@ use native.Mathlib.Omega.{arith}
 use lib.ListN.{getD}
 use Rattle.laws.specs.Bits.{bit}
 use Rattle.laws.proofs.ConnectiveLaws.{true-false}
-use Rattle.link_search.specs.Nets.{Net, netOf, Between}
+use Rattle.link_search.specs.Nets.{Net, netOf}
 use Rattle.link_search.specs.Families.{MirrorHolds, Mirrors}
-use Rattle.link_search.specs.Answers.{Paired, MirrorSaid, Looked}
+use Rattle.link_search.specs.Answers.{Paired, MirrorSaid}
 
 module _ (first mayFirst second maySecond : Bool) where
   pub pair-same : first ≡ second → Paired first mayFirst second maySecond 0

@@ -1,7 +1,7 @@
 -- One bit decided: the nets between the narrower bounds are those between the wider ones that agree at the bit, and one bit less
 -- is open. A try that fails is undone.
 -- Assumes nothing.
-use Prim.Native.Nat.{ℕ, _+_, _*_, _/_, _%_, _≤_, _<_}
+use Prim.Native.Nat.{ℕ, _+_, _*_, _/_, _%_, _<_}
 use mathlib.Core.Path.{_≡_, refl, sym, ap, subst, _∙_}
 use mathlib.Core.Bool.{Bool, true, false, not, _&&_, _||_, true≢false, false≢true, and-false, and-true, or-false, or-true}
 use mathlib.Core.List.{List}
@@ -14,7 +14,7 @@ use Rattle.laws.specs.Bits.{bit}
 use Rattle.laws.proofs.ConnectiveLaws.{true-false}
 use Rattle.laws.proofs.CountLaws.{tally-less}
 use Rattle.link_search.specs.Nets.{Net, netOf, Between, openBits}
-use Rattle.link_search.specs.Answers.{Answer}
+use Rattle.link_search.specs.Answers.{NetAnswer}
 
 -- what holds at one bit, and at every other
 pub spot-cases : (P : ℕ → ℕ → Type 0) (i p : ℕ) → P i p → ((j q : ℕ) → (j ≡ i → q ≡ p → ⊥) → P j q) → (j q : ℕ) → P j q
@@ -89,7 +89,7 @@ fewer may i p may′ hi hp spot off =
 
 module _ (C : Net → Type 0) (must may : List ℕ) where
   -- nothing is missing: the net of what must stand
-  pub answer-fine : C (netOf must) → Answer C must may must may true
+  pub answer-fine : C (netOf must) → NetAnswer C must may must may true
   answer-fine h = record {
     between = λ e. record { least = λ i p a b t. t; most = λ i p a b t f. absurd (true-false t f) };
     sound = λ e. h;
@@ -98,7 +98,7 @@ module _ (C : Net → Type 0) (must may : List ℕ) where
     complete = λ e. absurd (true≢false e);
   }
 
-  pub answer-dead : ((w : Net) → Between must may w → C w → ⊥) → Answer C must may must may false
+  pub answer-dead : ((w : Net) → Between must may w → C w → ⊥) → NetAnswer C must may must may false
   answer-dead h = record {
     between = λ e. absurd (false≢true e);
     sound = λ e. absurd (false≢true e);
@@ -134,7 +134,7 @@ module _ (C : Net → Type 0) {must may : List ℕ} {i p y m : ℕ} (r : Try mus
   try-long-may = length-set may i m ∙ r .longMay
 
   -- the first try found a net
-  pub answer-first : {u v : List ℕ} {f : Bool} → Answer C (set must i y) (set may i m) u v f → f ≡ true → Answer C must may u v true
+  pub answer-first : {u v : List ℕ} {f : Bool} → NetAnswer C (set must i y) (set may i m) u v f → f ≡ true → NetAnswer C must may u v true
   answer-first {u} {v} {f} a h = record {
     between = λ e. widen must may i p (r .spot) (set must i y) (set may i m) decided true (λ x. refl) linked (netOf u) (a .between h);
     sound = λ e. a .sound h;
@@ -144,7 +144,7 @@ module _ (C : Net → Type 0) {must may : List ℕ} {i p y m : ℕ} (r : Try mus
   }
 
   -- it found none, and left u and v
-  module _ {u v : List ℕ} {f : Bool} (a : Answer C (set must i y) (set may i m) u v f) (none : f ≡ false) where
+  module _ {u v : List ℕ} {f : Bool} (a : NetAnswer C (set must i y) (set may i m) u v f) (none : f ≡ false) where
     pub back-must : set u i (getD must i 0) ≡ must
     back-must = ap (λ (l : List ℕ). set l i (getD must i 0)) (a .kept none) ∙ put-back must i y (getD must i 0) refl
 
@@ -157,11 +157,11 @@ module _ (C : Net → Type 0) {must may : List ℕ} {i p y m : ℕ} (r : Try mus
     pub again-long-may : length v ≡ 256
     again-long-may = ap length (a .keptMay none) ∙ try-long-may
 
-    module _ {s t : List ℕ} {g : Bool} (b : Answer C (set u i (getD must i 0)) v s t g) where
-      second : Answer C must (set may i m) s t g
-      second = subst (λ (l : List ℕ). Answer C must l s t g) (a .keptMay none) (subst (λ (l : List ℕ). Answer C l v s t g) back-must b)
+    module _ {s t : List ℕ} {g : Bool} (b : NetAnswer C (set u i (getD must i 0)) v s t g) where
+      second : NetAnswer C must (set may i m) s t g
+      second = subst (λ (l : List ℕ). NetAnswer C must l s t g) (a .keptMay none) (subst (λ (l : List ℕ). NetAnswer C l v s t g) back-must b)
 
-      pub answer-second : g ≡ true → Answer C must may s t true
+      pub answer-second : g ≡ true → NetAnswer C must may s t true
       answer-second h = record {
         between = λ e. widen must may i p (r .spot) must (set may i m) decided (netOf must i p) (λ x. x) (record { here = refl; else = λ j q n. refl }) (netOf s) (second .between h);
         sound = λ e. second .sound h;
@@ -170,7 +170,7 @@ module _ (C : Net → Type 0) {must may : List ℕ} {i p y m : ℕ} (r : Try mus
         complete = λ e. absurd (true≢false e);
       }
 
-      pub answer-none : g ≡ false → Answer C must may s (set t i (getD may i 0)) false
+      pub answer-none : g ≡ false → NetAnswer C must may s (set t i (getD may i 0)) false
       answer-none h = record {
         between = λ e. absurd (false≢true e);
         sound = λ e. absurd (false≢true e);

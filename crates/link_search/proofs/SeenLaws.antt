@@ -9,9 +9,9 @@ use native.Mathlib.Omega.{arith}
 use lib.ListN.{getD}
 use borrow.Author.Count.{below-more}
 use Rattle.laws.specs.Bounded.{tally}
-use Rattle.link_search.specs.Nets.{Net, netOf, Between, Within}
-use Rattle.link_search.specs.Families.{Rows}
-use Rattle.link_search.specs.Answers.{Judged, Looked}
+use Rattle.link_search.specs.Nets.{Net, netOf, Between, InLimits}
+use Rattle.link_search.specs.Families.{RowsFit}
+use Rattle.link_search.specs.Answers.{BitsJudged, Looked}
 use Rattle.link_search.specs.declared.Sight.{Sight}
 
 -- the bit p of row i is wanted
@@ -96,12 +96,12 @@ module _ (C : Net → Type 0) (must may : List ℕ) where
 -- rows
 module _ (low high must may : List ℕ) where
   abbrev pub RowJudged : ℕ → ℕ → Type 0
-  RowJudged i v = Judged (getD must i 0) (getD may i 0) (getD low i 0) (getD high i 0) v
+  RowJudged i v = BitsJudged (getD must i 0) (getD may i 0) (getD low i 0) (getD high i 0) v
 
   abbrev pub RowFine : ℕ → Type 0
-  RowFine i = Within (getD low i 0) (getD high i 0) (tally (netOf must i) 8)
+  RowFine i = InLimits (getD low i 0) (getD high i 0) (tally (netOf must i) 8)
 
-  pub row-dead : (i v : ℕ) → i < 256 → v ≡ 9 → RowJudged i v → (w : Net) → Between must may w → Rows low high w → ⊥
+  pub row-dead : (i v : ℕ) → i < 256 → v ≡ 9 → RowJudged i v → (w : Net) → Between must may w → RowsFit low high w → ⊥
   row-dead i v h e j w b r = j .dead e (w i) (λ k l. b .least i k h l) (λ k l. b .most i k h l) (r .at i h)
 
   -- one more row

@@ -1,13 +1,13 @@
 -- A net between has each whole that must be one: two of them for one part are too many.
 -- Assumes nothing.
-use Prim.Native.Nat.{ℕ, _+_, _*_, _≤_, _<_}
+use Prim.Native.Nat.{ℕ, _+_, _*_, _<_}
 use mathlib.Core.Path.{_≡_}
 use mathlib.Core.Bool.{Bool, true, _&&_}
 use mathlib.Core.List.{List}
 use native.Mathlib.Omega.{arith}
 use lib.ListN.{getD}
 use Rattle.laws.specs.Bits.{bit}
-use Rattle.laws.specs.Bounded.{tally, any}
+use Rattle.laws.specs.Bounded.{tally}
 use Rattle.laws.proofs.ConnectiveLaws.{and-left, and-right, and-both}
 use Rattle.laws.proofs.BoundedLaws.{any-at, any-of}
 use Rattle.laws.proofs.CountLaws.{tally-mono}

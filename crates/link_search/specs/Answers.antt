@@ -8,22 +8,22 @@ use lib.Dec.{eqb}
 use lib.ListN.{getD}
 use Rattle.laws.specs.Bits.{bit}
 use Rattle.laws.specs.Bounded.{tally}
-use Rattle.link_search.specs.Nets.{Net, netOf, Between, Within}
+use Rattle.link_search.specs.Nets.{Net, netOf, Between, InLimits}
 use Rattle.link_search.specs.Families.{source, MirrorHolds}
 use Rattle.link_search.specs.declared.Sight.{Sight}
 
 -- one set of bits with limits: 8 where what must stand is within them, 9 where no set between is, else a bit that may stand
-pub record Judged (must may low high r : ℕ) : Type 0 where
-  pub fine : r ≡ 8 → Within low high (tally (λ k. bit k must) 8)
+pub record BitsJudged (must may low high r : ℕ) : Type 0 where
+  pub fine : r ≡ 8 → InLimits low high (tally (λ k. bit k must) 8)
   pub dead : r ≡ 9 → (w : ℕ → Bool) → ((k : ℕ) → k < 8 → bit k must ≡ true → w k ≡ true)
-      → ((k : ℕ) → k < 8 → w k ≡ true → bit k must ≡ false → bit k may ≡ true) → Within low high (tally w 8) → ⊥
+      → ((k : ℕ) → k < 8 → w k ≡ true → bit k must ≡ false → bit k may ≡ true) → InLimits low high (tally w 8) → ⊥
   pub spot : r < 8 → bit r may ≡ true
   pub few : r ≤ 9
 
 -- target p of column j, by the same numbers: a bit is that of the row of a source
 pub record ColumnSaid (slot from low high must may : List ℕ) (j p v : ℕ) : Type 0 where
-  pub fine : v ≡ 8 → Within (getD low (j * 8 + p) 0) (getD high (j * 8 + p) 0) (tally (source slot from (netOf must) j p) 8)
-  pub dead : v ≡ 9 → (w : Net) → Between must may w → Within (getD low (j * 8 + p) 0) (getD high (j * 8 + p) 0) (tally (source slot from w j p) 8) → ⊥
+  pub fine : v ≡ 8 → InLimits (getD low (j * 8 + p) 0) (getD high (j * 8 + p) 0) (tally (source slot from (netOf must) j p) 8)
+  pub dead : v ≡ 9 → (w : Net) → Between must may w → InLimits (getD low (j * 8 + p) 0) (getD high (j * 8 + p) 0) (tally (source slot from w j p) 8) → ⊥
   pub spot : v < 8 → netOf may (v * 32 + getD slot j 0) p ≡ true
   pub few : v ≤ 9
 
@@ -60,7 +60,7 @@ joined a b = cond (eqb (a .kind) 1) a (cond (eqb (b .kind) 1) b (cond (eqb (a .k
 
 -- the search, from what came to what is left: a net that is found lies between what came and meets the demand; where none is found,
 -- both arrays are as they came, and no net between meets it
-pub record Answer (C : Net → Type 0) (must may must′ may′ : List ℕ) (ok : Bool) : Type 0 where
+pub record NetAnswer (C : Net → Type 0) (must may must′ may′ : List ℕ) (ok : Bool) : Type 0 where
   pub between : ok ≡ true → Between must may (netOf must′)
   pub sound : ok ≡ true → C (netOf must′)
   pub kept : ok ≡ false → must′ ≡ must

@@ -22,7 +22,7 @@ pub record Between (must may : List ℕ) (w : Net) : Type 0 where
   pub most : (i p : ℕ) → i < 256 → p < 8 → w i p ≡ true → netOf must i p ≡ false → netOf may i p ≡ true
 
 -- n lies within limits
-pub record Within (low high n : ℕ) : Type 0 where
+pub record InLimits (low high n : ℕ) : Type 0 where
   pub least : low ≤ n
   pub most : n ≤ high
 

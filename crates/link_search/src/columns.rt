@@ -1,7 +1,6 @@
 // The limits of columns: how many sources a target has by a role.
-ghost use mathlib.Core.Path.{_≡_};
 ghost use mathlib.Core.Bool.{_&&_};
-ghost use Prim.Native.Nat.{ℕ, _<_, _+_, _*_};
+ghost use Prim.Native.Nat.{_<_, _+_, _*_};
 ghost use lib.ListN.{getD};
 ghost use Rattle.laws.specs.Bits.{bit, Marks};
 ghost use Rattle.link_search.specs.Nets.{netOf};

@@ -1,14 +1,14 @@
 // The search for the links of given objects: which of the links that may stand are added to those that must, so that the limits of
 // rows and columns, mirrors and wholes are right. It knows no diagram: all that is asked stands in arrays.
 ghost use mathlib.Core.Path.{_≡_};
-ghost use mathlib.Core.Bool.{Bool, true, false};
-ghost use Prim.Native.Nat.{ℕ, _<_, _≤_, _+_, _*_};
+ghost use mathlib.Core.Bool.{true, false};
+ghost use Prim.Native.Nat.{_<_, _+_, _*_};
 ghost use lib.ListN.{length};
 ghost use Rattle.laws.specs.Bits.{bit};
 ghost use Rattle.laws.specs.Bounded.{tally};
 ghost use Rattle.link_search.specs.Nets.{netOf};
-ghost use Rattle.link_search.specs.Families.{Slots, Fits};
-ghost use Rattle.link_search.specs.Answers.{Judged, Looked, joined, Answer};
+ghost use Rattle.link_search.specs.Families.{Slots, NetFits};
+ghost use Rattle.link_search.specs.Answers.{BitsJudged, Looked, joined, NetAnswer};
 
 mod columns;
 mod mirrors;
@@ -30,7 +30,7 @@ fn number(x: u8) -> u32
 }
 
 // Whether object o has a link to p by the role in the slot.
-fn is_link(rows: &[u8; 256], o: u8, slot: u8, p: u8) -> bool
+pub fn is_link(rows: &[u8; 256], o: u8, slot: u8, p: u8) -> bool
     requires { ⌜ (o < 8) × (slot < 32) × (p < 8) ⌝ }
     ensures { λ r. ⌜ r ≡ netOf (now (rows .entry)) (o * 32 + slot) p ⌝ }
 {
@@ -54,7 +54,7 @@ fn lowest(m: u8) -> u8
 
 // One set of bits: 8 it is within its limits, 9 no set between is, else a bit that may stand.
 fn judge(must: u8, may: u8, low: u8, high: u8) -> u8
-    ensures { λ r. ⌜ Judged must may low high r ⌝ }
+    ensures { λ r. ⌜ BitsJudged must may low high r ⌝ }
 {
     let y = laws::count8(must);
     let a = laws::count8(may);
@@ -105,7 +105,7 @@ fn look_all<'a>(
     may: &'a [u8; 256],
 ) -> Sight
     requires { ⌜ Slots (now «column_slot») 17 × Slots (now «mirror_right») 16 × Slots (now «mirror_left») 16 × Slots (now «whole_slot») 16 ⌝ }
-    ensures { λ l. ⌜ Looked (Fits (now («row_low» .entry)) (now («row_high» .entry)) (now («column_slot» .entry)) (now («column_from» .entry)) (now («column_low» .entry)) (now («column_high» .entry)) (now («mirror_right» .entry)) (now («mirror_left» .entry)) (now («mirror_from» .entry)) (now («mirror_to» .entry)) (now («whole_slot» .entry)) (now («whole_from» .entry)) (now («whole_to» .entry))) (now (must .entry)) (now (may .entry)) l ⌝ }
+    ensures { λ l. ⌜ Looked (NetFits (now («row_low» .entry)) (now («row_high» .entry)) (now («column_slot» .entry)) (now («column_from» .entry)) (now («column_low» .entry)) (now («column_high» .entry)) (now («mirror_right» .entry)) (now («mirror_left» .entry)) (now («mirror_from» .entry)) (now («mirror_to» .entry)) (now («whole_slot» .entry)) (now («whole_from» .entry)) (now («whole_to» .entry))) (now (must .entry)) (now (may .entry)) l ⌝ }
 {
     let rows = rows::look_rows(row_low, row_high, must, may);
     if rows.kind == 1 {
@@ -151,7 +151,7 @@ pub fn links<'a>(
     may: &mut [u8; 256],
 ) -> bool
     requires { ⌜ Slots (now «column_slot») 17 × Slots (now «mirror_right») 16 × Slots (now «mirror_left») 16 × Slots (now «whole_slot») 16 × (length (now must) ≡ 256) × (length (now may) ≡ 256) ⌝ }
-    ensures { λ ok. ⌜ Answer (Fits (now («row_low» .entry)) (now («row_high» .entry)) (now («column_slot» .entry)) (now («column_from» .entry)) (now («column_low» .entry)) (now («column_high» .entry)) (now («mirror_right» .entry)) (now («mirror_left» .entry)) (now («mirror_from» .entry)) (now («mirror_to» .entry)) (now («whole_slot» .entry)) (now («whole_from» .entry)) (now («whole_to» .entry))) (now (must .entry)) (now (may .entry)) (now (must .exit)) (now (may .exit)) ok ⌝ }
+    ensures { λ ok. ⌜ NetAnswer (NetFits (now («row_low» .entry)) (now («row_high» .entry)) (now («column_slot» .entry)) (now («column_from» .entry)) (now («column_low» .entry)) (now («column_high» .entry)) (now («mirror_right» .entry)) (now («mirror_left» .entry)) (now («mirror_from» .entry)) (now («mirror_to» .entry)) (now («whole_slot» .entry)) (now («whole_from» .entry)) (now («whole_to» .entry))) (now (must .entry)) (now (may .entry)) (now (must .exit)) (now (may .exit)) ok ⌝ }
 {
     let l = look_all(
         row_low,

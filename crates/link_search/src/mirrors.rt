@@ -1,7 +1,5 @@
 // Mirrors: a link by one role stands exactly when the link back by the other does.
-ghost use mathlib.Core.Path.{_≡_};
-ghost use mathlib.Core.Bool.{Bool, true, false};
-ghost use Prim.Native.Nat.{ℕ, _<_, _+_, _*_};
+ghost use Prim.Native.Nat.{_<_, _+_, _*_};
 ghost use lib.ListN.{getD};
 ghost use Rattle.link_search.specs.Families.{Mirrors, Slots};
 ghost use Rattle.link_search.specs.Answers.{Paired, MirrorSaid, Looked};

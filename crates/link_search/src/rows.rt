@@ -1,6 +1,5 @@
 // The limits of rows: how many targets an object has by a role.
-ghost use mathlib.Core.Path.{_≡_};
-ghost use Rattle.link_search.specs.Families.{Rows};
+ghost use Rattle.link_search.specs.Families.{RowsFit};
 ghost use Rattle.link_search.specs.Answers.{Looked};
 use crate::Sight;
 use crate::judge;
@@ -12,7 +11,7 @@ pub fn look_rows<'a>(
     must: &'a [u8; 256],
     may: &'a [u8; 256],
 ) -> Sight
-    ensures { λ l. ⌜ Looked (Rows (now (low .entry)) (now (high .entry))) (now (must .entry)) (now (may .entry)) l ⌝ }
+    ensures { λ l. ⌜ Looked (RowsFit (now (low .entry)) (now (high .entry))) (now (must .entry)) (now (may .entry)) l ⌝ }
 {
     let mut best = Sight {
         kind: 0,

@@ -1,7 +1,7 @@
 // Wholes: at most one object has a target as a part, by all compositions together.
 ghost use mathlib.Core.Path.{_≡_};
-ghost use mathlib.Core.Bool.{Bool, true, false};
-ghost use Prim.Native.Nat.{ℕ, _<_, _≤_, _+_, _*_};
+ghost use mathlib.Core.Bool.{true, false};
+ghost use Prim.Native.Nat.{_<_, _+_};
 ghost use lib.ListN.{getD};
 ghost use Rattle.laws.specs.Bounded.{tally};
 ghost use Rattle.link_search.specs.Nets.{netOf};

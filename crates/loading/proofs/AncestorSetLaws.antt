@@ -14,32 +14,27 @@ use lib.Bits.{bitOr}
 use lib.Dec.{eqb}
 use lib.ListN.{length, getD, set, List·getD-append, List·getD-eq-default}
 use lib.Seq.{getD-append-seam}
-use borrow.Author.Tests.{eq-eqb, eqb-true}
 use Rattle.laws.specs.Bits.{bit}
 use Rattle.laws.specs.Bounded.{any}
 use Rattle.laws.specs.Connective.{either}
 use Rattle.laws.proofs.BitLaws.{bit-or, bit-zero}
-use Rattle.laws.proofs.BoundedLaws.{any-ext, any-more, last}
-use Rattle.laws.proofs.ConnectiveLaws.{either-false, same-test}
-use Rattle.laws.proofs.JoinedLaws.{length-each}
-use Rattle.laws.proofs.ListLaws.{snoc-below}
+use Rattle.laws.proofs.BoundedLaws.{any-ext, any-more, last, eqb-turned}
+use Rattle.laws.proofs.ConnectiveLaws.{either-false}
+use Rattle.laws.proofs.ListLaws.{snoc-below, set-kept, set-is}
 use Rattle.files.specs.Ancestor.{parentAt, parentCount, reaches, reachesBy}
 use Rattle.files.specs.Diagram.{Diagram, TypeDef, typeAt}
 use Rattle.files.proofs.AncestorLaws.{Below, reaches-step}
 use Rattle.diagrams.specs.declared.Types.{Types}
 use Rattle.diagrams.specs.Held.{Sets, onlyTypes}
-use Rattle.diagrams.specs.View.{typeIn, typesOf}
+use Rattle.diagrams.specs.View.{typesOf}
 use Rattle.loading.specs.Stored.{SetOf}
-use Rattle.loading.proofs.StoredLaws.{set-kept, set-is}
+use Rattle.refusing.proofs.NumberLaws.{type-total}
 
 -- ---- a loop that gathers the sets of the parents
 
 -- the set of type t, of its first n parents
 abbrev pub SetSoFar : List ℕ → ℕ → List ℕ → ℕ → ℕ → Type 0
 SetSoFar sets t ps n m = (j : ℕ) → bit j m ≡ either (eqb t j) (any (λ s. bit j (getD sets (getD ps s 0) 0)) n)
-
-eqb-turned : (i j : ℕ) → eqb i j ≡ eqb j i
-eqb-turned i j = same-test (eqb i j) (eqb j i) (λ e. eq-eqb j i (sym (eqb-true i j e))) (λ e. eq-eqb i j (sym (eqb-true j i e)))
 
 pub set-begin : (sets : List ℕ) (t k : ℕ) (ps : List ℕ) (m : ℕ) → k ≡ t → ((j : ℕ) → bit j m ≡ bit j 0 || eqb j k) → SetSoFar sets t ps 0 m
 unfolding any
@@ -96,10 +91,6 @@ module _ (d e : Diagram) (n : ℕ) (agree : (i : ℕ) → i < n → typeAt e i �
   reached-same : (i t : ℕ) → i < n → reaches e i t ≡ reaches d i t
   unfolding reaches
   reached-same i t l = reached-by i i t l
-
-type-total : (t : Types) → length (typesOf t) ≡ t .count
-unfolding typesOf
-type-total t = length-each (typeIn t) noType (t .count)
 
 -- the sets with that of the new type are exact
 pub sets-more : (t r : Types) (x : TypeDef) (m : ℕ) → typesOf r ≡ typesOf t ++ (x ∷ []) → r .count ≡ t .count + 1 → t .count < length (t .sets)

@@ -4,11 +4,13 @@ use mathlib.Core.Path.{_≡_, sym, ap, _∙_, subst}
 use mathlib.Core.Bool.{Bool, true, cond}
 use Prim.Native.Nat.{ℕ, _+_, _*_, _≤_, _<_}
 use native.Mathlib.Omega.{arith}
-use mathlib.Core.List.{List, [], _∷_}
+use mathlib.Core.List.{List}
 use lib.Dec.{eqb}
 use lib.ListN.{length, getD, drop, set}
 use borrow.Author.Tests.{eq-eqb, ne-eqb}
 use Rattle.laws.proofs.ConnectiveLaws.{both-left, both-right}
+use Rattle.laws.proofs.JoinedLaws.{listed-more}
+use Rattle.laws.proofs.ListLaws.{set-kept, set-is}
 use Rattle.files.specs.Content.{nameIn, pastName}
 use Rattle.files.specs.Diagram.{Upper, atMost, noLimit}
 use Rattle.files.specs.DiagramLayout.{associationLaid, associationOf, attributeLaid, attributeOf, endLaid, endOf, pastEnd, upperOf}
@@ -17,7 +19,6 @@ use Rattle.diagrams.specs.declared.Associations.{Associations}
 use Rattle.diagrams.specs.View.{associationIn, associationsOf, attributeIn, attributesOf, endIn, upperIn}
 use Rattle.loading.specs.Stored.{NameStored, AttributeFits, AttributeStored, EndStored, AssociationFits, AssociationStored}
 use Rattle.loading.proofs.SlotLaws.{name-short}
-use Rattle.loading.proofs.StoredLaws.{listed-more, set-kept, set-is}
 
 -- ---- attributes
 

@@ -3,5 +3,5 @@ pub mod StoredLaws
 pub mod AssociationLaws
 pub mod AncestorSetLaws
 pub mod TypeLaws
-pub mod GrownLaws
+pub mod WithFieldLaws
 pub mod ReaderLaws

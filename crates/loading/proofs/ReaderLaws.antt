@@ -22,7 +22,7 @@ use Rattle.diagrams.specs.Empty.{emptyDiagram}
 use Rattle.diagrams.specs.Held.{Held}
 use Rattle.diagrams.specs.View.{diagramOf}
 use Rattle.diagrams.proofs.ViewLaws.{empty-counts, empty-sets, empty-view}
-use Rattle.loading.specs.Grown.{Grown}
+use Rattle.loading.specs.WithField.{WithField}
 use Rattle.loading.specs.Loads.{Loads, answerOf}
 
 -- ---- the empty diagram
@@ -95,7 +95,7 @@ reply-refused file s last t n d {m = m} e p q f g h =
     refuses file m d h (taken file s last t n d e p q f ∙ or-refused _ _ (λ z. h (g ∙ z)) ∙ ap (λ (k : ℕ). refused k) (sym g))
 
 pub field-on : (file s : List ℕ) (last t n : ℕ) (d r : StoredDiagram) {x : Head} {c next : List ℕ} {m : ℕ} → readDiagram file ≡ diagramFrom last (diagramOf d) (rows s) → x ≡ headOf s
-    → x ≡ Whole t n → c ≡ take n (drop 3 s) → m ≡ diagramRefusal last (diagramOf d) t c → m ≡ 0 → Grown d t c r → next ≡ drop n (drop 3 s)
+    → x ≡ Whole t n → c ≡ take n (drop 3 s) → m ≡ diagramRefusal last (diagramOf d) t c → m ≡ 0 → WithField d t c r → next ≡ drop n (drop 3 s)
     → readDiagram file ≡ diagramFrom t (diagramOf r) (rows next)
 field-on file s last t n d r e p q f g h w k =
     taken file s last t n d e p q f ∙ or-passed _ _ (sym g ∙ h)

@@ -3,18 +3,18 @@
 use mathlib.Core.Path.{_≡_, refl, sym, ap, ap₂, _∙_, subst}
 use mathlib.Core.Bool.{true}
 use Prim.Native.Nat.{ℕ, _+_, _*_, _≤_, _<_}
-use native.Mathlib.Nat.{le-antisymm, ne-of-lt}
+use native.Mathlib.Nat.{le-antisymm}
 use native.Mathlib.Omega.{arith}
-use mathlib.Core.List.{List, [], _∷_, _++_}
+use mathlib.Core.List.{List, [], _∷_}
 use lib.ListN.{length, getD, drop, set}
-use lib.Seq.{getD-set-same, getD-set-other}
 use borrow.Author.Count.{below-more}
 use borrow.Author.Tests.{leb-true}
 use Rattle.laws.specs.Bounded.{all}
 use Rattle.laws.specs.Lists.{listed}
 use Rattle.laws.proofs.BoundedLaws.{all-at}
 use Rattle.laws.proofs.ConnectiveLaws.{both-left, both-right}
-use Rattle.laws.proofs.JoinedLaws.{joined-more, joined-ext}
+use Rattle.laws.proofs.JoinedLaws.{joined-ext, listed-more}
+use Rattle.laws.proofs.ListLaws.{set-kept, set-is}
 use Rattle.fields.specs.Slot.{slotName}
 use Rattle.files.specs.Content.{byte, nameIn, pastName, pastNames, startsName}
 use Rattle.files.specs.Diagram.{ValueType}
@@ -23,21 +23,6 @@ use Rattle.diagrams.specs.declared.ValueTypes.{ValueTypes}
 use Rattle.diagrams.specs.View.{valueTypeIn, valueTypesOf}
 use Rattle.loading.specs.Stored.{NameStored, ConstantsStored, ValueTypeFits, ValueTypeStored}
 use Rattle.loading.proofs.SlotLaws.{name-short}
-
--- ---- one more
-
--- a list by index that agrees with another below n, and has x at n
-pub listed-more : {A : Type 0} (f g : ℕ → A) (n m : ℕ) (x : A) → m ≡ n + 1 → ((i : ℕ) → i < n → f i ≡ g i) → f n ≡ x → listed f m ≡ listed g n ++ (x ∷ [])
-listed-more {A} f g n m x q h e =
-    ap (λ (k : ℕ). listed f k) q ∙ joined-more (λ i. f i ∷ []) n
-    ∙ ap₂ (λ (l : List A) (y : A). l ++ (y ∷ [])) (joined-ext (λ i. f i ∷ []) (λ i. g i ∷ []) n (λ i l. ap (λ (y : A). y ∷ []) (h i l))) e
-
--- an element stored at the end of those in use
-pub set-kept : (l l′ : List ℕ) (n v i : ℕ) → l′ ≡ set l n v → i < n → getD l′ i 0 ≡ getD l i 0
-set-kept l l′ n v i e h = ap (λ (x : List ℕ). getD x i 0) e ∙ getD-set-other l n i v 0 (ne-of-lt h)
-
-pub set-is : (l l′ : List ℕ) (n v : ℕ) → l′ ≡ set l n v → n < length l → getD l′ n 0 ≡ v
-set-is l l′ n v e h = ap (λ (x : List ℕ). getD x n 0) e ∙ getD-set-same l n v 0 h
 
 -- ---- constants
 

@@ -1,6 +1,6 @@
 -- Types in memory with one more at the end, its parents and its set.
 -- Assumes nothing.
-use mathlib.Core.Path.{_≡_, refl, sym, ap, _∙_, subst}
+use mathlib.Core.Path.{_≡_, sym, ap, _∙_, subst}
 use mathlib.Core.Bool.{true}
 use Prim.Native.Nat.{ℕ, _+_, _*_, _-_, _≤_, _<_}
 use native.Mathlib.Omega.{arith}
@@ -11,15 +11,17 @@ use borrow.Rule.Slice.PartMut.{putMid}
 use borrow.Author.Tests.{leb-true, eqb-true}
 use Rattle.laws.specs.Lists.{listed}
 use Rattle.laws.proofs.ConnectiveLaws.{both-left, both-right}
-use Rattle.laws.proofs.JoinedLaws.{each-of, joined-ext}
+use Rattle.laws.proofs.JoinedLaws.{each-of, joined-ext, listed-more}
+use Rattle.laws.proofs.ListLaws.{set-kept, set-is}
+use Rattle.laws.proofs.PastedLaws.{copied, drop-pasted, pasted, take-pasted}
 use Rattle.files.specs.Content.{byte, nameIn, pastName}
 use Rattle.files.specs.DiagramLayout.{typeLaid, typeOf}
 use Rattle.diagrams.specs.declared.Types.{Types}
 use Rattle.diagrams.specs.View.{typeIn, typesOf}
 use Rattle.loading.specs.Stored.{NameStored, ParentsStored, SetOf, TypeFits, TypeStored}
-use Rattle.loading.proofs.SlotLaws.{copied, drop-pasted, name-short, pasted, take-pasted}
-use Rattle.loading.proofs.StoredLaws.{listed-more, set-kept, set-is}
+use Rattle.loading.proofs.SlotLaws.{name-short}
 use Rattle.loading.proofs.AncestorSetLaws.{sets-more}
+use Rattle.files.proofs.DiagramWellFormed.{rest-length}
 
 -- ---- parents
 
@@ -45,10 +47,6 @@ parents-stored d ps e t h few size q =
 pub type-name-short : (t : Types) (c : List ℕ) {s w : List ℕ} → TypeFits t c → s ≡ drop 1 c → w ≡ nameIn s → length w ≤ 16
 unfolding typeLaid
 type-name-short t c f p q = subst (λ (x : List ℕ). length x ≤ 16) (sym (q ∙ ap nameIn p)) (name-short (drop 1 c) (both-left _ _ (both-right _ _ (f .laid))))
-
-rest-length : (s : List ℕ) → length s ≡ 1 + byte s 0 → length (drop 1 s) ≡ byte s 0
-rest-length [] e = refl
-rest-length (x ∷ s) e = omega arith
 
 parents-size : (c : List ℕ) → typeLaid c ≡ true → length (drop 1 (pastName (drop 1 c))) ≡ byte (pastName (drop 1 c)) 0
 unfolding typeLaid

@@ -1,3 +1,3 @@
 pub mod Stored
 pub mod Loads
-pub mod Grown
+pub mod WithField

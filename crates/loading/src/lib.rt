@@ -1,5 +1,5 @@
 // The reader of diagram files.
-ghost use Rattle.loading.specs.Grown.{Allowed, Grown};
+ghost use Rattle.loading.specs.WithField.{FieldPasses, WithField};
 ghost use Rattle.loading.specs.Loads.{Loads};
 
 mod storing; // storing.rt: a diagram in memory with one field more
@@ -16,8 +16,8 @@ pub struct Loaded {
 
 // The diagram with a field more.
 fn with_field(d: StoredDiagram, tag: u8, c: &[u8]) -> StoredDiagram
-    requires { ⌜ Allowed d tag (now c) ⌝ }
-    ensures { λ r. ⌜ Grown d tag (now (c .entry)) r ⌝ }
+    requires { ⌜ FieldPasses d tag (now c) ⌝ }
+    ensures { λ r. ⌜ WithField d tag (now (c .entry)) r ⌝ }
 {
     if tag == 16 {
         return d;

@@ -1,8 +1,7 @@
 -- Limits and rows of targets on masks: a mask of eight objects says of n objects what the rule does.
 -- Assumes nothing.
-use Prim.Native.Nat.{ℕ, _+_, _*_, _^_, _<_, _≤_}
+use Prim.Native.Nat.{ℕ, _^_, _<_, _≤_}
 use native.Mathlib.Decide.{decLt}
-use native.Mathlib.Nat.{lt-of-lt-of-le, le-trans}
 use native.Mathlib.Omega.{arith}
 use mathlib.Core.Bool.{Bool, true, false, cond, _&&_}
 use mathlib.Core.List.{List, [], _∷_}
@@ -14,7 +13,7 @@ use borrow.Author.Tests.{lt-ltb, le-ltb}
 use Rattle.laws.specs.Connective.{both, either, imp, same}
 use Rattle.laws.specs.Bounded.{all, tally}
 use Rattle.laws.specs.Bits.{bit}
-use Rattle.laws.proofs.ConnectiveLaws.{both-left, both-right}
+use Rattle.laws.proofs.ConnectiveLaws.{both-left, both-right, same-is}
 use Rattle.laws.proofs.BoundedLaws.{all-at, all-ext}
 use Rattle.laws.proofs.CountLaws.{tally-ext}
 use Rattle.laws.proofs.BitLaws.{bit-above, bit-and, subset-test}
@@ -44,12 +43,6 @@ right n = both (all (λ p. same (bit p (getD objectMasks n 0)) (ltb p n)) 8) (lt
 all-right : all right 9 ≡ true
 unfolding right all both same bit
 all-right = refl
-
-same-is : (a b : Bool) → same a b ≡ true → a ≡ b
-unfolding same
-same-is true b e = sym e
-same-is false true e = e
-same-is false false e = refl
 
 pub object-masks : (n : ℕ) → n ≤ 8 → (p : ℕ) → bit p (getD objectMasks n 0) ≡ ltb p n
 unfolding right

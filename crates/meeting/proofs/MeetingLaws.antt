@@ -12,10 +12,11 @@ use borrow.Author.Tests.{eq-eqb, eqb-true, ltb-true}
 use Rattle.laws.specs.Connective.{imp}
 use Rattle.files.specs.Diagram.{Diagram, typeAt}
 use Rattle.files.specs.Membership.{hasLink}
-use Rattle.files.specs.Name.{Name, sameName}
+use Rattle.files.specs.Name.{Name, key}
 use Rattle.files.specs.Record.{Link, Record, linkAt, objectCount, objectType}
 use Rattle.records.specs.Slots.{roleCount, roleSlot, typeIndex}
 use Rattle.records.specs.declared.MemoryRecord.{MemoryRecord}
+use Rattle.records.proofs.SlotLaws.{index-alike, index-name, role-alike}
 use Rattle.rules.specs.Judge.{Legal}
 use Rattle.rules.specs.LinkRules.{rule5, rule5At, rule6, rule7, rule8}
 use Rattle.rules.specs.Site.{siteOf}
@@ -26,12 +27,13 @@ use Rattle.memory_rules.specs.SiteIn.{keptLink, linkKept, linkedIn, siteIn, typ
 use Rattle.memory_rules.specs.Stands.{Stands}
 use Rattle.laws.proofs.BoundedLaws.{all-at, all-ext, all-of, any-at}
 use Rattle.laws.proofs.ConnectiveLaws.{both-left, both-right, imp-of, imp-use, same-test}
-use Rattle.files.proofs.NameLaws.{same-equal, same-self}
+use Rattle.files.proofs.NameLaws.{key-same, same-key}
+use Rattle.files.proofs.MembershipLaws.{AlikeLink}
 use Rattle.rules.proofs.JudgeLaws.{Keeps, legal-keeps}
+use Rattle.rules.proofs.KeyLaws.{rule5-alike}
 use Rattle.memory_rules.proofs.AgreeLaws.{rule1-agrees, rule2-agrees, rule5At-agrees, rule6-agrees, rule7-agrees, rule8-agrees, rule9-agrees}
 use Rattle.memory_rules.proofs.LinkLaws.{kept-pair, link-known, link-pair}
 use Rattle.memory_rules.proofs.SiteInLaws.{linked-known, object-small}
-use Rattle.memory_rules.proofs.SlotLaws.{index-name}
 use Rattle.fillings.proofs.LegalLaws.{known-type}
 
 module _ (old : Diagram) (r : Record) (m : MemoryRecord) (h : Stands old r m) (legal : Legal old r) where
@@ -49,16 +51,16 @@ module _ (old : Diagram) (r : Record) (m : MemoryRecord) (h : Stands old r m) (l
       same-test _ _
       (λ e.
       let q : typeIndex old w ≡ typeIndex old (objectType r o) = eqb-true _ _ e ∙ at in
-      let n : w ≡ objectType r o = sym (index-name old w (omega arith)) ∙ ap (λ (i : ℕ). typeAt old i .name) q ∙ index-name old (objectType r o) known in
-      ap (λ (v : Name). sameName v (objectType r o)) n ∙ same-self (objectType r o))
-      (λ e. eq-eqb _ _ (ap (typeIndex old) (same-equal w (objectType r o) e) ∙ sym at))
+      let n : key w ≡ key (objectType r o) = sym (index-name old w (omega arith)) ∙ ap (λ (i : ℕ). key (typeAt old i .name)) q ∙ index-name old (objectType r o) known in
+      key-same w (objectType r o) n)
+      (λ e. eq-eqb _ _ (index-alike old w (objectType r o) (same-key w (objectType r o) e) ∙ sym at))
 
   -- a link has a role of old
   role-there : (o : ℕ) (w : Name) (p : ℕ) → hasLink r o w p ≡ true → roleSlot old w < roleCount old
   unfolding hasLink
   role-there o w p e =
       let i = any-at _ (length (r .links)) e in
-      subst (λ (v : Name). roleSlot old v < roleCount old) (same-equal _ _ (both-left _ _ (both-right _ _ (i .2)))) (link-known old r (keeps .fifth) (i .0) (i .1))
+      subst (λ (n : ℕ). n < roleCount old) (role-alike old _ _ (same-key _ _ (both-left _ _ (both-right _ _ (i .2))))) (link-known old r (keeps .fifth) (i .0) (i .1))
 
   pub linked-met : (o : ℕ) (w : Name) (p : ℕ) → o < m .count → p < m .count → linkedIn old m o w p ≡ hasLink r o w p
   linked-met o w p l k = go (decLt (roleSlot old w) (roleCount old))
@@ -73,15 +75,15 @@ module _ (old : Diagram) (r : Record) (m : MemoryRecord) (h : Stands old r m) (l
           unlinked e = unfold linkedIn in ltb-true _ _ (both-left _ _ e)
 
   -- a test of each link
-  pub each-link-met : (test : Link → Bool) → siteIn old m .eachLink test ≡ siteOf r .eachLink test
+  pub each-link-met : (test : Link → Bool) → ((k l : Link) → AlikeLink k l → test k ≡ test l) → siteIn old m .eachLink test ≡ siteOf r .eachLink test
   unfolding siteIn siteOf
-  each-link-met test = same-test _ _
+  each-link-met test respects = same-test _ _
       (λ e. all-of _ (length (r .links)) (λ i l.
       let x = link-pair old r m h i l (link-known old r (keeps .fifth) i l) in
-      ap test (x .1 .is) ∙ imp-use _ _ (all-at (λ x. imp (linkKept old m x) (test (keptLink old x))) (m .count * 256) e (x .0) (x .1 .below)) (x .1 .kept)))
+      respects _ _ (x .1 .is) ∙ imp-use _ _ (all-at (λ x. imp (linkKept old m x) (test (keptLink old x))) (m .count * 256) e (x .0) (x .1 .below)) (x .1 .kept)))
       (λ e. all-of _ (m .count * 256) (λ x l. imp-of _ _ (λ k.
       let i = kept-pair old r m h x l k in
-      ap test (sym (i .1 .is)) ∙ all-at (λ i. test (linkAt r i)) (length (r .links)) e (i .0) (i .1 .within))))
+      sym (respects _ _ (i .1 .is)) ∙ all-at (λ i. test (linkAt r i)) (length (r .links)) e (i .0) (i .1 .within))))
 
   -- ---- another diagram
 
@@ -97,7 +99,7 @@ module _ (old : Diagram) (r : Record) (m : MemoryRecord) (h : Stands old r m) (l
     rule5-met : rule5 new (siteIn old m) ≡ rule5 new (siteOf r)
     unfolding rule5
     rule5-met =
-        each-link-met (rule5At new (siteIn old m))
+        each-link-met (rule5At new (siteIn old m)) (rule5-alike new (siteIn old m))
         ∙ unfold siteOf in all-ext _ _ (length (r .links)) (λ i l.
         rule5At-agrees new (siteIn old m) (siteOf r) met (linkAt r i) (from i l) (to i l))
       where

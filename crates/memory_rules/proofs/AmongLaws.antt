@@ -20,7 +20,7 @@ use Rattle.records.specs.Represents.{codeAmong, valueFor}
 use Rattle.records.specs.Slots.{codeOf}
 use Rattle.laws.proofs.BoundedLaws.{any-at, last}
 use Rattle.laws.proofs.ConnectiveLaws.{both-left, both-right, known, or-no-left, or-no-right, true-false}
-use Rattle.files.proofs.NameLaws.{same-equal}
+use Rattle.files.proofs.NameLaws.{same-key}
 use Rattle.memory_rules.proofs.RiseLaws.{one-value}
 
 module _ (d : Diagram) (r : Record) where
@@ -35,7 +35,7 @@ module _ (d : Diagram) (r : Record) where
     same-place : (o : ℕ) (w : Name) (i j : ℕ) → i < length (r .values) → j < length (r .values) → valueFor (valueAt r i) o w ≡ true → valueFor (valueAt r j) o w ≡ true → i ≡ j
     same-place o w i j l k e f =
         one-value r wf i j l k (eqb-true _ _ (both-left _ _ e) ∙ sym (eqb-true _ _ (both-left _ _ f)))
-        (same-equal _ _ (both-right _ _ e) ∙ sym (same-equal _ _ (both-right _ _ f)))
+        (same-key _ _ (both-right _ _ e) ∙ sym (same-key _ _ (both-right _ _ f)))
 
     code-at : (o : ℕ) (w : Name) (i n : ℕ) → i < n → n ≤ length (r .values) → valueFor (valueAt r i) o w ≡ true
         → codeAmong d r o w n ≡ 1 + codeOf d (valueAt r i .valueType) (valueAt r i .constant)

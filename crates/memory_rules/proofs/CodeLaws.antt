@@ -7,22 +7,20 @@ use native.Mathlib.Omega.{arith}
 use mathlib.Core.Bool.{true}
 use mathlib.Core.List.{[], _∷_}
 use mathlib.Core.Logic.{⊎-elim}
-use mathlib.Core.Path.{_∙_, _≡_, ap, ap₂, refl, subst, sym}
-use lib.Dec.{eqb}
+use mathlib.Core.Path.{_∙_, _≡_, ap, refl, subst, sym}
 use lib.ListN.{List·getD-eq-default, getD, length}
-use borrow.Author.Tests.{eq-eqb, eqb-true, leb-true, lt-ltb, ltb-true}
-use Rattle.laws.specs.Bounded.{any}
-use Rattle.laws.specs.Connective.{both, either}
+use borrow.Author.Tests.{eq-eqb, eqb-true, leb-true, lt-ltb}
 use Rattle.files.specs.Diagram.{Diagram, ValueType, valueTypeAt}
-use Rattle.files.specs.Name.{Name, sameName, validName}
+use Rattle.files.specs.Name.{Name, key, sameName, validName}
 use Rattle.files.specs.Record.{Value}
 use Rattle.files.specs.WellFormedDiagram.{WfDiagram}
 use Rattle.records.specs.Slots.{codeOf, isCode, isConstant}
 use Rattle.rules.specs.ValueRules.{belongs}
+use Rattle.rules.proofs.KeyLaws.{belongs-alike}
 use Rattle.laws.proofs.BoundedLaws.{any-at}
 use Rattle.laws.proofs.ConnectiveLaws.{both-left, both-of, both-right, either-cases, either-left, either-right, same-test}
 use Rattle.laws.proofs.FirstLaws.{first-below, first-holds, first-le}
-use Rattle.files.proofs.NameLaws.{same-equal}
+use Rattle.files.proofs.NameLaws.{key-length, same-key}
 
 -- ---- names are not empty
 
@@ -34,12 +32,7 @@ pub empty-is : (w : Name) → length w ≡ 0 → w ≡ []
 empty-is [] e = refl
 empty-is (x ∷ xs) e = absurd (omega arith)
 
--- ---- what belongs is decided by two names
-
-pub belongs-same : (v w : Value) (t : ValueType) → v .valueType ≡ w .valueType → v .constant ≡ w .constant → belongs v t ≡ belongs w t
-unfolding belongs
-belongs-same v w t a b =
-    ap₂ (λ (n c : Name). both (sameName (t .name) n) (either (any (λ i. sameName (getD (t .constants) i []) c) (length (t .constants))) (both (eqb (length (t .constants)) 0) (eqb (length c) 0)))) a b
+-- ---- what belongs to a value type
 
 belongs-name : (v : Value) (t : ValueType) → belongs v t ≡ true → sameName (t .name) (v .valueType) ≡ true
 unfolding belongs
@@ -55,26 +48,22 @@ constant-at v t few e =
     (either-cases _ _ (both-right _ _ e))
 
 -- the constant of an index
-constant-is : (t : ValueType) (i : ℕ) (c : Name) → isConstant t i c ≡ true → getD (t .constants) i [] ≡ c
+constant-is : (t : ValueType) (i : ℕ) (c : Name) → isConstant t i c ≡ true → key (getD (t .constants) i []) ≡ key c
 unfolding isConstant
 constant-is t i c e =
-    ⊎-elim (λ a. same-equal _ _ (both-right _ _ a))
+    ⊎-elim (λ a. same-key _ _ (both-right _ _ a))
     (λ b.
     let none : length (t .constants) ≡ 0 = eqb-true _ _ (both-left _ _ b) in
     let past : length (t .constants) ≤ i = omega arith in
-    List·getD-eq-default (t .constants) [] past ∙ sym (empty-is c (eqb-true _ _ (both-right _ _ (both-right _ _ b))))) (either-cases _ _ e)
+    ap key (List·getD-eq-default (t .constants) [] past ∙ sym (empty-is c (eqb-true _ _ (both-right _ _ (both-right _ _ b)))))) (either-cases _ _ e)
 
 module _ (d : Diagram) (wf : WfDiagram d) where
   -- a code below 96 decodes to the names
-  pub code-type : (t c : Name) (k : ℕ) → isCode d t c k ≡ true → valueTypeAt d (k / 8) .name ≡ t
+  pub code-type : (t c : Name) (k : ℕ) → isCode d t c k ≡ true → key (valueTypeAt d (k / 8) .name) ≡ key t
   unfolding isCode
-  code-type t c k e = same-equal _ _ (both-left _ _ (both-right _ _ e))
+  code-type t c k e = same-key _ _ (both-left _ _ (both-right _ _ e))
 
-  code-below : (t c : Name) (k : ℕ) → isCode d t c k ≡ true → k / 8 < length (d .valueTypes)
-  unfolding isCode
-  code-below t c k e = ltb-true _ _ (both-left _ _ e)
-
-  pub code-constant : (t c : Name) (k : ℕ) → isCode d t c k ≡ true → getD (valueTypeAt d (k / 8) .constants) (k % 8) [] ≡ c
+  pub code-constant : (t c : Name) (k : ℕ) → isCode d t c k ≡ true → key (getD (valueTypeAt d (k / 8) .constants) (k % 8) []) ≡ key c
   unfolding isCode
   code-constant t c k e = constant-is _ _ _ (both-right _ _ (both-right _ _ e))
 
@@ -103,19 +92,12 @@ module _ (d : Diagram) (wf : WfDiagram d) where
       first-below (isCode d (v .valueType) (v .constant)) 96 (j * 8 + w .0) (omega arith)
       (is-code (v .valueType) (v .constant) j (w .0) (w .1) l (belongs-name v (valueTypeAt d j) e) (w .2))
 
-  -- its code is one of the diagram's value types
-  pub belongs-below : (v : Value) (j : ℕ) → j < length (d .valueTypes) → belongs v (valueTypeAt d j) ≡ true → codeOf d (v .valueType) (v .constant) < length (d .valueTypes) * 8
-  belongs-below v j l e =
-      let k : codeOf d (v .valueType) (v .constant) / 8 < length (d .valueTypes) =
-      code-below (v .valueType) (v .constant) (codeOf d (v .valueType) (v .constant)) (code-holds (v .valueType) (v .constant) (belongs-coded v j l e)) in
-      omega arith
-
   -- nothing named so belongs to a value type of the diagram
   nameless : (v : Value) (j : ℕ) → j < length (d .valueTypes) → v .valueType ≡ [] → belongs v (valueTypeAt d j) ≡ true → ⊥
   nameless v j l n e =
       let long : 1 ≤ length (valueTypeAt d j .name) = name-long _ (wf .value-type j l .named) in
-      let q : valueTypeAt d j .name ≡ [] = same-equal _ _ (belongs-name v (valueTypeAt d j) e) ∙ n in
-      let z : length (valueTypeAt d j .name) ≡ 0 = ap length q in
+      let q : key (valueTypeAt d j .name) ≡ key (v .valueType) = same-key _ _ (belongs-name v (valueTypeAt d j) e) in
+      let z : length (valueTypeAt d j .name) ≡ 0 = key-length _ _ q ∙ ap length n in
       omega arith
 
   past-last : valueTypeAt d 12 .name ≡ []
@@ -129,7 +111,7 @@ module _ (d : Diagram) (wf : WfDiagram d) where
       go : Dec (k < 96) → belongs u (valueTypeAt d j) ≡ belongs v (valueTypeAt d j)
       go (yes b) =
           let code : isCode d (v .valueType) (v .constant) k ≡ true = subst (λ (i : ℕ). isCode d (v .valueType) (v .constant) i ≡ true) (sym e) (code-holds (v .valueType) (v .constant) (omega arith)) in
-          belongs-same u v (valueTypeAt d j) (n ∙ code-type (v .valueType) (v .constant) k code) (c ∙ code-constant (v .valueType) (v .constant) k code)
+          belongs-alike u v (valueTypeAt d j) (ap key n ∙ code-type (v .valueType) (v .constant) k code) (ap key c ∙ code-constant (v .valueType) (v .constant) k code)
       go (no b) =
           let twelve : k / 8 ≡ 12 = omega (arith, code-most (v .valueType) (v .constant)) in
           same-test _ _ (λ t. absurd (nameless u j l (n ∙ ap (λ (i : ℕ). valueTypeAt d i .name) twelve ∙ past-last) t))

@@ -1,24 +1,22 @@
 -- What judge and evaluate say of a record in memory is what they say of the record of names that it stands for; rule by rule,
 -- and for each association and each compiled record.
 -- Assumes nothing.
-use Prim.Native.Nat.{ℕ}
 use mathlib.Core.List.{List}
 use mathlib.Core.Path.{_≡_}
-use Rattle.files.specs.Diagram.{Diagram, Limits, associationAt}
+use Rattle.files.specs.Diagram.{Diagram}
 use Rattle.files.specs.Record.{Record}
 use Rattle.records.specs.declared.MemoryRecord.{MemoryRecord}
-use Rattle.rules.specs.Arrow.{Side, source, target}
 use Rattle.rules.specs.Compile.{Entry, compile}
-use Rattle.rules.specs.Evaluate.{evaluate, firstFailing, holds, oneWhole}
+use Rattle.rules.specs.Evaluate.{evaluate, firstFailing}
 use Rattle.rules.specs.Judge.{judge, lowestBroken}
-use Rattle.rules.specs.LinkRules.{mirrored, rule6, rule7, rule8, sources, targets}
+use Rattle.rules.specs.LinkRules.{rule6, rule7, rule8}
 use Rattle.rules.specs.Site.{siteOf}
 use Rattle.rules.specs.TypeRules.{rule1, rule2}
 use Rattle.rules.specs.WholeRule.{rule9}
 use Rattle.memory_rules.specs.JudgeIn.{lowestIn}
 use Rattle.memory_rules.specs.SiteIn.{siteIn}
 use Rattle.memory_rules.specs.Stands.{Stands}
-use Rattle.memory_rules.proofs.AgreeLaws.{firstFailing-agrees, holds-agrees, mirrored-agrees, oneWhole-agrees, rule1-agrees, rule2-agrees, rule6-agrees, rule7-agrees, rule8-agrees, rule9-agrees, sources-agree, targets-agree}
+use Rattle.memory_rules.proofs.AgreeLaws.{firstFailing-agrees, rule1-agrees, rule2-agrees, rule6-agrees, rule7-agrees, rule8-agrees, rule9-agrees}
 use Rattle.memory_rules.proofs.LinkLaws.{rule5-in}
 use Rattle.memory_rules.proofs.SiteInLaws.{agrees}
 use Rattle.memory_rules.proofs.ValueLaws.{rule3-in, rule4-in}
@@ -43,25 +41,6 @@ module _ (d : Diagram) (r : Record) (m : MemoryRecord) (h : Stands d r m) where
 
   pub rule9-in : rule9 d (siteIn d m) ≡ rule9 d (siteOf r)
   rule9-in = rule9-agrees d (siteIn d m) (siteOf r) (agrees d r m h)
-
-  -- ---- by association, with any limits
-
-  pub targets-in : (s : Side) (a : ℕ) (limits : Limits)
-      → targets d (siteIn d m) (source s (associationAt d a)) (target s (associationAt d a)) limits ≡ targets d (siteOf r) (source s (associationAt d a)) (target s (associationAt d a)) limits
-  targets-in = targets-agree d (siteIn d m) (siteOf r) (agrees d r m h)
-
-  pub sources-in : (s : Side) (a : ℕ) (limits : Limits)
-      → sources d (siteIn d m) (source s (associationAt d a)) (target s (associationAt d a)) limits ≡ sources d (siteOf r) (source s (associationAt d a)) (target s (associationAt d a)) limits
-  sources-in = sources-agree d (siteIn d m) (siteOf r) (agrees d r m h)
-
-  pub mirrored-in : (a : ℕ) → mirrored d (siteIn d m) (associationAt d a) ≡ mirrored d (siteOf r) (associationAt d a)
-  mirrored-in = mirrored-agrees d (siteIn d m) (siteOf r) (agrees d r m h)
-
-  pub oneWhole-in : (a : ℕ) → oneWhole d (siteIn d m) (associationAt d a) ≡ oneWhole d (siteOf r) (associationAt d a)
-  oneWhole-in = oneWhole-agrees d (siteIn d m) (siteOf r) (agrees d r m h)
-
-  pub holds-in : (e : Entry) → holds d (siteIn d m) e ≡ holds d (siteOf r) e
-  holds-in = holds-agrees d (siteIn d m) (siteOf r) (agrees d r m h)
 
   -- ---- judge and evaluate
 

@@ -7,3 +7,4 @@ pub mod SiteInLaws
 pub mod ValueLaws
 pub mod LinkLaws
 pub mod JudgeInLaws
+pub mod SiteLaws

@@ -5,32 +5,33 @@ use Prim.Native.Nat.{_%_, _*_, _+_, _/_, _<_, _≤_, ℕ}
 use native.Mathlib.Omega.{arith}
 use mathlib.Core.Bool.{false, false≢true, true}
 use mathlib.Core.Logic.{⊎-elim}
-use mathlib.Core.Path.{_∙_, _≡_, ap, refl, sym}
-use lib.Dec.{eqb}
+use mathlib.Core.Path.{_∙_, _≡_, ap, sym}
 use lib.ListN.{length}
-use borrow.Author.Tests.{eq-eqb, eqb-false, eqb-true}
+use borrow.Author.Tests.{eqb-false, eqb-true}
 use Rattle.laws.specs.Bounded.{all}
 use Rattle.laws.specs.Connective.{both, imp}
 use Rattle.files.specs.Diagram.{Diagram, associationAt}
 use Rattle.files.specs.Membership.{hasLink}
-use Rattle.files.specs.Name.{sameName}
+use Rattle.files.specs.Name.{key}
 use Rattle.files.specs.Record.{Link, Record, linkAt, objectCount}
 use Rattle.records.specs.Represents.{strayLink}
 use Rattle.records.specs.Slots.{ownRole, roleCount, roleName, roleSlot}
 use Rattle.records.specs.Written.{linkIn}
 use Rattle.records.specs.declared.MemoryRecord.{MemoryRecord}
+use Rattle.records.proofs.SlotLaws.{own-role-below, own-role-slot, role-most, role-name, role-own}
 use Rattle.rules.specs.Arrow.{Side, r1, r2}
 use Rattle.rules.specs.LinkRules.{permits, rule5, rule5At}
 use Rattle.rules.specs.Site.{siteOf}
+use Rattle.rules.proofs.KeyLaws.{rule5-alike}
 use Rattle.memory_rules.specs.JudgeIn.{rule5In}
 use Rattle.memory_rules.specs.SiteIn.{keptLink, linkKept, siteIn}
 use Rattle.memory_rules.specs.Stands.{Stands}
-use Rattle.laws.proofs.BoundedLaws.{all-at, all-of, any-at, any-no, any-of}
+use Rattle.laws.proofs.BoundedLaws.{all-at, all-of, any-at, any-no}
 use Rattle.laws.proofs.ConnectiveLaws.{both-left, both-of, both-right, either-cases, imp-of, imp-use, known, same-test}
-use Rattle.files.proofs.NameLaws.{same-equal, same-self}
+use Rattle.files.proofs.MembershipLaws.{AlikeLink, link-of, linked-at}
 use Rattle.memory_rules.proofs.AgreeLaws.{rule5At-agrees}
 use Rattle.memory_rules.proofs.SiteInLaws.{agrees, link-kept, object-small}
-use Rattle.memory_rules.proofs.SlotLaws.{own-role-below, own-role-slot, role-most, role-name, role-own, target-known}
+use Rattle.memory_rules.proofs.SlotLaws.{target-known}
 
 module _ (d : Diagram) (r : Record) where
   -- a link that a side of an association permits has a role of the diagram
@@ -59,27 +60,21 @@ module _ (d : Diagram) (r : Record) (m : MemoryRecord) (h : Stands d r m) where
     pub below : x < m .count * 256
     pub within : i < length (r .links)
     pub kept : linkKept d m x ≡ true
-    pub is : linkAt r i ≡ keptLink d x
+    pub is : AlikeLink (linkAt r i) (keptLink d x)
 
   -- each link kept is one of the record
   pub kept-pair : (x : ℕ) → x < m .count * 256 → linkKept d m x ≡ true → (i : ℕ) × LinkPair x i
-  unfolding linkKept hasLink
+  unfolding linkKept keptLink
   kept-pair x l e =
       let own : ownRole d (x / 8 % 32) ≡ true = both-left _ _ e in
       let has : hasLink r (x / 256) (roleName d (x / 8 % 32)) (x % 8) ≡ true =
       sym (own-link (x / 256) (x / 8 % 32) (x % 8) (object-small d r m h (x / 256) (omega arith)) (omega arith) own) ∙ both-right _ _ e in
-      let w = any-at _ (length (r .links)) has in
-      let a : linkAt r (w .0) .from ≡ x / 256 = eqb-true _ _ (both-left _ _ (w .2)) in
-      let b : linkAt r (w .0) .role ≡ roleName d (x / 8 % 32) = same-equal _ _ (both-left _ _ (both-right _ _ (w .2))) in
-      let c : linkAt r (w .0) .to ≡ x % 8 = eqb-true _ _ (both-right _ _ (both-right _ _ (w .2))) in
-      (w .0, record { below = l; within = w .1; kept = e; is = named (w .0) x a b c })
-    where
-      named : (i x : ℕ) → linkAt r i .from ≡ x / 256 → linkAt r i .role ≡ roleName d (x / 8 % 32) → linkAt r i .to ≡ x % 8 → linkAt r i ≡ keptLink d x
-      named i x a b c = unfold keptLink in λ j. record { from = a j; role = b j; to = c j }
+      let i = link-of r (keptLink d x) has in
+      (i .0, record { below = l; within = i .1; kept = e; is = i .2 })
 
   -- each link of the record whose role the diagram has is kept
   pub link-pair : (i : ℕ) → i < length (r .links) → roleSlot d (linkAt r i .role) < roleCount d → (x : ℕ) × LinkPair x i
-  unfolding linkKept keptLink hasLink
+  unfolding linkKept keptLink
   link-pair i l k =
       let o : ℕ = linkAt r i .from in
       let p : ℕ = linkAt r i .to in
@@ -93,13 +88,10 @@ module _ (d : Diagram) (r : Record) (m : MemoryRecord) (h : Stands d r m) where
       let b : (o * 256 + s * 8 + p) / 8 % 32 ≡ s = omega arith in
       let c : (o * 256 + s * 8 + p) % 8 ≡ p = omega arith in
       let own : ownRole d s ≡ true = role-own d (linkAt r i .role) k in
-      let name : roleName d s ≡ linkAt r i .role = role-name d (linkAt r i .role) k in
-      let has : hasLink r o (linkAt r i .role) p ≡ true =
-      any-of (λ j. both (eqb (linkAt r j .from) o) (both (sameName (linkAt r j .role) (linkAt r i .role)) (eqb (linkAt r j .to) p))) (length (r .links)) i l
-      (both-of _ _ (eq-eqb o o refl) (both-of _ _ (same-self (linkAt r i .role)) (eq-eqb p p refl))) in
-      let bit : linkIn m o s p ≡ true = link-kept d r m h o (linkAt r i .role) p (omega arith) (omega arith) k ∙ has in
-      let is : keptLink d (o * 256 + s * 8 + p) ≡ linkAt r i = λ j. record { from = a j; role = (ap (roleName d) b ∙ name) j; to = c j } in
-      (o * 256 + s * 8 + p, record { below = omega arith; within = l; kept = rw (a, b, c) (both-of _ _ own bit); is = sym is })
+      let name : key (roleName d s) ≡ key (linkAt r i .role) = role-name d (linkAt r i .role) k in
+      let bit : linkIn m o s p ≡ true = link-kept d r m h o (linkAt r i .role) p (omega arith) (omega arith) k ∙ linked-at r i l in
+      let is : AlikeLink (linkAt r i) (keptLink d (o * 256 + s * 8 + p)) = (sym a, sym (ap (λ (n : ℕ). key (roleName d n)) b ∙ name), sym c) in
+      (o * 256 + s * 8 + p, record { below = omega arith; within = l; kept = rw (a, b, c) (both-of _ _ own bit); is = is })
 
   -- both judge it alike
   rule5-pair : (x i : ℕ) → LinkPair x i → rule5At d (siteIn d m) (keptLink d x) ≡ rule5At d (siteOf r) (linkAt r i)
@@ -108,7 +100,7 @@ module _ (d : Diagram) (r : Record) (m : MemoryRecord) (h : Stands d r m) where
       let from : linkAt r i .from < objectCount r = h .wf-record .link i (p .within) .from-below in
       let to : linkAt r i .to < objectCount r = h .wf-record .link i (p .within) .to-below in
       let count : m .count ≡ objectCount r = h .count in
-      ap (rule5At d (siteIn d m)) (sym (p .is)) ∙ rule5At-agrees d (siteIn d m) (siteOf r) (agrees d r m h) (linkAt r i) (omega arith) (omega arith)
+      sym (rule5-alike d (siteIn d m) (linkAt r i) (keptLink d x) (p .is)) ∙ rule5At-agrees d (siteIn d m) (siteOf r) (agrees d r m h) (linkAt r i) (omega arith) (omega arith)
 
   -- ---- rule 5
 

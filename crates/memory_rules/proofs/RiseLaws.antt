@@ -7,16 +7,16 @@ use native.Mathlib.Omega.{arith}
 use native.Mathlib.Decide.{decLt}
 use mathlib.Core.Bool.{true}
 use mathlib.Core.Logic.{_⊎_, inl, inr, ⊎-elim}
-use mathlib.Core.Path.{_∙_, _≡_, ap, subst, sym}
+use mathlib.Core.Path.{_∙_, _≡_, subst, sym}
 use lib.ListN.{length}
 use borrow.Author.Tests.{eq-eqb, eqb-true, lt-ltb, ltb-true}
-use Rattle.files.specs.Name.{Name, before}
+use Rattle.files.specs.Name.{before, key}
 use Rattle.files.specs.Record.{Record, Value, valueAt}
 use Rattle.files.specs.RecordFile.{valueBefore}
 use Rattle.files.specs.WellFormedRecord.{WfRecord}
 use Rattle.laws.proofs.BoundedLaws.{last}
 use Rattle.laws.proofs.ConnectiveLaws.{both-left, both-of, both-right, either-cases, either-left, either-right, true-false}
-use Rattle.files.proofs.NameLaws.{before-self, before-trans}
+use Rattle.files.proofs.NameLaws.{before-left, before-self, before-trans}
 
 -- by object, or by name at one object
 pub value-cases : (u v : Value) → valueBefore u v ≡ true → (u .object < v .object) ⊎ ((u .object ≡ v .object) × (before (u .attribute) (v .attribute) ≡ true))
@@ -43,10 +43,10 @@ value-trans u v w e f = go (value-cases u v e) (value-cases v w f)
     go (inr a) (inr b) = by-name u w (a .0 ∙ b .0) (before-trans (u .attribute) (v .attribute) (w .attribute) (a .1) (b .1))
 
 -- no value is before one of the same object and name
-value-self : (u v : Value) → u .object ≡ v .object → u .attribute ≡ v .attribute → valueBefore u v ≡ true → ⊥
+value-self : (u v : Value) → u .object ≡ v .object → key (u .attribute) ≡ key (v .attribute) → valueBefore u v ≡ true → ⊥
 value-self u v o w e =
     ⊎-elim (λ l. omega arith)
-    (λ b. true-false (b .1) (ap (λ (n : Name). before n (v .attribute)) w ∙ before-self (v .attribute))) (value-cases u v e)
+    (λ b. true-false (b .1) (before-left (v .attribute) (u .attribute) (v .attribute) w ∙ before-self (v .attribute))) (value-cases u v e)
 
 module _ (r : Record) (wf : WfRecord r) where
   value-far : (j i : ℕ) → i < j → j < length (r .values) → valueBefore (valueAt r i) (valueAt r j) ≡ true
@@ -56,7 +56,7 @@ module _ (r : Record) (wf : WfRecord r) where
       (λ b. value-trans (valueAt r i) (valueAt r j) (valueAt r (suc j)) (value-far j i b (omega arith)) (wf .values-rise j k)) (last l)
 
   -- one value for an object and a name
-  pub one-value : (i j : ℕ) → i < length (r .values) → j < length (r .values) → valueAt r i .object ≡ valueAt r j .object → valueAt r i .attribute ≡ valueAt r j .attribute → i ≡ j
+  pub one-value : (i j : ℕ) → i < length (r .values) → j < length (r .values) → valueAt r i .object ≡ valueAt r j .object → key (valueAt r i .attribute) ≡ key (valueAt r j .attribute) → i ≡ j
   one-value i j l k o w = go (decLt i j) (decLt j i)
     where
       go : Dec (i < j) → Dec (j < i) → i ≡ j

@@ -4,7 +4,7 @@
 use Prim.Native.Nat.{_<_, _≤_, ℕ}
 use native.Mathlib.Decide.{decLt}
 use native.Mathlib.Omega.{arith}
-use mathlib.Core.Bool.{Bool, cond, false, false≢true, not, true}
+use mathlib.Core.Bool.{Bool, cond, false, false≢true, not}
 use mathlib.Core.List.{[]}
 use mathlib.Core.Path.{_∙_, _≡_, ap, ap₂, sym}
 use lib.Dec.{eqb, ltb}
@@ -13,25 +13,25 @@ use borrow.Author.Tests.{le-ltb, lt-ltb}
 use Rattle.laws.specs.Connective.{both}
 use Rattle.files.specs.Diagram.{Association, Diagram, associationAt, attributeAt, noEnd, typeAt}
 use Rattle.files.specs.Membership.{hasLink, hasValue}
-use Rattle.files.specs.Name.{Name}
+use Rattle.files.specs.Name.{Name, key}
 use Rattle.files.specs.Record.{Record, linkAt, objectCount, objectType}
 use Rattle.records.specs.Represents.{codeAmong, linkBit, valueByte}
 use Rattle.records.specs.Slots.{attributeSlot, roleCount, roleName, roleSlot}
 use Rattle.records.specs.Written.{linkIn, valueIn}
 use Rattle.records.specs.declared.MemoryRecord.{MemoryRecord}
+use Rattle.records.proofs.SlotLaws.{among-alike, attribute-known, attribute-name, attribute-own, index-of, index-same, role-known, role-name, role-own}
 use Rattle.rules.specs.Arrow.{Side, r1, r2, target}
-use Rattle.rules.specs.Instance.{isInstance}
 use Rattle.rules.specs.Site.{siteOf}
 use Rattle.memory_rules.specs.Agree.{Agree}
 use Rattle.memory_rules.specs.SiteIn.{linkedIn, siteIn, typedIn, valuedIn}
 use Rattle.memory_rules.specs.Stands.{Stands}
 use Rattle.laws.proofs.BoundedLaws.{any-at}
 use Rattle.laws.proofs.ConnectiveLaws.{both-left, both-right, same-test}
-use Rattle.files.proofs.NameLaws.{same-equal, same-self}
-use Rattle.memory_rules.proofs.AgreeLaws.{instance-agrees}
+use Rattle.files.proofs.NameLaws.{key-length, same-key, same-self}
+use Rattle.files.proofs.MembershipLaws.{link-alike}
 use Rattle.memory_rules.proofs.AmongLaws.{code-has}
 use Rattle.memory_rules.proofs.CodeLaws.{name-long}
-use Rattle.memory_rules.proofs.SlotLaws.{attribute-known, attribute-name, attribute-own, index-of, index-same, role-known, role-name, role-own, target-known}
+use Rattle.memory_rules.proofs.SlotLaws.{target-known}
 
 module _ (d : Diagram) (r : Record) (m : MemoryRecord) (h : Stands d r m) where
   pub object-small : (o : ℕ) → o < m .count → o < 8
@@ -54,7 +54,7 @@ module _ (d : Diagram) (r : Record) (m : MemoryRecord) (h : Stands d r m) where
       let few : length (d .attributes) ≤ 32 = h .wf-diagram .few-attributes in
       h .represents .values o (attributeSlot d w) l (omega arith)
       ∙ ap (λ (b : Bool). cond b (codeAmong d r o (attributeAt d (attributeSlot d w) .name) (length (r .values))) 0) (attribute-own d w k)
-      ∙ ap (λ (v : Name). codeAmong d r o v (length (r .values))) (attribute-name d w k)
+      ∙ among-alike d r o _ _ (attribute-name d w k) (length (r .values))
 
   -- for every name
   pub valued-where : (o : ℕ) (w : Name) → o < 8 → valuedIn d m o w ≡ both (ltb (attributeSlot d w) (length (d .attributes))) (hasValue r o w)
@@ -82,7 +82,7 @@ module _ (d : Diagram) (r : Record) (m : MemoryRecord) (h : Stands d r m) where
       let few : length (d .associations) ≤ 16 = h .wf-diagram .few-associations in
       h .represents .links o (roleSlot d w) p l (omega arith) k
       ∙ ap (λ (b : Bool). both b (hasLink r o (roleName d (roleSlot d w)) p)) (role-own d w s)
-      ∙ ap (λ (v : Name). hasLink r o v p) (role-name d w s)
+      ∙ link-alike r o _ _ p (role-name d w s)
 
   pub linked-known : (o : ℕ) (w : Name) (p : ℕ) → o < 8 → p < 8 → roleSlot d w < roleCount d → linkedIn d m o w p ≡ hasLink r o w p
   unfolding linkedIn both
@@ -101,8 +101,8 @@ module _ (d : Diagram) (r : Record) (m : MemoryRecord) (h : Stands d r m) where
   unfolding hasLink
   no-empty-link o p = same-test _ _ (λ e.
       let i = any-at _ (length (r .links)) e in
-      let q : linkAt r (i .0) .role ≡ [] = same-equal _ _ (both-left _ _ (both-right _ _ (i .2))) in
-      let z : length (linkAt r (i .0) .role) ≡ 0 = ap length q in
+      let q : key (linkAt r (i .0) .role) ≡ key [] = same-key _ _ (both-left _ _ (both-right _ _ (i .2))) in
+      let z : length (linkAt r (i .0) .role) ≡ 0 = key-length _ _ q in
       let long : 1 ≤ length (linkAt r (i .0) .role) = name-long _ (h .wf-record .link (i .0) (i .1) .role-named) in
       absurd (omega arith)) (λ e. absurd (false≢true e))
 
@@ -131,7 +131,3 @@ module _ (d : Diagram) (r : Record) (m : MemoryRecord) (h : Stands d r m) where
     typed = typed-in;
     linked = λ o s a p l k. linked-at o s a p (object-small o l) (object-small p k);
   }
-
-  pub instance-in : (t o : ℕ) → o < m .count → isInstance d (siteIn d m) t o ≡ isInstance d (siteOf r) t o
-  unfolding siteIn
-  instance-in t o l = instance-agrees d (siteIn d m) (siteOf r) agrees t o l

@@ -6,7 +6,7 @@ use native.Mathlib.Decide.{decLt}
 use native.Mathlib.Omega.{arith}
 use mathlib.Core.Bool.{Bool, false, false≢true, not, true}
 use mathlib.Core.Logic.{⊎-elim}
-use mathlib.Core.Path.{_∙_, _≡_, ap, ap₂, refl, subst, sym}
+use mathlib.Core.Path.{_∙_, _≡_, ap, ap₂, refl, sym}
 use lib.Dec.{eqb}
 use lib.ListN.{length}
 use borrow.Author.Tests.{eq-eqb, eqb-false, eqb-true}
@@ -14,31 +14,26 @@ use Rattle.laws.specs.Bounded.{all}
 use Rattle.laws.specs.Connective.{both, imp, same}
 use Rattle.files.specs.Diagram.{Diagram, attributeAt}
 use Rattle.files.specs.Membership.{hasValue}
-use Rattle.files.specs.Name.{Name, sameName}
+use Rattle.files.specs.Name.{Name, key}
 use Rattle.files.specs.Record.{Record, Value, objectCount, valueAt}
 use Rattle.records.specs.Represents.{codeAmong, strayValue, valueFor}
 use Rattle.records.specs.Slots.{attributeSlot, codeOf, ownAttribute}
 use Rattle.records.specs.Written.{valueIn}
 use Rattle.records.specs.declared.MemoryRecord.{MemoryRecord}
+use Rattle.records.proofs.SlotLaws.{attribute-known, attribute-most, attribute-name, attribute-own, own-below, own-slot}
 use Rattle.rules.specs.Site.{siteOf}
 use Rattle.rules.specs.ValueRules.{declared, declares, rule3, rule3At, rule3For, rule4, rule4At}
+use Rattle.rules.proofs.KeyLaws.{declares-alike, rule3-alike}
 use Rattle.memory_rules.specs.JudgeIn.{rule3In}
 use Rattle.memory_rules.specs.SiteIn.{keptValue, siteIn, valueKept}
 use Rattle.memory_rules.specs.Stands.{Stands}
 use Rattle.laws.proofs.BoundedLaws.{all-at, all-ext, all-of, any-at, any-no, any-of}
-use Rattle.laws.proofs.ConnectiveLaws.{both-left, both-of, both-right, imp-of, imp-use, known, same-test}
-use Rattle.files.proofs.NameLaws.{same-equal, same-self}
+use Rattle.laws.proofs.ConnectiveLaws.{both-implied, both-left, both-of, both-right, imp-of, imp-use, known, same-test}
+use Rattle.files.proofs.NameLaws.{key-same, same-key, same-self}
 use Rattle.memory_rules.proofs.AgreeLaws.{declared-agrees, declares-agrees}
 use Rattle.memory_rules.proofs.AmongLaws.{code-has, code-of}
 use Rattle.memory_rules.proofs.CodeLaws.{decoded-belongs}
 use Rattle.memory_rules.proofs.SiteInLaws.{agrees, object-small, value-kept, valued-known}
-use Rattle.memory_rules.proofs.SlotLaws.{attribute-known, attribute-most, attribute-name, attribute-own, own-below, own-slot}
-
--- a test beside one that implies it
-both-idle : (a b : Bool) → (a ≡ true → b ≡ true) → both a b ≡ a
-unfolding both
-both-idle true b f = f refl
-both-idle false b f = refl
 
 module _ (d : Diagram) (r : Record) where
   -- rule 3 has each value's attribute declared for its object
@@ -107,9 +102,9 @@ module _ (d : Diagram) (r : Record) (m : MemoryRecord) (h : Stands d r m) where
       let a : (o * 32 + s) / 32 ≡ o = omega arith in
       let b : (o * 32 + s) % 32 ≡ s = omega arith in
       let own : ownAttribute d s ≡ true = attribute-own d (valueAt r i .attribute) k in
-      let name : attributeAt d s .name ≡ valueAt r i .attribute = attribute-name d (valueAt r i .attribute) k in
+      let name : key (attributeAt d s .name) ≡ key (valueAt r i .attribute) = attribute-name d (valueAt r i .attribute) k in
       let is : valueFor (valueAt r i) o (attributeAt d s .name) ≡ true =
-      both-of _ _ (eq-eqb o o refl) (ap (sameName (valueAt r i .attribute)) name ∙ same-self (valueAt r i .attribute)) in
+      both-of _ _ (eq-eqb o o refl) (key-same (valueAt r i .attribute) (attributeAt d s .name) (sym name)) in
       (o * 32 + s, record { below = omega arith; within = l; own = rw b own; is = rw (a, b) is })
 
   -- ---- rule 3
@@ -125,7 +120,7 @@ module _ (d : Diagram) (r : Record) (m : MemoryRecord) (h : Stands d r m) where
   -- what is kept has names of the diagram, and so has every value of a record without strays
   names-in : (o : ℕ) → rule3At d (siteIn d m) o ≡ all (λ a. rule3For d (siteIn d m) o (attributeAt d a .name)) (length (d .attributes))
   unfolding rule3At siteIn keptValue valueKept
-  names-in o = both-idle _ _ (λ e. all-of _ (m .count * 32) (λ x l. imp-of _ _ (λ k.
+  names-in o = both-implied _ _ (λ e. all-of _ (m .count * 32) (λ x l. imp-of _ _ (λ k.
       all-at (λ a. rule3For d (siteIn d m) o (attributeAt d a .name)) (length (d .attributes)) e (x % 32) (own-below d (x % 32) (both-left _ _ k)))))
 
   no-stray : strayValue d r ≡ false → (i : ℕ) → i < length (r .values) → attributeSlot d (valueAt r i .attribute) < length (d .attributes)
@@ -137,10 +132,10 @@ module _ (d : Diagram) (r : Record) (m : MemoryRecord) (h : Stands d r m) where
 
   names-of : strayValue d r ≡ false → (o : ℕ) → rule3At d (siteOf r) o ≡ all (λ a. rule3For d (siteOf r) o (attributeAt d a .name)) (length (d .attributes))
   unfolding rule3At siteOf
-  names-of none o = both-idle _ _ (λ e. all-of _ (length (r .values)) (λ i l.
+  names-of none o = both-implied _ _ (λ e. all-of _ (length (r .values)) (λ i l.
       let k : attributeSlot d (valueAt r i .attribute) < length (d .attributes) = no-stray none i l in
-      subst (λ (w : Name). rule3For d (siteOf r) o w ≡ true) (attribute-name d (valueAt r i .attribute) k)
-      (all-at (λ a. rule3For d (siteOf r) o (attributeAt d a .name)) (length (d .attributes)) e (attributeSlot d (valueAt r i .attribute)) k)))
+      rule3-alike d r o _ _ (sym (attribute-name d (valueAt r i .attribute) k))
+      ∙ (all-at (λ a. rule3For d (siteOf r) o (attributeAt d a .name)) (length (d .attributes)) e (attributeSlot d (valueAt r i .attribute)) k)))
 
   rule3-clean : strayValue d r ≡ false → rule3 d (siteIn d m) ≡ rule3 d (siteOf r)
   unfolding rule3 siteIn siteOf
@@ -185,11 +180,11 @@ module _ (d : Diagram) (r : Record) (m : MemoryRecord) (h : Stands d r m) where
   rule4-pair x i p =
       let l : x < m .count * 32 = p .below in
       let object : valueAt r i .object ≡ x / 32 = eqb-true _ _ (both-left _ _ (p .is)) in
-      let name : valueAt r i .attribute ≡ attributeAt d (x % 32) .name = same-equal _ _ (both-right _ _ (p .is)) in
+      let name : key (valueAt r i .attribute) ≡ key (attributeAt d (x % 32) .name) = same-key _ _ (both-right _ _ (p .is)) in
       all-ext _ _ (length (d .attributes)) (λ a k.
       ap₂ imp
       (declares-agrees d (siteIn d m) (siteOf r) (agrees d r m h) (x / 32) a (attributeAt d (x % 32) .name) (omega arith)
-      ∙ ap₂ (λ (o : ℕ) (w : Name). declares d (siteOf r) o a w) (sym object) (sym name))
+      ∙ ap (λ (o : ℕ). declares d (siteOf r) o a (attributeAt d (x % 32) .name)) (sym object) ∙ declares-alike d (siteOf r) (valueAt r i .object) a _ _ (sym name))
       (decoded-belongs d (h .wf-diagram) (valueAt r i) (keptValue d m x) (valueIn m (x / 32) (x % 32) - 1) (attributeAt d a .valueType) (pair-code x i p) refl refl
       (h .wf-diagram .attribute a k .value-type-known)))
 

@@ -1,6 +1,6 @@
 -- A sheet with a narrower table of targets allows the same worlds.
 -- Assumes nothing.
-use Prim.Native.Nat.{_*_, _+_, _<_, ℕ}
+use Prim.Native.Nat.{_*_, _+_, ℕ}
 use mathlib.Core.List.{List}
 use native.Mathlib.Omega.{arith}
 use Rattle.growing.specs.World.{World}

@@ -3,7 +3,7 @@
 use Prim.Native.Nat.{_*_, _+_, _/_, _<_, _≤_, ℕ}
 use mathlib.Core.Bool.{Bool, cond, false, true}
 use mathlib.Core.List.{List}
-use mathlib.Core.Path.{_∙_, _≡_, ap, ap₂, refl, subst, sym}
+use mathlib.Core.Path.{_∙_, _≡_, ap, ap₂, refl, sym}
 use native.Mathlib.Omega.{arith}
 use lib.Bits.{bitAnd}
 use lib.Dec.{eqb}
@@ -16,7 +16,7 @@ use Rattle.laws.proofs.ConnectiveLaws.{and-both, and-left, true-false}
 use Rattle.laws.proofs.CountLaws.{tally-less}
 use Rattle.growing.specs.World.{World}
 use Rattle.worlds.specs.declared.Lines.{Lines}
-use Rattle.worlds.specs.Kept.{Allowed, Sheet, sheet}
+use Rattle.worlds.specs.Kept.{sheet}
 use Rattle.narrowing.specs.Narrow.{Narrows, usableRow}
 
 nothing : (u : ℕ) (A : Type 0) → bit u 0 ≡ true → A

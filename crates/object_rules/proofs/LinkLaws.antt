@@ -11,7 +11,7 @@ use borrow.Author.Tests.{eqb-true, ltb-true}
 use Rattle.laws.specs.Bounded.{all, any}
 use Rattle.laws.specs.Connective.{both, either, imp}
 use Rattle.laws.proofs.BoundedLaws.{all-ext, any-ext}
-use Rattle.laws.proofs.ConnectiveLaws.{both-left, both-right}
+use Rattle.laws.proofs.ConnectiveLaws.{both-left, both-right, imp-under}
 use Rattle.laws.proofs.SearchLaws.{both-no, both-yes}
 use Rattle.files.specs.Diagram.{Association, associationAt}
 use Rattle.files.specs.Name.{Name, sameName}
@@ -20,9 +20,11 @@ use Rattle.fields.specs.Slot.{slotName}
 use Rattle.diagrams.specs.declared.StoredDiagram.{StoredDiagram}
 use Rattle.diagrams.specs.View.{associationIn, diagramOf, endIn}
 use Rattle.diagrams.specs.Held.{Held}
+use Rattle.diagrams.proofs.NamedLaws.{role-count, role-named}
 use Rattle.diagrams.proofs.ViewLaws.{association-at, association-count}
 use Rattle.records.specs.declared.MemoryRecord.{MemoryRecord}
 use Rattle.records.specs.Slots.{ownRole, roleCount, roleName}
+use Rattle.records.proofs.SlotLaws.{role-same}
 use Rattle.rules.specs.Arrow.{r1, r2}
 use Rattle.rules.specs.Instance.{isInstance}
 use Rattle.rules.specs.LinkRules.{permits, rule5, rule5At}
@@ -30,26 +32,22 @@ use Rattle.memory_rules.specs.JudgeIn.{rule5In}
 use Rattle.memory_rules.specs.SiteIn.{keptLink, linkKept, siteIn}
 use Rattle.masks.specs.Masks.{linkIn}
 use Rattle.tables.specs.Tables.{Instances, RoleSlots}
-use Rattle.tables.proofs.OwnLaws.{role-same}
-use Rattle.tables.proofs.TableLaws.{instances-at, role-named}
+use Rattle.tables.proofs.TableLaws.{instances-at}
 use Rattle.permits.specs.Permits.{joins, permitsAt}
 use Rattle.object_rules.specs.LinksIn.{linkFits}
 use Rattle.object_rules.specs.ValuesIn.{ownSlot}
-use Rattle.tables.proofs.UnderLaws.{both-under, imp-under}
 use Rattle.object_rules.proofs.OwnSlotLaws.{own-role}
 
 module _ (d : StoredDiagram) (held : Held d) (m : MemoryRecord) (few : m .count ≤ 8) (masks : List ℕ) (is : Instances (diagramOf d) m masks) (slots : List ℕ) (at : RoleSlots (diagramOf d) slots) where
-  role-count : roleCount (diagramOf d) ≡ d .associations .count * 2
-  role-count = ap (λ (n : ℕ). n * 2) (association-count d)
-
   -- the role of end e is that of slot s, its name's own
   role-is : (e s : ℕ) → e < d .associations .count * 2 → s < d .associations .count * 2 → getD slots s 0 ≡ s
       → sameName (slotName (d .associations .roles) e) (roleName (diagramOf d) s) ≡ eqb (getD slots e 0) s
+  unfolding roleName
   role-is e s l h own =
-      let n = role-count in
+      let n = role-count d in
       let le : e < roleCount (diagramOf d) = omega arith in
       let ls : s < roleCount (diagramOf d) = omega arith in
-      ap (λ (w : Name). sameName w (roleName (diagramOf d) s)) (sym (role-named d e l)) ∙ role-same (diagramOf d) e s le ls
+      ap (λ (w : Name). sameName w (roleName (diagramOf d) s)) (sym (role-named d e l)) ∙ role-same (diagramOf d) e (roleName (diagramOf d) s) le
       ∙ ap₂ eqb (sym (at .exact e le)) (sym (at .exact s ls) ∙ own)
 
   joins-is : (carried : Bool) (s o p from to : ℕ) → s < d .associations .count * 2 → getD slots s 0 ≡ s → o < 8 → p < 8 → to < d .associations .count * 2

@@ -7,13 +7,13 @@ use lib.Dec.{eqb, ltb}
 use lib.ListN.{getD, length}
 use borrow.Author.Tests.{ltb-true}
 use Rattle.laws.specs.Connective.{both}
+use Rattle.laws.proofs.ConnectiveLaws.{both-under}
 use Rattle.diagrams.specs.declared.StoredDiagram.{StoredDiagram}
 use Rattle.diagrams.specs.View.{diagramOf}
 use Rattle.diagrams.proofs.ViewLaws.{association-count, attribute-count}
 use Rattle.records.specs.Slots.{ownAttribute, ownRole, roleCount}
 use Rattle.tables.specs.Tables.{AttributeSlots, RoleSlots}
 use Rattle.object_rules.specs.ValuesIn.{ownSlot}
-use Rattle.tables.proofs.UnderLaws.{both-under}
 
 module _ (d : StoredDiagram) (slots : List ℕ) where
   pub own-attribute : AttributeSlots (diagramOf d) slots → (s : ℕ) → ownAttribute (diagramOf d) s ≡ ownSlot slots (d .attributes .count) s

@@ -12,23 +12,20 @@ use Rattle.laws.specs.Bounded.{all, any, tally}
 use Rattle.laws.specs.Connective.{both, same}
 use Rattle.laws.proofs.ConnectiveLaws.{both-of}
 use Rattle.laws.proofs.SearchLaws.{by-yes, imp-no, imp-yes}
+use Rattle.laws.proofs.ListLaws.{read-at}
 use Rattle.object_rules.specs.TypesIn.{singleAt, typedAt}
 use Rattle.declarations.specs.Declares.{agreesAt, declaresAt}
 use Rattle.object_rules.specs.ValuesIn.{dueAt, ownSlot, valueFits}
-
--- a read at an index that is known
-read : (l : List ℕ) (i : ℕ) {w b : ℕ} → w ≡ i → b ≡ getD l w 0 → b ≡ getD l i 0
-read l i e q = q ∙ ap (λ (k : ℕ). getD l k 0) e
 
 -- ---- rule 2
 
 pub single-other : (kinds types : List ℕ) (n i : ℕ) {w b : ℕ} → w ≡ i → b ≡ getD kinds w 0 → (b ≡ 3 → ⊥) → true ≡ singleAt kinds types n i
 unfolding singleAt
-single-other kinds types n i e q f = imp-no _ (ne-eqb _ _ (λ z. f (read kinds i e q ∙ z)))
+single-other kinds types n i e q f = imp-no _ (ne-eqb _ _ (λ z. f (read-at kinds i e q ∙ z)))
 
 pub single-by : (kinds types : List ℕ) (n i : ℕ) {w b k : ℕ} → w ≡ i → b ≡ getD kinds w 0 → b ≡ 3 → k ≡ tally (typedAt types i) n → eqb k 1 ≡ singleAt kinds types n i
 unfolding singleAt
-single-by kinds types n i e q z t = imp-yes (eq-eqb _ _ (sym (read kinds i e q) ∙ z)) (ap (λ (k : ℕ). eqb k 1) t)
+single-by kinds types n i e q z t = imp-yes (eq-eqb _ _ (sym (read-at kinds i e q) ∙ z)) (ap (λ (k : ℕ). eqb k 1) t)
 
 -- ---- rule 3
 
@@ -37,7 +34,7 @@ pub due-by : (values owners masks slots : List ℕ) (n o a : ℕ) {w s v u b : �
     → r ≡ dueAt values owners masks slots n o a
 unfolding dueAt
 due-by values owners masks slots n o a e f g h b q r =
-    let s = read slots a e f in
+    let s = read-at slots a e f in
     r
     ∙ ap₂ (λ (x : ℕ) (y : Bool). same (not (eqb x 0)) y)
     (b ∙ ap₂ (λ (x y : ℕ). getD values (x * 32 + y) 0) g (h ∙ s)) (q ∙ ap (λ (x : ℕ). any (declaresAt owners masks slots o x) n) s)

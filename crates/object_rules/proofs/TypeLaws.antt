@@ -10,6 +10,7 @@ use Rattle.laws.specs.Bounded.{all, tally}
 use Rattle.laws.specs.Connective.{both, either, imp}
 use Rattle.laws.proofs.BoundedLaws.{all-ext}
 use Rattle.laws.proofs.CountLaws.{tally-ext}
+use Rattle.laws.proofs.ConnectiveLaws.{both-under}
 use Rattle.files.specs.Diagram.{TypeDef, isConcrete, isSingleton, typeAt}
 use Rattle.diagrams.specs.declared.StoredDiagram.{StoredDiagram}
 use Rattle.diagrams.specs.View.{diagramOf, typeIn}
@@ -21,7 +22,6 @@ use Rattle.rules.specs.TypeRules.{rule1, rule1At, rule2, rule2At}
 use Rattle.memory_rules.specs.SiteIn.{siteIn}
 use Rattle.tables.proofs.OwnLaws.{any-type, has-type}
 use Rattle.object_rules.specs.TypesIn.{concreteAt, singleAt, typedAt}
-use Rattle.tables.proofs.UnderLaws.{both-under}
 
 module _ (d : StoredDiagram) (held : Held d) (m : MemoryRecord) where
   concrete-is : (i : ℕ) → i < d .types .count → isConcrete (typeAt (diagramOf d) i) ≡ either (eqb (getD (d .types .kinds) i 0) 0) (eqb (getD (d .types .kinds) i 0) 3)

@@ -13,7 +13,7 @@ use Rattle.laws.specs.Bits.{bit}
 use Rattle.laws.specs.Bounded.{all, any}
 use Rattle.laws.specs.Connective.{both, imp, same}
 use Rattle.laws.proofs.BoundedLaws.{all-at, all-ext, all-of, any-ext}
-use Rattle.laws.proofs.ConnectiveLaws.{both-left, both-right, imp-of}
+use Rattle.laws.proofs.ConnectiveLaws.{both-left, both-right, imp-of, both-implied, imp-under}
 use Rattle.laws.proofs.SearchLaws.{both-no, both-yes}
 use Rattle.files.specs.Diagram.{attributeAt, valueTypeAt}
 use Rattle.diagrams.specs.declared.StoredDiagram.{StoredDiagram}
@@ -23,16 +23,15 @@ use Rattle.diagrams.proofs.ViewLaws.{attribute-count}
 use Rattle.records.specs.declared.MemoryRecord.{MemoryRecord}
 use Rattle.records.specs.Slots.{ownAttribute}
 use Rattle.records.specs.Written.{valueIn}
+use Rattle.records.proofs.SlotLaws.{attribute-below, attribute-same}
 use Rattle.rules.specs.ValueRules.{belongs, declared, declares, rule3, rule3At, rule3For, rule4, rule4At}
 use Rattle.memory_rules.specs.JudgeIn.{rule3In}
 use Rattle.memory_rules.specs.SiteIn.{keptValue, siteIn, valueKept, valuedIn}
 use Rattle.tables.specs.Tables.{AttributeSlots, Coded, Instances}
-use Rattle.tables.proofs.OwnLaws.{attribute-below, attribute-same}
 use Rattle.tables.proofs.TableLaws.{attribute-owner, attribute-type, instances-at}
 use Rattle.declarations.specs.Declares.{agreesAt, declaresAt}
 use Rattle.object_rules.specs.ValuesIn.{dueAt, dueFor, ownSlot, valueFits}
 use Rattle.tables.proofs.BelongLaws.{belongs-known, belongs-none}
-use Rattle.tables.proofs.UnderLaws.{both-implied, both-under, imp-under}
 use Rattle.object_rules.proofs.OwnSlotLaws.{own-attribute}
 
 module _ (d : StoredDiagram) (held : Held d) (m : MemoryRecord) (coded : Coded (diagramOf d) m) (masks : List ℕ) (is : Instances (diagramOf d) m masks) (slots : List ℕ) (at : AttributeSlots (diagramOf d) slots) where
@@ -48,7 +47,7 @@ module _ (d : StoredDiagram) (held : Held d) (m : MemoryRecord) (coded : Coded (
       ap₂ both
       (instances-at (diagramOf d) m masks is (attributeAt (diagramOf d) a .owner) o (held .wf .attribute a (below la) .owner-known) lo
       ∙ ap (λ (t : ℕ). bit o (getD masks t 0)) (attribute-owner d a la))
-      (attribute-same (diagramOf d) a s (below la) (below ls) ∙ ap₂ eqb (sym (at .exact a (below la))) (sym (at .exact s (below ls))))
+      (attribute-same (diagramOf d) a (attributeAt (diagramOf d) s .name) (below la) ∙ ap₂ eqb (sym (at .exact a (below la))) (sym (at .exact s (below ls))))
 
   declared-is : (o s : ℕ) → o < 8 → s < d .attributes .count
       → declared (diagramOf d) (siteIn (diagramOf d) m) o (attributeAt (diagramOf d) s .name) ≡ any (declaresAt (d .attributes .owners) masks slots o (getD slots s 0)) (d .attributes .count)

@@ -1,6 +1,6 @@
 -- What a query that is built step by step asks of a world: what its steps say. A search takes each of these queries.
 -- Assumes nothing.
-use Prim.Native.Nat.{_%_, _*_, _+_, _<_, _^_, _≤_, suc, zero, ℕ}
+use Prim.Native.Nat.{_%_, _*_, _+_, _<_, _^_, _≤_, ℕ}
 use mathlib.Core.Path.{_∙_, _≡_, ap, refl, subst, sym}
 use mathlib.Core.Bool.{Bool, _&&_, false, true}
 use mathlib.Core.List.{List, [], _∷_}
@@ -14,23 +14,19 @@ use Rattle.laws.specs.Bounded.{tally}
 use Rattle.laws.proofs.BitLaws.{bit-with, bit-zero}
 use Rattle.laws.proofs.ConnectiveLaws.{true-false}
 use Rattle.laws.proofs.CountLaws.{tally-le}
-use Rattle.growing.specs.World.{World}
-use Rattle.link_search.specs.Nets.{Within, netOf}
+use Rattle.laws.proofs.ListLaws.{zeros}
+use Rattle.growing.specs.World.{World, sourceCount}
+use Rattle.link_search.specs.Nets.{InLimits, netOf}
 use Rattle.link_search.proofs.NetLaws.{Bit, bit-on}
 use Rattle.worlds.specs.declared.Query.{Query}
-use Rattle.worlds.specs.Asked.{Asked, Sane}
+use Rattle.worlds.specs.Asked.{Satisfies, Sane}
 use Rattle.queries.specs.Forms.{avoiding, barred, columned, linked, rowed, seeded, withBit}
 
 -- ---- rows of bits
 
-none-at : (n i : ℕ) → _≡_ {A = ℕ} (getD (replicate n 0) i 0) 0
-none-at zero i = refl
-none-at (suc n) zero = refl
-none-at (suc n) (suc i) = none-at n i
-
 -- empty rows have no bit
 no-bit : (n i p : ℕ) → netOf (replicate n 0) i p ≡ true → ⊥
-no-bit n i p e = true-false e (ap (bit p) (none-at n i) ∙ bit-zero p)
+no-bit n i p e = true-false e (ap (bit p) (zeros n i) ∙ bit-zero p)
 
 module _ (rows : List ℕ) (s o p : ℕ) (long : length rows ≡ 256) (hs : s < 32) (ho : o < 8) where
   long-with : length (withBit rows s o p) ≡ 256
@@ -166,7 +162,7 @@ abbrev pub masksOf : ℕ → ℕ → ℕ → List ℕ
 masksOf a b c = a ∷ b ∷ c ∷ 0 ∷ 0 ∷ 0 ∷ 0 ∷ 0 ∷ []
 
 module _ (w : World) where
-  pub asked-seeded : (k a b c : ℕ) → w .size ≤ 8 → k ≤ w .size → ((o : ℕ) → o < k → bit (w .kind o) (getD (masksOf a b c) o 0) ≡ true) → Asked (seeded k a b c) w
+  pub asked-seeded : (k a b c : ℕ) → w .size ≤ 8 → k ≤ w .size → ((o : ℕ) → o < k → bit (w .kind o) (getD (masksOf a b c) o 0) ≡ true) → Satisfies (seeded k a b c) w
   unfolding seeded
   asked-seeded k a b c few many typed = record {
     many = many;
@@ -178,16 +174,16 @@ module _ (w : World) where
     column = λ _. record { least = omega arith; most = omega (arith, tally-le (λ o. bit (w .kind o) 0 && w .link 0 o 0) (w .size)) };
   }
 
-  pub seeded-many : (k a b c : ℕ) → Asked (seeded k a b c) w → k ≤ w .size
+  pub seeded-many : (k a b c : ℕ) → Satisfies (seeded k a b c) w → k ≤ w .size
   unfolding seeded
   seeded-many k a b c h = h .many
 
-  pub seeded-typed : (k a b c : ℕ) → Asked (seeded k a b c) w → (o : ℕ) → o < k → bit (w .kind o) (getD (masksOf a b c) o 0) ≡ true
+  pub seeded-typed : (k a b c : ℕ) → Satisfies (seeded k a b c) w → (o : ℕ) → o < k → bit (w .kind o) (getD (masksOf a b c) o 0) ≡ true
   unfolding seeded
   seeded-typed k a b c h = h .typed
 
   module _ (k : ℕ) (q : Query) (s o p : ℕ) (f : Fit k q) (hs : s < 32) (ho : o < k) (hp : p < k) where
-    pub asked-linked : Asked q w → w .link s o p ≡ true → Asked (linked q s o p) w
+    pub asked-linked : Satisfies q w → w .link s o p ≡ true → Satisfies (linked q s o p) w
     unfolding linked
     asked-linked a e = record {
       many = a .many;
@@ -199,11 +195,11 @@ module _ (w : World) where
       column = a .column;
     }
 
-    pub linked-link : Asked (linked q s o p) w → w .link s o p ≡ true
+    pub linked-link : Satisfies (linked q s o p) w → w .link s o p ≡ true
     unfolding linked
     linked-link a = a .must o s p (omega arith) hs (omega arith) (with-there (q .must) s o p (f .long) hs (omega arith) (omega arith))
 
-    pub linked-asked : Asked (linked q s o p) w → Asked q w
+    pub linked-asked : Satisfies (linked q s o p) w → Satisfies q w
     unfolding linked
     linked-asked a = record {
       many = a .many;
@@ -215,7 +211,7 @@ module _ (w : World) where
       column = a .column;
     }
 
-    pub asked-barred : Asked q w → w .link s o p ≡ false → Asked (barred q s o p) w
+    pub asked-barred : Satisfies q w → w .link s o p ≡ false → Satisfies (barred q s o p) w
     unfolding barred
     asked-barred a e = record {
       many = a .many;
@@ -227,11 +223,11 @@ module _ (w : World) where
       column = a .column;
     }
 
-    pub barred-link : Asked (barred q s o p) w → w .link s o p ≡ false
+    pub barred-link : Satisfies (barred q s o p) w → w .link s o p ≡ false
     unfolding barred
     barred-link a = a .shut o s p (omega arith) hs (omega arith) (with-there (q .shut) s o p (f .longShut) hs (omega arith) (omega arith))
 
-    pub barred-asked : Asked (barred q s o p) w → Asked q w
+    pub barred-asked : Satisfies (barred q s o p) w → Satisfies q w
     unfolding barred
     barred-asked a = record {
       many = a .many;
@@ -246,7 +242,7 @@ module _ (w : World) where
 -- ---- counts and types of all objects: the last step of a query with one seed, or none
 
 module _ (w : World) (few : w .size ≤ 8) where
-  pub asked-rowed : (a s low high : ℕ) → Asked (seeded 1 a 0 0) w → Within low high (tally (λ p. w .link s 0 p) (w .size)) → Asked (rowed (seeded 1 a 0 0) s low high) w
+  pub asked-rowed : (a s low high : ℕ) → Satisfies (seeded 1 a 0 0) w → InLimits low high (tally (λ p. w .link s 0 p) (w .size)) → Satisfies (rowed (seeded 1 a 0 0) s low high) w
   unfolding rowed seeded
   asked-rowed a s low high h e = record {
     many = h .many;
@@ -258,11 +254,11 @@ module _ (w : World) (few : w .size ≤ 8) where
     column = h .column;
   }
 
-  pub rowed-within : (a s low high : ℕ) → Asked (rowed (seeded 1 a 0 0) s low high) w → Within low high (tally (λ p. w .link s 0 p) (w .size))
+  pub rowed-within : (a s low high : ℕ) → Satisfies (rowed (seeded 1 a 0 0) s low high) w → InLimits low high (tally (λ p. w .link s 0 p) (w .size))
   unfolding rowed seeded
   rowed-within a s low high h = h .row (omega arith)
 
-  pub rowed-asked : (a s low high : ℕ) → Asked (rowed (seeded 1 a 0 0) s low high) w → Asked (seeded 1 a 0 0) w
+  pub rowed-asked : (a s low high : ℕ) → Satisfies (rowed (seeded 1 a 0 0) s low high) w → Satisfies (seeded 1 a 0 0) w
   unfolding rowed seeded
   rowed-asked a s low high h = record {
     many = h .many;
@@ -274,10 +270,7 @@ module _ (w : World) (few : w .size ≤ 8) where
     column = h .column;
   }
 
-  abbrev pub sourcesOf : ℕ → ℕ → ℕ → ℕ
-  sourcesOf s from p = tally (λ o. bit (w .kind o) from && w .link s o p) (w .size)
-
-  pub asked-columned : (a s from least most : ℕ) → Asked (seeded 1 a 0 0) w → Within least most (sourcesOf s from 0) → Asked (columned (seeded 1 a 0 0) s from least most) w
+  pub asked-columned : (a s from least most : ℕ) → Satisfies (seeded 1 a 0 0) w → InLimits least most (sourceCount w s from 0) → Satisfies (columned (seeded 1 a 0 0) s from least most) w
   unfolding columned seeded
   asked-columned a s from least most h e = record {
     many = h .many;
@@ -289,11 +282,11 @@ module _ (w : World) (few : w .size ≤ 8) where
     column = λ _. e;
   }
 
-  pub columned-within : (a s from least most : ℕ) → Asked (columned (seeded 1 a 0 0) s from least most) w → Within least most (sourcesOf s from 0)
+  pub columned-within : (a s from least most : ℕ) → Satisfies (columned (seeded 1 a 0 0) s from least most) w → InLimits least most (sourceCount w s from 0)
   unfolding columned seeded
   columned-within a s from least most h = h .column (omega arith)
 
-  pub columned-asked : (a s from least most : ℕ) → Asked (columned (seeded 1 a 0 0) s from least most) w → Asked (seeded 1 a 0 0) w
+  pub columned-asked : (a s from least most : ℕ) → Satisfies (columned (seeded 1 a 0 0) s from least most) w → Satisfies (seeded 1 a 0 0) w
   unfolding columned seeded
   columned-asked a s from least most h = record {
     many = h .many;
@@ -305,10 +298,10 @@ module _ (w : World) (few : w .size ≤ 8) where
     column = λ _. record { least = omega arith; most = omega (arith, tally-le (λ o. bit (w .kind o) 0 && w .link 0 o 0) (w .size)) };
   }
 
-  pub asked-avoiding : (never : ℕ) → ((o : ℕ) → o < w .size → bit (w .kind o) never ≡ false) → Asked (avoiding (seeded 0 0 0 0) never) w
+  pub asked-avoiding : (never : ℕ) → ((o : ℕ) → o < w .size → bit (w .kind o) never ≡ false) → Satisfies (avoiding (seeded 0 0 0 0) never) w
   unfolding avoiding seeded
   asked-avoiding never h =
-      let a : Asked (seeded 0 0 0 0) w = asked-seeded w 0 0 0 0 few (omega arith) (λ o l. absurd (omega arith)) in
+      let a : Satisfies (seeded 0 0 0 0) w = asked-seeded w 0 0 0 0 few (omega arith) (λ o l. absurd (omega arith)) in
       record {
         many = a .many;
         typed = a .typed;
@@ -319,6 +312,6 @@ module _ (w : World) (few : w .size ≤ 8) where
         column = a .column;
       }
 
-  pub avoiding-all : (never : ℕ) → Asked (avoiding (seeded 0 0 0 0) never) w → (o : ℕ) → o < w .size → bit (w .kind o) never ≡ false
+  pub avoiding-all : (never : ℕ) → Satisfies (avoiding (seeded 0 0 0 0) never) w → (o : ℕ) → o < w .size → bit (w .kind o) never ≡ false
   unfolding avoiding seeded
   avoiding-all never a o l = a .avoids o (omega arith) l

@@ -7,16 +7,16 @@ use native.Mathlib.Omega.{arith}
 use Rattle.laws.specs.Bits.{bit}
 use Rattle.laws.specs.Bounded.{tally}
 use Rattle.laws.proofs.ConnectiveLaws.{true-false}
-use Rattle.growing.specs.World.{World}
-use Rattle.link_search.specs.Nets.{Within}
+use Rattle.growing.specs.World.{World, sourceCount}
+use Rattle.link_search.specs.Nets.{InLimits}
 use Rattle.worlds.specs.declared.Query.{Query}
 use Rattle.worlds.specs.Kept.{Allowed, Sheet, TypesAvoided}
-use Rattle.worlds.specs.Asked.{Answers, Asked, Breaks, Solution}
+use Rattle.worlds.specs.Asked.{Answers, Satisfies, Breaks, Solution}
 use Rattle.worlds.proofs.RenumberLaws.{column-tally, row-tally}
 use Rattle.worlds.proofs.BringLaws.{bring-one, bring-two}
 use Rattle.queries.specs.Forms.{avoiding, columned, rowed, seeded}
 use Rattle.queries.specs.Avoided.{ColumnsAvoided, LinksAvoided, LoopsAvoided, PairsAvoided, RowsAvoided}
-use Rattle.queries.proofs.AskedLaws.{asked-avoiding, asked-columned, asked-linked, asked-rowed, asked-seeded, avoiding-all, columned-asked, columned-within, fit-seeded, linked-asked, linked-link, rowed-asked, rowed-within, seeded-many, seeded-typed, sourcesOf}
+use Rattle.queries.proofs.AskedLaws.{asked-avoiding, asked-columned, asked-linked, asked-rowed, asked-seeded, avoiding-all, columned-asked, columned-within, fit-seeded, linked-asked, linked-link, rowed-asked, rowed-within, seeded-many, seeded-typed}
 use Rattle.queries.proofs.BreakLaws.{breaks-query}
 use Rattle.queries.proofs.FitLaws.{linkQuery, loopQuery}
 use Rattle.queries.proofs.SeedLaws.{linked-as, one-seed, two-seeds}
@@ -26,8 +26,8 @@ module _ (x : Sheet) (n : ℕ) (ok : Bool) (m : World) where
   abbrev pub Said : Query → Query → (World → Type 0) → Type 0
   Said q z K = q ≡ z → Answers (Solution x q n) ok m → Breaks x K n ok m
 
-  pub said : (q z : Query) (K : World → Type 0) → ((w : World) → Allowed x w → Asked z w → K w → ⊥)
-      → ((w : World) → Allowed x w → ((v : World) → Allowed x v → v .size ≡ w .size → Asked z v → ⊥) → K w) → Said q z K
+  pub said : (q z : Query) (K : World → Type 0) → ((w : World) → Allowed x w → Satisfies z w → K w → ⊥)
+      → ((w : World) → Allowed x w → ((v : World) → Allowed x v → v .size ≡ w .size → Satisfies z v → ⊥) → K w) → Said q z K
   said q z K sound complete e a = breaks-query x n ok m K z sound complete (subst (λ (y : Query). Answers (Solution x y n) ok m) e a)
 
   pub typed-said : (q : Query) (a : ℕ) → Said q (seeded 1 a 0 0) (TypesAvoided a)
@@ -35,7 +35,7 @@ module _ (x : Sheet) (n : ℕ) (ok : Bool) (m : World) where
       (λ w h s k. true-false (seeded-typed w 1 a 0 0 s 0 (omega arith)) (k .at 0 (seeded-many w 1 a 0 0 s)))
       (λ w h none. record { at = λ o l. go w h none o l (bit (w .kind o) a) refl })
     where
-      go : (w : World) (h : Allowed x w) → ((v : World) → Allowed x v → v .size ≡ w .size → Asked (seeded 1 a 0 0) v → ⊥) → (o : ℕ) → o < w .size
+      go : (w : World) (h : Allowed x w) → ((v : World) → Allowed x v → v .size ≡ w .size → Satisfies (seeded 1 a 0 0) v → ⊥) → (o : ℕ) → o < w .size
           → (t : Bool) → bit (w .kind o) a ≡ t → bit (w .kind o) a ≡ false
       go w h none o l false e = e
       go w h none o l true e = let b = bring-one x w h o l in absurd (none (b .world) (b .allowed) (b .renumbered .size) (one-seed x w a o b l e))
@@ -104,7 +104,7 @@ module _ (x : Sheet) (n : ℕ) (ok : Bool) (m : World) where
               let c : tally (λ p. b .world .link s 0 p) (b .world .size) ≡ tally (λ p. w .link s o p) (w .size) =
               row-tally (b .renumbered) s 0 ∙ ap (λ (i : ℕ). tally (λ p. w .link s i p) (w .size)) (b .first 0 (omega arith)) in
               none (b .world) (b .allowed) (b .renumbered .size)
-              (asked-rowed (b .world) (b .allowed .few) a s low high (one-seed x w a o b l e) (subst (Within low high) (sym c) g));
+              (asked-rowed (b .world) (b .allowed .few) a s low high (one-seed x w a o b l e) (subst (InLimits low high) (sym c) g));
         })
 
     pub column-said : (a from low high : ℕ) → Said q (columned (seeded 1 a 0 0) s from low high) (ColumnsAvoided s a from low high)
@@ -116,8 +116,8 @@ module _ (x : Sheet) (n : ℕ) (ok : Bool) (m : World) where
         record {
           at = λ o l e g.
               let b = bring-one x w h o l in
-              let c : sourcesOf (b .world) (b .allowed .few) s from 0 ≡ sourcesOf w (h .few) s from o =
-              column-tally (b .renumbered) from s 0 ∙ ap (sourcesOf w (h .few) s from) (b .first 0 (omega arith)) in
+              let c : sourceCount (b .world) s from 0 ≡ sourceCount w s from o =
+              column-tally (b .renumbered) from s 0 ∙ ap (sourceCount w s from) (b .first 0 (omega arith)) in
               none (b .world) (b .allowed) (b .renumbered .size)
-              (asked-columned (b .world) (b .allowed .few) a s from low high (one-seed x w a o b l e) (subst (Within low high) (sym c) g));
+              (asked-columned (b .world) (b .allowed .few) a s from low high (one-seed x w a o b l e) (subst (InLimits low high) (sym c) g));
         })

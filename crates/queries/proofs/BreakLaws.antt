@@ -7,7 +7,7 @@ use Rattle.laws.proofs.ConnectiveLaws.{true-false}
 use Rattle.growing.specs.World.{World}
 use Rattle.worlds.specs.declared.Query.{Query}
 use Rattle.worlds.specs.Kept.{Allowed, Sheet}
-use Rattle.worlds.specs.Asked.{Answers, Asked, Breaks, Solution}
+use Rattle.worlds.specs.Asked.{Answers, Satisfies, Breaks, Solution}
 
 -- all allowed worlds of n objects keep K
 abbrev pub Throughout : Sheet → (World → Type 0) → ℕ → Type 0
@@ -30,8 +30,8 @@ module _ (x : Sheet) (n : ℕ) (ok : Bool) (m : World) where
       record { allowed = b .allowed; size = b .size; broken = λ t k. b .broken t (f m k); kept = λ t w a e. g w a e (b .kept t w a e) }
 
   -- a query that asks for what K rules out: a world that keeps K is not asked for, and one of which no numbering is asked for keeps K
-  pub breaks-query : (K : World → Type 0) (q : Query) → ((w : World) → Allowed x w → Asked q w → K w → ⊥)
-      → ((w : World) → Allowed x w → ((v : World) → Allowed x v → v .size ≡ w .size → Asked q v → ⊥) → K w)
+  pub breaks-query : (K : World → Type 0) (q : Query) → ((w : World) → Allowed x w → Satisfies q w → K w → ⊥)
+      → ((w : World) → Allowed x w → ((v : World) → Allowed x v → v .size ≡ w .size → Satisfies q v → ⊥) → K w)
       → Answers (Solution x q n) ok m → Breaks x K n ok m
   breaks-query K q sound complete a = record {
     allowed = λ t. a .sound t .allowed;

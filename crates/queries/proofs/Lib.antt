@@ -1,4 +1,3 @@
-pub mod TypeLaws
 pub mod AskedLaws
 pub mod FitLaws
 pub mod SeedLaws

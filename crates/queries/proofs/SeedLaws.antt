@@ -9,7 +9,7 @@ use lib.ListN.{getD}
 use Rattle.laws.specs.Bits.{bit}
 use Rattle.growing.specs.World.{World}
 use Rattle.worlds.specs.Kept.{Sheet}
-use Rattle.worlds.specs.Asked.{Asked}
+use Rattle.worlds.specs.Asked.{Satisfies}
 use Rattle.worlds.specs.Renumbered.{Brought, Renumbered}
 use Rattle.queries.specs.Forms.{seeded}
 use Rattle.queries.proofs.AskedLaws.{asked-seeded, masksOf}
@@ -26,7 +26,7 @@ module _ {w v : World} {at : ℕ → ℕ} (r : Renumbered w v at) where
 -- ---- the seeds of a query: objects that were brought in front
 
 module _ (x : Sheet) (w : World) where
-  pub one-seed : (a o : ℕ) (b : Brought x w (o ∷ []) 1) → o < w .size → bit (w .kind o) a ≡ true → Asked (seeded 1 a 0 0) (b .world)
+  pub one-seed : (a o : ℕ) (b : Brought x w (o ∷ []) 1) → o < w .size → bit (w .kind o) a ≡ true → Satisfies (seeded 1 a 0 0) (b .world)
   one-seed a o b l e = asked-seeded (b .world) 1 a 0 0 (b .allowed .few) (omega (arith, b .renumbered .size)) typed
     where
       typed : (i : ℕ) → i < 1 → bit (b .world .kind i) (getD (masksOf a 0 0) i 0) ≡ true
@@ -34,7 +34,7 @@ module _ (x : Sheet) (w : World) where
       typed (suc i) k = absurd (omega arith)
 
   pub two-seeds : (a c o p : ℕ) (b : Brought x w (o ∷ p ∷ []) 2) → o < w .size → p < w .size → (o ≡ p → ⊥) → bit (w .kind o) a ≡ true → bit (w .kind p) c ≡ true
-      → Asked (seeded 2 a c 0) (b .world)
+      → Satisfies (seeded 2 a c 0) (b .world)
   two-seeds a c o p b l m n e f = asked-seeded (b .world) 2 a c 0 (b .allowed .few) (omega (arith, b .renumbered .size, n)) typed
     where
       typed : (i : ℕ) → i < 2 → bit (b .world .kind i) (getD (masksOf a c 0) i 0) ≡ true
@@ -43,7 +43,7 @@ module _ (x : Sheet) (w : World) where
       typed (suc (suc i)) k = absurd (omega arith)
 
   pub three-seeds : (a c d o p r : ℕ) (b : Brought x w (o ∷ p ∷ r ∷ []) 3) → o < w .size → p < w .size → r < w .size → (o ≡ p → ⊥) → (o ≡ r → ⊥) → (p ≡ r → ⊥)
-      → bit (w .kind o) a ≡ true → bit (w .kind p) c ≡ true → bit (w .kind r) d ≡ true → Asked (seeded 3 a c d) (b .world)
+      → bit (w .kind o) a ≡ true → bit (w .kind p) c ≡ true → bit (w .kind r) d ≡ true → Satisfies (seeded 3 a c d) (b .world)
   three-seeds a c d o p r b l m k n n₁ n₂ e f g = asked-seeded (b .world) 3 a c d (b .allowed .few) (omega (arith, b .renumbered .size, n, n₁, n₂)) typed
     where
       typed : (i : ℕ) → i < 3 → bit (b .world .kind i) (getD (masksOf a c d) i 0) ≡ true

@@ -1,12 +1,11 @@
 -- What no world with certain tables has: the objects that a query asks for. Types are given as masks.
 -- Assumes nothing.
 use Prim.Native.Nat.{_<_, ℕ}
-use mathlib.Core.Bool.{_&&_, false, true}
+use mathlib.Core.Bool.{false, true}
 use mathlib.Core.Path.{_≡_}
 use Rattle.laws.specs.Bits.{bit}
-use Rattle.laws.specs.Bounded.{tally}
-use Rattle.growing.specs.World.{World}
-use Rattle.link_search.specs.Nets.{Within}
+use Rattle.growing.specs.World.{World, sourceCount, targetCount}
+use Rattle.link_search.specs.Nets.{InLimits}
 
 -- there are no two objects of the types a
 pub record PairsAvoided (a : ℕ) (w : World) : Type 0 where
@@ -22,11 +21,11 @@ pub record LoopsAvoided (s a : ℕ) (w : World) : Type 0 where
 
 -- no object of the types a has a number of targets in slot s that lies within the limits
 pub record RowsAvoided (s a low high : ℕ) (w : World) : Type 0 where
-  pub at : (o : ℕ) → o < w .size → bit (w .kind o) a ≡ true → Within low high (tally (λ p. w .link s o p) (w .size)) → ⊥
+  pub at : (o : ℕ) → o < w .size → bit (w .kind o) a ≡ true → InLimits low high (targetCount w s o) → ⊥
 
 -- no object of the types a has a number of sources in slot s, of the types `from`, that lies within the limits
 pub record ColumnsAvoided (s a from low high : ℕ) (w : World) : Type 0 where
-  pub at : (p : ℕ) → p < w .size → bit (w .kind p) a ≡ true → Within low high (tally (λ o. bit (w .kind o) from && w .link s o p) (w .size)) → ⊥
+  pub at : (p : ℕ) → p < w .size → bit (w .kind p) a ≡ true → InLimits low high (sourceCount w s from p) → ⊥
 
 -- no object of the types a has a link in slot s to another, of the types b, without the link back in slot u
 pub record HalvesAvoided (s u a b : ℕ) (w : World) : Type 0 where

@@ -1,6 +1,6 @@
 // Questions to the search by types: sets of types, and queries built from nothing, one demand after the other.
 ghost use mathlib.Core.Path.{_≡_};
-ghost use mathlib.Core.Bool.{not, true, false, _&&_};
+ghost use mathlib.Core.Bool.{true, false, _&&_};
 ghost use Prim.Native.Nat.{ℕ, _<_};
 ghost use lib.Dec.{eqb};
 ghost use Rattle.laws.specs.Bits.{bit};

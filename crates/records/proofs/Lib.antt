@@ -1,4 +1,5 @@
 pub mod WithinLaws
+pub mod SlotLaws
 pub mod RankLaws
 pub mod PlaceLaws
 pub mod WrittenLaws

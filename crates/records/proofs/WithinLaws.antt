@@ -2,40 +2,29 @@
 -- targets is one comparison.
 -- Assumes nothing.
 use Prim.Native.Nat.{ℕ, _*_, _+_, _-_, _/_, _^_, _<_}
-use native.Mathlib.Decide.{decLt}
-use native.Mathlib.Omega.{arith}
-use mathlib.Core.Bool.{Bool, true, false}
+use mathlib.Core.Bool.{Bool, true}
 use mathlib.Core.Logic.{_↔_, _≢_, ⊎-elim}
-use mathlib.Core.Path.{_≡_, sym, _∙_}
+use mathlib.Core.Path.{_≡_}
 use lib.Dec.{eqb, leb, ltb}
 use lib.ListN.{getD, length}
 use borrow.Author.Tests.{eq-eqb, eqb-true, le-leb, leb-true, lt-ltb, ltb-true}
-use Rattle.laws.specs.Bits.{bit}
 use Rattle.laws.specs.Bounded.{all}
 use Rattle.laws.specs.Connective.{both, either}
-use Rattle.laws.proofs.BitLaws.{bit-above, bits-below}
+use Rattle.laws.proofs.BitLaws.{bits-below, bit-below}
 use Rattle.laws.proofs.BoundedLaws.{all-at, all-of}
 use Rattle.laws.proofs.ConnectiveLaws.{both-left, both-of, both-right, either-cases, either-left, either-right, imp-of, imp-use, known, same-test, true-false}
 use Rattle.records.specs.declared.MemoryRecord.{MemoryRecord}
 use Rattle.files.specs.Diagram.{Diagram}
 use Rattle.records.specs.Slots.{roleCount}
-use Rattle.records.specs.Written.{IsValue, Within, constantKnown, linkIn, valueIn}
+use Rattle.records.specs.Written.{IsValue, Within, constantKnown, valueIn}
 use Rattle.records.specs.WithinTest.{objectKnown, rowKnown, targetsKnown, valueKnown, valuesKnown, within}
-
--- a bit of a number below 2 ^ n is below n
-below-of : (n x p : ℕ) → x < 2 ^ n → bit p x ≡ true → p < n
-below-of n x p h t = go (decLt p n)
-  where
-    go : Dec (p < n) → p < n
-    go (yes l) = l
-    go (no l) = absurd (true-false t (bit-above n p x h (omega arith)))
 
 -- the targets in a byte are all below n exactly when it is below 2 ^ n
 pub row-below : (n x : ℕ) → x < 256 → ltb x (2 ^ n) ≡ rowKnown n x
 unfolding rowKnown
 row-below n x l =
-    same-test _ _ (λ e. all-of _ 8 (λ p _. imp-of _ _ (λ t. lt-ltb _ _ (below-of n x p (ltb-true _ _ e) t))))
-    (λ e. lt-ltb _ _ (bits-below n x (λ p t. ltb-true _ _ (imp-use _ _ (all-at _ 8 e p (below-of 8 x p l t)) t))))
+    same-test _ _ (λ e. all-of _ 8 (λ p _. imp-of _ _ (λ t. lt-ltb _ _ (bit-below n x p (ltb-true _ _ e) t))))
+    (λ e. lt-ltb _ _ (bits-below n x (λ p t. ltb-true _ _ (imp-use _ _ (all-at _ 8 e p (bit-below 8 x p l t)) t))))
 
 module _ (d : Diagram) where
   value-known : (v : ℕ) → (valueKnown d v ≡ true) ↔ (v ≢ 0 → IsValue d (v - 1))

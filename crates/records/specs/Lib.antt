@@ -1,3 +1,4 @@
+pub mod Empty
 pub mod Slots
 pub mod Represents
 pub mod Places

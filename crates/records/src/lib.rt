@@ -1,4 +1,6 @@
 // A record in memory, as seen by one diagram: its types, values and links together, by that diagram's indices.
+ghost use mathlib.Core.Path.{_≡_};
+ghost use Rattle.records.specs.Empty.{emptyRecord};
 
 // Whether the record has something that the diagram has no index for.
 pub struct Strays {
@@ -17,4 +19,20 @@ pub struct MemoryRecord {
     // For object o and role slot s at o * 32 + s: one bit for each target.
     pub links: [u8; 256],
     pub strays: Strays,
+}
+
+// No object, no value, no link.
+pub fn empty_record() -> MemoryRecord
+    ensures { λ r. ⌜ r ≡ emptyRecord ⌝ }
+{
+    MemoryRecord {
+        count: 0,
+        types: [0u8; 8],
+        values: [0u8; 256],
+        links: [0u8; 256],
+        strays: Strays {
+            values: false,
+            links: false,
+        },
+    }
 }

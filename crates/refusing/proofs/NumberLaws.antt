@@ -65,12 +65,6 @@ value-types-full v most h = ap (full most) (value-type-total v) ∙ full-yes mos
 pub value-types-room : (v : ValueTypes) (most : ℕ) → v .count < most → full most (length (valueTypesOf v)) ≡ false
 value-types-room v most h = ap (full most) (value-type-total v) ∙ full-no most (v .count) h
 
-pub types-full : (t : Types) (most : ℕ) → most ≤ t .count → full most (length (typesOf t)) ≡ true
-types-full t most h = ap (full most) (type-total t) ∙ full-yes most (t .count) h
-
-pub types-room : (t : Types) (most : ℕ) → t .count < most → full most (length (typesOf t)) ≡ false
-types-room t most h = ap (full most) (type-total t) ∙ full-no most (t .count) h
-
 -- ---- 5, by the slots
 
 pub value-type-named : (v : ValueTypes) (c : List ℕ) {w : List ℕ} {r b : Bool} → w ≡ nameIn c → r ≡ any (λ i. sameName (slotName (v .names) i) w) (v .count) → r ≡ b

@@ -7,27 +7,23 @@ use mathlib.Core.List.{List}
 use mathlib.Core.Path.{_∙_, _≡_, ap, ap₂, refl, sym}
 use native.Mathlib.Omega.{arith}
 use lib.Dec.{ltb}
-use lib.ListN.{getD, getD-replicate, replicate}
+use lib.ListN.{getD}
 use borrow.Author.Tests.{lt-ltb, ltb-true}
 use Rattle.laws.specs.Bits.{bit}
-use Rattle.laws.specs.Bounded.{any, tally}
+use Rattle.laws.specs.Bounded.{tally}
 use Rattle.laws.proofs.BitLaws.{bit-zero}
 use Rattle.laws.proofs.BoundedLaws.{any-at, any-of}
 use Rattle.laws.proofs.ConnectiveLaws.{and-both, and-left, and-right, true-false}
 use Rattle.laws.proofs.CountLaws.{tally-mono}
+use Rattle.laws.proofs.ListLaws.{zeros}
 use Rattle.growing.specs.World.{World}
-use Rattle.growing.specs.Growth.{Ended, Extends, Nowhere}
+use Rattle.growing.specs.Growth.{Ended, Nowhere}
 use Rattle.growing.proofs.SplitLaws.{from-split}
-use Rattle.link_search.specs.Nets.{Within}
-use Rattle.worlds.specs.Asked.{Asked, Sane, Solution}
+use Rattle.worlds.specs.Asked.{Satisfies, Sane, Solution}
 use Rattle.worlds.specs.Kept.{Allowed, Sheet, Slotted, wholeBy, wholeOf}
 use Rattle.worlds.specs.declared.Lines.{Lines}
 use Rattle.worlds.specs.declared.Query.{Query}
 use Rattle.relaxing.specs.Relaxed.{cut, freed, relaxed, unforced}
-
--- no lower limit
-no-low : (n i : ℕ) → i < n → _≡_ {A = ℕ} (getD (replicate n 0) i 0) 0
-no-low n i l = getD-replicate {A = ℕ} n i 0 0 l
 
 -- fewer of the first k than of all n
 fewer : (p q : ℕ → Bool) (k n : ℕ) → k ≤ n → ((o : ℕ) → o < k → p o ≡ true → q o ≡ true) → tally p k ≤ tally q n
@@ -88,13 +84,13 @@ module _ (x : Sheet) (q : Query) (n : ℕ) (sane : Sane q) (w : World) (s : Solu
     rows = record {
       allowed = λ i o p l a b e. s .allowed .rows .allowed i o p l (below o a) (below p b) (link-of i o p e .2);
       limited = λ i o l a. record {
-        least = let t = s .allowed .known o (below o a) in omega (arith, no-low 768 (w .kind o * 32 + i) (omega arith));
+        least = let t = s .allowed .known o (below o a) in omega (arith, zeros 768 (w .kind o * 32 + i));
         most = omega (arith, row-counted i o, s .allowed .rows .limited i o l (below o a) .most);
       };
     };
     columns = record {
       at = λ j p l a e. record {
-        least = omega (arith, no-low 16 j l);
+        least = omega (arith, zeros 16 j);
         most = omega (arith, counted (getD (x .lines .columnfrom) j 0) (getD (x .lines .columnslot) j 0) p, s .allowed .columns .at j p l (below p a) e .most);
       };
     };
@@ -105,7 +101,7 @@ module _ (x : Sheet) (q : Query) (n : ℕ) (sane : Sane q) (w : World) (s : Solu
     wholes = record { at = λ p a. omega (arith, whole-counted p, s .allowed .wholes .at p (below p a)) };
   }
 
-  cut-asked : Asked (freed q) v
+  cut-asked : Satisfies (freed q) v
   cut-asked = record {
     many = omega arith;
     typed = s .asked .typed;

@@ -39,11 +39,18 @@ unfoldable pub rowBytes : List Event → List ℕ
 rowBytes [] = []
 rowBytes (e ∷ es) = outcomeBytes (e .call) (e .outcome) ++ rowBytes es
 
-pub record CodesRow (b : Bench) (replies : List ℕ) : Type 0 where
+-- the calls of the events stand at the front of s one behind the other, where `room` is there for their replies
+abbrev pub Calls : List ℕ → List ℕ → List Event → Type 0
+Calls s room [] = Unit {0}
+Calls s room (e ∷ es) =
+    (rest : List ℕ) × (readCall s room ≡ call (e .call) rest) × Calls rest (drop (length (outcomeBytes (e .call) (e .outcome))) room) es
+
+pub record CodesRow (b : Bench) (s room replies : List ℕ) : Type 0 where
   pub events : List Event
   pub last : Bench
   pub row : Row b events last
+  pub of-calls : Calls s room events
   pub coded : replies ≡ rowBytes events
 
 abbrev pub ReplaysRow : Type 0
-ReplaysRow = (b : Bench) (s room replies : List ℕ) → Replays b s room replies → CodesRow b replies
+ReplaysRow = (b : Bench) (s room replies : List ℕ) → Replays b s room replies → CodesRow b s room replies

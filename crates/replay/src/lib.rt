@@ -1,14 +1,18 @@
 // Runs a list of calls in bytes from a fresh bench, and writes the replies in bytes: the boundary to other programs.
+ghost use mathlib.Core.List.{List, []};
+ghost use mathlib.Core.Logic.{_≢_};
 ghost use mathlib.Core.Path.{_≡_};
-ghost use Rattle.bench.specs.Calls.{Valid};
+ghost use Prim.Native.Nat.{ℕ, _<_, _≤_};
+ghost use lib.ListN.{length};
+ghost use Rattle.bench.specs.Calls.{Does, Valid};
 ghost use Rattle.bench.specs.View.{replyOf};
+ghost use Rattle.coding.specs.CallBytes.{callOf, codes};
 ghost use Rattle.coding.specs.Puts.{Puts};
 ghost use Rattle.coding.specs.ReplyBytes.{replyBytes};
 ghost use Rattle.replay.specs.Replays.{Replayed};
 ghost use Rattle.replay.specs.Turned.{Turned};
 use bench::Bench;
 use bench::Replied;
-use coding::Next;
 
 // What one call gave: the bench for the next, how many bytes of the calls it took, and how many its reply has; none where the list
 // of calls stops.
@@ -28,57 +32,63 @@ fn finish(d: Replied, list: &[u8], used: usize, out: &mut [u8]) -> Turn
     Turn { bench, used, wrote }
 }
 
+// Runs the call of a code, one that is lent no buffer and gives no list.
+fn run_call(b: Bench, code: u8, byte: u8, file: &[u8]) -> Replied
+    requires { ⌜ Valid b × ((1 ≤ code) × ((code < length codes) × ((code ≢ 4) × (code ≢ 7)))) ⌝ }
+    ensures { λ d. ⌜ ((buffer : List ℕ) → Does b (callOf code (record { byte = byte; file = now (file .entry); buffer = buffer })) d []) ⌝ }
+{
+    if code < 2 {
+        return b.load(byte, file);
+    }
+    if code < 3 {
+        return b.clear(byte);
+    }
+    if code < 4 {
+        return b.judge(byte, file);
+    }
+    if code < 6 {
+        return b.evaluate(byte, file);
+    }
+    b.compare(byte)
+}
+
 // Runs the call at the front of s.
 fn take_turn(b: Bench, s: &[u8], out: &mut [u8]) -> Turn
     requires { ⌜ Valid b ⌝ }
     ensures { λ t. ⌜ Turned b (now (s .entry)) (now (out .entry)) t (now (out .exit)) ⌝ }
 {
-    let none = laws::front(s, 0);
-    match coding::read_next(s, out.len()) {
-        Next::Halt => Turn {
+    let n = coding::read_next(s, out.len());
+    let code = n.code;
+    let used = n.used;
+    if code == 0 {
+        return Turn {
             bench: b,
             used: 0,
             wrote: 0,
-        },
-        Next::Load { place, len } => {
-            let d = b.load(place, laws::front(laws::past(s, 6), len));
-            finish(d, none, 6 + len, out)
-        }
-        Next::Clear { place } => {
-            let d = b.clear(place);
-            finish(d, none, 2, out)
-        }
-        Next::Judge { place, len } => {
-            let d = b.judge(place, laws::front(laws::past(s, 6), len));
-            finish(d, none, 6 + len, out)
-        }
-        Next::Compile { place } => {
-            let d = b.compile(place);
-            let bench = d.bench;
-            let reply = d.reply;
-            let list = d.list;
-            finish(Replied { bench, reply }, &list, 2, out)
-        }
-        Next::Evaluate { place, len } => {
-            let d = b.evaluate(place, laws::front(laws::past(s, 6), len));
-            finish(d, none, 6 + len, out)
-        }
-        Next::Compare { bound } => {
-            let d = b.compare(bound);
-            finish(d, none, 2, out)
-        }
-        Next::HandOut { len } => {
-            let d = b.hand_out(&mut out[5..5 + len]);
-            let r = d.reply;
-            let n = coding::head(out, r);
-            let bench = d.bench;
-            Turn {
-                bench,
-                used: 5,
-                wrote: 5 + len,
-            }
-        }
+        };
     }
+    if code == 7 {
+        let lend = n.lend;
+        let d = b.hand_out(&mut out[5..5 + lend]);
+        let r = d.reply;
+        let m = coding::head(out, r);
+        let bench = d.bench;
+        return Turn {
+            bench,
+            used,
+            wrote: 5 + lend,
+        };
+    }
+    if code == 4 {
+        let d = b.compile(n.byte);
+        let bench = d.bench;
+        let reply = d.reply;
+        let list = d.list;
+        return finish(Replied { bench, reply }, &list, used, out);
+    }
+    let file = laws::front(laws::past(s, n.from), n.len);
+    let d = run_call(b, code, n.byte, file);
+    finish(d, laws::front(s, 0), used, out)
 }
 
 // Runs the calls, writes their replies to the front of `replies`, and returns how many bytes these are.

@@ -1,6 +1,5 @@
-pub mod GeneralLaws
+pub mod PlaceLaws
 pub mod LookupLaws
-pub mod SlotLaws
 pub mod StoreLaws
 pub mod ValueLaws
 pub mod LinkLaws

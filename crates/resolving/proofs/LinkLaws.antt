@@ -14,7 +14,9 @@ use borrow.Author.Tests.{eq-eqb, eqb-true, ltb-false, ltb-true, ne-eqb}
 use Rattle.laws.specs.Bits.{bit}
 use Rattle.laws.specs.Connective.{both}
 use Rattle.laws.proofs.BitLaws.{bit-or, bit-pow, bits-eq}
-use Rattle.laws.proofs.FirstLaws.{first-le}
+use Rattle.laws.proofs.ConnectiveLaws.{both-false}
+use Rattle.laws.proofs.BoundedLaws.{eqb-turned}
+use Rattle.laws.proofs.PickedLaws.{any-snoc}
 use Rattle.files.specs.Diagram.{Diagram}
 use Rattle.files.specs.Membership.{hasLink}
 use Rattle.files.specs.Name.{Name, sameName}
@@ -24,28 +26,9 @@ use Rattle.records.specs.declared.MemoryRecord.{MemoryRecord}
 use Rattle.records.specs.Slots.{ownRole, roleCount, roleName, roleSlot}
 use Rattle.records.specs.Represents.{linkBit, strayLink, strayValue}
 use Rattle.resolving.specs.Stored.{StandsSoFar, linkStored, withMaskAt, withStrayLink}
-use Rattle.resolving.proofs.SlotLaws.{own-below, own-same, slot-own}
-use Rattle.resolving.proofs.GeneralLaws.{any-snoc, both-false, eqb-swap, set-place}
+use Rattle.records.proofs.SlotLaws.{own-role-below, own-role-same, role-most, role-own}
+use Rattle.resolving.proofs.PlaceLaws.{set-place}
 use Rattle.resolving.proofs.StoreLaws.{byte-same}
-
--- ---- own slots of role names
-
-module _ (d : Diagram) where
-  role-own : (w : Name) → roleSlot d w < roleCount d → ownRole d (roleSlot d w) ≡ true
-  unfolding roleSlot ownRole
-  role-own w h = slot-own (roleName d) (roleCount d) w h
-
-  role-below : (s : ℕ) → ownRole d s ≡ true → s < roleCount d
-  unfolding roleSlot ownRole
-  role-below s h = own-below (roleName d) (roleCount d) s h
-
-  role-same : (w : Name) (s : ℕ) → ownRole d s ≡ true → sameName w (roleName d s) ≡ eqb (roleSlot d w) s
-  unfolding roleSlot ownRole
-  role-same w s h = own-same (roleName d) (roleCount d) w s h
-
-  role-le : (w : Name) → roleSlot d w ≤ roleCount d
-  unfolding roleSlot
-  role-le w = first-le _ (roleCount d)
 
 -- ---- what stands in each place, with a link more
 
@@ -70,7 +53,7 @@ module _ (d : Diagram) (q : Record) (l : Link) where
   unfolding linkBit
   bit-own o s p h =
       ap₂ both h (link-more o (roleName d s) p
-      ∙ ap (λ (b : Bool). hasLink q o (roleName d s) p || both (eqb (l .from) o) (both b (eqb (l .to) p))) (role-same d (l .role) s h)
+      ∙ ap (λ (b : Bool). hasLink q o (roleName d s) p || both (eqb (l .from) o) (both b (eqb (l .to) p))) (own-role-same d (l .role) s h)
       ∙ ap (λ (b : Bool). hasLink q o (roleName d s) p || b) (regroup (eqb (l .from) o) (eqb (roleSlot d (l .role)) s) (eqb (l .to) p)))
       ∙ always (hasLink q o (roleName d s) p) (bitOf o s p)
       ∙ ap (λ (b : Bool). both b (hasLink q o (roleName d s) p) || bitOf o s p) (sym h)
@@ -102,7 +85,7 @@ module _ (d : Diagram) (q : Record) (l : Link) where
           bit-kept o s p (λ x. e) ∙ sym (or-false (linkBit d q o s p)) ∙ ap (λ (b : Bool). linkBit d q o s p || b) (sym (not-its o s p e))
 
   bit-miss : (o s p : ℕ) → roleCount d ≤ roleSlot d (l .role) → linkBit d (withLink q l) o s p ≡ linkBit d q o s p
-  bit-miss o s p h = bit-kept o s p (λ x. let k : s < roleCount d = role-below d s x in ne-eqb (roleSlot d (l .role)) s (λ e. omega arith))
+  bit-miss o s p h = bit-kept o s p (λ x. let k : s < roleCount d = own-role-below d s x in ne-eqb (roleSlot d (l .role)) s (λ e. omega arith))
 
   stray-more : strayLink d (withLink q l) ≡ strayLink d q || eqb (roleSlot d (l .role)) (roleCount d)
   unfolding strayLink withLink
@@ -130,7 +113,7 @@ mask-place ms f a t o s p long hf ha hs =
         let g : a ≡ s = eqb-true _ _ y in
         let i : f * 32 + a ≡ o * 32 + s = omega arith in
         bit-or p (getD ms (f * 32 + a) 0) (2 ^ t)
-        ∙ ap₂ (λ (j : ℕ) (b : Bool). bit p (getD ms j 0) || b) i (bit-pow p t ∙ eqb-swap p t)
+        ∙ ap₂ (λ (j : ℕ) (b : Bool). bit p (getD ms j 0) || b) i (bit-pow p t ∙ eqb-turned p t)
     go true false x y = sym (or-false (bit p (getD ms (o * 32 + s) 0)))
     go false c x y = sym (or-false (bit p (getD ms (o * 32 + s) 0)))
 
@@ -164,7 +147,7 @@ module _ (d : Diagram) (q : Record) (m : MemoryRecord) (st : StandsSoFar d q m) 
   link-miss : roleCount d ≤ slot → StandsSoFar d (withLink q l) (withStrayLink m)
   unfolding objectCount withLink strayValue
   link-miss h =
-      let k : slot ≤ roleCount d = role-le d (l .role) in
+      let k : slot ≤ roleCount d = role-most d (l .role) in
       record {
         count = st .count;
         stands = record {

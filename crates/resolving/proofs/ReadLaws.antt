@@ -23,9 +23,10 @@ use Rattle.files.specs.Refusal.{accepted, orRefused, refused}
 use Rattle.files.proofs.AnswerLaws.{accepted-is, refused-not}
 use Rattle.records.specs.declared.MemoryRecord.{MemoryRecord}
 use Rattle.resolving.specs.Resolves.{Resolves}
-use Rattle.resolving.specs.Stored.{StandsSoFar, Takes, emptyMemory}
+use Rattle.resolving.specs.Stored.{StandsSoFar, Takes}
 use Rattle.resolving.proofs.StoreLaws.{nothing-stands}
 use Rattle.resolving.proofs.TakeLaws.{count-few}
+use Rattle.records.specs.Empty.{emptyRecord}
 
 -- m stands for what was read before `rest`, and that with `rest` is r
 pub record Reading (d : Diagram) (m : MemoryRecord) (rest : Rows) (r : Record) : Type 0 where
@@ -82,7 +83,7 @@ pub rest-less : (s rest : List ℕ) {t k : ℕ} {h : Head} → h ≡ headOf s �
 rest-less s rest {t} {k} e h er = omega (arith, rows-whole s t k (sym e ∙ h) .fits, ap length er, length-drop k (drop 3 s), length-drop 3 s)
 
 module _ {d : Diagram} {file : List ℕ} where
-  pub reads-begin : {m : MemoryRecord} → m ≡ emptyMemory → Reads d file m file
+  pub reads-begin : {m : MemoryRecord} → m ≡ emptyRecord → Reads d file m file
   unfolding readRecord
   reads-begin e =
       subst (λ (m : MemoryRecord). Reads d file m file) (sym e)

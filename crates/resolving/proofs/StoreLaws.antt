@@ -11,10 +11,10 @@ use mathlib.Core.Path.{_∙_, _≡_, ap, ap₂, refl, sym}
 use lib.ListN.{getD, getD-replicate, length, length-append, set}
 use lib.Seq.{getD-set-other, getD-set-same}
 use Rattle.laws.specs.Bits.{bit}
-use Rattle.laws.specs.Bounded.{any, first}
+use Rattle.laws.specs.Bounded.{any}
 use Rattle.laws.proofs.BitLaws.{bit-zero}
 use Rattle.laws.proofs.ListLaws.{snoc-below}
-use Rattle.resolving.proofs.GeneralLaws.{both-false}
+use Rattle.laws.proofs.ConnectiveLaws.{both-false}
 use Rattle.files.specs.Diagram.{Diagram, attributeAt}
 use Rattle.files.specs.Membership.{hasLink}
 use Rattle.files.specs.Name.{Name}
@@ -23,12 +23,13 @@ use Rattle.files.specs.RecordFile.{withObject}
 use Rattle.records.specs.declared.MemoryRecord.{MemoryRecord}
 use Rattle.records.specs.Slots.{codeOf, ownAttribute, ownRole, typeIndex}
 use Rattle.records.specs.Represents.{codeAmong, linkBit, strayLink, strayValue, valueByte, valueFor}
-use Rattle.resolving.specs.Stored.{StandsSoFar, emptyMemory, withType}
+use Rattle.resolving.specs.Stored.{StandsSoFar, withType}
+use Rattle.records.specs.Empty.{emptyRecord}
 
 -- ---- nothing
 
-pub nothing-stands : (d : Diagram) → StandsSoFar d noRecord emptyMemory
-unfolding emptyMemory objectCount valueByte codeAmong linkBit hasLink strayValue strayLink any
+pub nothing-stands : (d : Diagram) → StandsSoFar d noRecord emptyRecord
+unfolding emptyRecord objectCount valueByte codeAmong linkBit hasLink strayValue strayLink any
 nothing-stands d = record {
   count = refl;
   stands = record {

@@ -13,6 +13,7 @@ use Rattle.files.specs.Record.{Record, objectCount}
 use Rattle.files.specs.RecordFile.{countRefusal, linkRefusal, objectRefusal, recordRefusal, recordWith, valueRefusal, withLink}
 use Rattle.files.specs.RecordLayout.{countLaid, linkOf, valueOf}
 use Rattle.files.specs.Refusal.{full}
+use Rattle.diagrams.proofs.NamedLaws.{role-count}
 use Rattle.diagrams.specs.declared.StoredDiagram.{StoredDiagram}
 use Rattle.diagrams.specs.View.{diagramOf}
 use Rattle.diagrams.specs.Held.{Counts}
@@ -21,7 +22,7 @@ use Rattle.records.specs.declared.MemoryRecord.{MemoryRecord}
 use Rattle.records.specs.Slots.{attributeSlot, roleCount}
 use Rattle.resolving.specs.Lookup.{isCodeIn, slotOf}
 use Rattle.resolving.specs.Stored.{StandsSoFar, Takes, linkStored, valueStored, withType}
-use Rattle.resolving.proofs.LookupLaws.{attribute-slot, code-of, role-count, role-slot, type-index}
+use Rattle.resolving.proofs.LookupLaws.{attribute-slot, code-of, role-slot, type-index}
 use Rattle.resolving.proofs.LinkLaws.{link-stands}
 use Rattle.resolving.proofs.StoreLaws.{object-stands}
 use Rattle.resolving.proofs.ValueLaws.{value-stands}

@@ -11,38 +11,21 @@ use lib.ListN.{List·getD-append, length}
 use lib.Seq.{getD-append-seam}
 use borrow.Author.Tests.{eq-eqb, eqb-true, ltb-false, ltb-true, ne-eqb}
 use Rattle.laws.specs.Connective.{both}
-use Rattle.laws.proofs.FirstLaws.{first-le}
+use Rattle.laws.proofs.ConnectiveLaws.{both-false}
+use Rattle.laws.proofs.PickedLaws.{any-snoc}
+use Rattle.laws.proofs.ListLaws.{length-snoc}
 use Rattle.files.specs.Diagram.{Diagram, attributeAt}
 use Rattle.files.specs.Membership.{hasLink}
-use Rattle.files.specs.Name.{Name, sameName}
+use Rattle.files.specs.Name.{Name}
 use Rattle.files.specs.Record.{Record, Value, objectCount}
 use Rattle.files.specs.RecordFile.{withValue}
 use Rattle.records.specs.declared.MemoryRecord.{MemoryRecord}
 use Rattle.records.specs.Slots.{attributeSlot, codeOf, ownAttribute}
 use Rattle.records.specs.Represents.{codeAmong, linkBit, strayLink, strayValue, valueByte, valueFor}
 use Rattle.resolving.specs.Stored.{StandsSoFar, valueStored, withStrayValue, withValueAt}
-use Rattle.resolving.proofs.SlotLaws.{own-below, own-same, slot-own}
-use Rattle.resolving.proofs.GeneralLaws.{any-snoc, both-false, length-snoc, set-place}
+use Rattle.records.proofs.SlotLaws.{attribute-most, attribute-own, own-below, own-same}
+use Rattle.resolving.proofs.PlaceLaws.{set-place}
 use Rattle.resolving.proofs.StoreLaws.{code-same}
-
--- ---- own slots of attribute names
-
-module _ (d : Diagram) where
-  attribute-own : (w : Name) → attributeSlot d w < length (d .attributes) → ownAttribute d (attributeSlot d w) ≡ true
-  unfolding attributeSlot ownAttribute
-  attribute-own w h = slot-own (λ s. attributeAt d s .name) (length (d .attributes)) w h
-
-  attribute-below : (s : ℕ) → ownAttribute d s ≡ true → s < length (d .attributes)
-  unfolding attributeSlot ownAttribute
-  attribute-below s h = own-below (λ i. attributeAt d i .name) (length (d .attributes)) s h
-
-  attribute-same : (w : Name) (s : ℕ) → ownAttribute d s ≡ true → sameName w (attributeAt d s .name) ≡ eqb (attributeSlot d w) s
-  unfolding attributeSlot ownAttribute
-  attribute-same w s h = own-same (λ i. attributeAt d i .name) (length (d .attributes)) w s h
-
-  attribute-le : (w : Name) → attributeSlot d w ≤ length (d .attributes)
-  unfolding attributeSlot
-  attribute-le w = first-le _ (length (d .attributes))
 
 -- ---- what stands in each place, with a value more
 
@@ -65,7 +48,7 @@ module _ (d : Diagram) (q : Record) (v : Value) where
   unfolding valueByte
   byte-own o s h =
       ap₂ (λ (b : Bool) (x : ℕ). cond b x 0) h (code-more o (attributeAt d s .name)
-      ∙ ap (λ (b : Bool). cond (both (eqb (v .object) o) b) code (codeAmong d q o (attributeAt d s .name) (length (q .values)))) (attribute-same d (v .attribute) s h))
+      ∙ ap (λ (b : Bool). cond (both (eqb (v .object) o) b) code (codeAmong d q o (attributeAt d s .name) (length (q .values)))) (own-same d (v .attribute) s h))
       ∙ ap (λ (b : Bool). cond (both (eqb (v .object) o) (eqb (attributeSlot d (v .attribute)) s)) code (cond b (codeAmong d q o (attributeAt d s .name) (length (q .values))) 0)) (sym h)
 
   byte-none : (r : Record) (o s : ℕ) → ownAttribute d s ≡ false → valueByte d r o s ≡ 0
@@ -93,7 +76,7 @@ module _ (d : Diagram) (q : Record) (v : Value) where
           ∙ sym (ap (λ (b : Bool). cond b code (valueByte d q o s)) (ap (both (eqb (v .object) o)) e ∙ both-false (eqb (v .object) o)))
 
   byte-miss : (o s : ℕ) → length (d .attributes) ≤ attributeSlot d (v .attribute) → valueByte d (withValue q v) o s ≡ valueByte d q o s
-  byte-miss o s l = byte-kept o s (λ h. let k : s < length (d .attributes) = attribute-below d s h in ne-eqb (attributeSlot d (v .attribute)) s (λ e. omega arith))
+  byte-miss o s l = byte-kept o s (λ h. let k : s < length (d .attributes) = own-below d s h in ne-eqb (attributeSlot d (v .attribute)) s (λ e. omega arith))
 
   stray-more : strayValue d (withValue q v) ≡ strayValue d q || eqb (attributeSlot d (v .attribute)) (length (d .attributes))
   unfolding strayValue withValue
@@ -128,7 +111,7 @@ module _ (d : Diagram) (q : Record) (m : MemoryRecord) (st : StandsSoFar d q m) 
   value-miss : length (d .attributes) ≤ slot → StandsSoFar d (withValue q v) (withStrayValue m)
   unfolding objectCount withValue linkBit hasLink strayLink
   value-miss h =
-      let l : slot ≤ length (d .attributes) = attribute-le d (v .attribute) in
+      let l : slot ≤ length (d .attributes) = attribute-most d (v .attribute) in
       record {
         count = st .count;
         stands = record {

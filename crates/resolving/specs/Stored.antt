@@ -1,26 +1,17 @@
 -- A record in memory with a field more.
 -- Assumes nothing.
 use Prim.Native.Nat.{_*_, _+_, _^_, _≤_, ℕ}
-use mathlib.Core.Bool.{cond, false, true}
+use mathlib.Core.Bool.{cond, true}
 use mathlib.Core.List.{List}
 use mathlib.Core.Path.{_≡_}
 use lib.Bits.{bitOr}
 use lib.Dec.{ltb}
-use lib.ListN.{getD, replicate, set}
+use lib.ListN.{getD, set}
 use Rattle.files.specs.Diagram.{Diagram}
 use Rattle.files.specs.Record.{Record, objectCount}
 use Rattle.files.specs.RecordFile.{recordRefusal, recordWith}
 use Rattle.records.specs.declared.MemoryRecord.{MemoryRecord}
 use Rattle.records.specs.Represents.{Represents}
-
-unfoldable pub emptyMemory : MemoryRecord
-emptyMemory = record {
-  count = 0;
-  types = replicate 8 0;
-  values = replicate 256 0;
-  links = replicate 256 0;
-  strays = record { values = false; links = false };
-}
 
 -- ---- one thing stored
 

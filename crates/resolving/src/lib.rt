@@ -10,7 +10,7 @@ ghost use Rattle.files.specs.RecordLayout.{valueOf, linkOf};
 ghost use Rattle.diagrams.specs.View.{diagramOf};
 ghost use Rattle.diagrams.specs.Held.{Counts, Held};
 ghost use Rattle.resolving.specs.Lookup.{slotOf, isConstantIn, isCodeIn};
-ghost use Rattle.resolving.specs.Stored.{emptyMemory, withType, withValueAt, withMaskAt, withStrayValue, withStrayLink, valueStored, linkStored, Takes};
+ghost use Rattle.resolving.specs.Stored.{withType, withValueAt, withMaskAt, withStrayValue, withStrayLink, valueStored, linkStored, Takes};
 ghost use Rattle.resolving.specs.Resolves.{Resolves};
 
 // ---- look-ups
@@ -83,22 +83,6 @@ pub fn code_of<'a>(
 }
 
 // ---- one thing stored
-
-// No object, no value, no link.
-fn empty_memory() -> records::MemoryRecord
-    ensures { λ r. ⌜ r ≡ emptyMemory ⌝ }
-{
-    records::MemoryRecord {
-        count: 0,
-        types: [0u8; 8],
-        values: [0u8; 256],
-        links: [0u8; 256],
-        strays: records::Strays {
-            values: false,
-            links: false,
-        },
-    }
-}
 
 // One object more, of the type at this index.
 fn with_type(m: records::MemoryRecord, index: u8) -> records::MemoryRecord
@@ -292,7 +276,7 @@ pub fn resolve(d: diagrams::StoredDiagram, file: &[u8]) -> records::MemoryRecord
     requires { ⌜ Held d ⌝ }
     ensures { λ m. ⌜ Resolves (diagramOf d) (now (file .entry)) m ⌝ }
 {
-    let mut m = empty_memory();
+    let mut m = records::empty_record();
     let mut s = file;
     while 0 < s.len() {
         match fields::read_head(s) {

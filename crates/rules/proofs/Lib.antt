@@ -1,5 +1,5 @@
 pub mod PredicateLaws
 pub mod CompileLaws
-pub mod SiteLaws
+pub mod KeyLaws
 pub mod DemandTwo
 pub mod JudgeLaws

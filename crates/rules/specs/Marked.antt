@@ -13,7 +13,7 @@ use Rattle.files.specs.Ancestor.{reaches, reachesBy}
 use Rattle.files.specs.Diagram.{Diagram, isComposition, isConcrete, isSingleton}
 use Rattle.files.specs.FileCases.{diagramFile, recordFile}
 use Rattle.files.specs.Membership.{hasLink, hasValue}
-use Rattle.files.specs.Name.{sameName}
+use Rattle.files.specs.Name.{key, sameName}
 use Rattle.files.specs.Record.{Record, objectCount}
 use Rattle.files.specs.Refusal.{Answer, accepted, refused}
 use Rattle.rules.specs.Arrow.{carriesLeft, carriesRight, countedLeft, countedRight, mirrors, notAbove, within}
@@ -35,7 +35,7 @@ pub record Verdict : Type 0 where
   pub first : ℕ
 
 unfoldable pub verdict : Answer Diagram → Answer Record → Answer Verdict
-unfolding any all tally both either imp same unless order sameName firstNot joined objectCount hasValue hasLink siteOf isConcrete isSingleton isComposition reachesBy reaches hasType isInstance carriesRight carriesLeft countedRight countedLeft mirrors notAbove within rule1At rule1 rule2At rule2 declares declared rule3For rule3At rule3 belongs rule4At rule4 permits rule5At rule5 targetsAt targets rule6For rule6 incoming sourcesAt sources rule7For rule7 mirrorAt mirrored rule8For rule8 wholeBy isWhole rule9At rule9 lowestBroken judge limited entryFor rowOf entriesOf compile targetsHold sourcesHold oneWhole holds firstFailing evaluate
+unfolding any all tally both either imp same unless order key sameName firstNot joined objectCount hasValue hasLink siteOf isConcrete isSingleton isComposition reachesBy reaches hasType isInstance carriesRight carriesLeft countedRight countedLeft mirrors notAbove within rule1At rule1 rule2At rule2 declares declared rule3For rule3At rule3 belongs rule4At rule4 permits rule5At rule5 targetsAt targets rule6For rule6 incoming sourcesAt sources rule7For rule7 mirrorAt mirrored rule8For rule8 wholeBy isWhole rule9At rule9 lowestBroken judge limited entryFor rowOf entriesOf compile targetsHold sourcesHold oneWhole holds firstFailing evaluate
 verdict (refused n) site = refused n
 verdict (accepted d) (refused n) = refused n
 verdict (accepted d) (accepted r) = accepted (record { rule = judge d r; first = evaluate d r })

@@ -18,9 +18,9 @@ use Rattle.files.specs.WellFormedDiagram.{WfDiagram}
 use Rattle.records.specs.declared.MemoryRecord.{MemoryRecord}
 use Rattle.records.specs.Slots.{ownRole, roleCount, roleName}
 use Rattle.records.specs.Written.{linkIn}
+use Rattle.records.proofs.SlotLaws.{role-own}
 use Rattle.rules.specs.TypeRules.{rule1, rule1At}
 use Rattle.memory_rules.specs.SiteIn.{siteIn}
-use Rattle.memory_rules.proofs.SlotLaws.{role-own}
 use Rattle.tables.proofs.OwnLaws.{any-type}
 use Rattle.link_search.specs.Nets.{netOf}
 use Rattle.views.specs.Views.{leadsBy, mayTargetBy, slotBy}

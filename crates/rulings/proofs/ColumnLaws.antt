@@ -5,14 +5,14 @@ use Prim.Native.Nat.{_<_, _≤_, ℕ}
 use native.Mathlib.Omega.{arith}
 use mathlib.Core.Bool.{Bool, _&&_, cond, false, true}
 use mathlib.Core.Logic.{_↔_, ⊎-elim}
-use mathlib.Core.Path.{_∙_, _≡_, ap, ap₂, refl, sym}
+use mathlib.Core.Path.{_∙_, _≡_, ap, ap₂, sym}
 use lib.ListN.{getD, length}
 use borrow.Author.Tests.{eqb-true, lt-ltb, ltb-true}
 use Rattle.laws.specs.Bits.{bit}
 use Rattle.laws.specs.Bounded.{tally}
 use Rattle.laws.specs.Connective.{both}
 use Rattle.laws.proofs.BoundedLaws.{all-at, all-of}
-use Rattle.laws.proofs.ConnectiveLaws.{both-left, both-of, both-right, either-cases, either-left, either-right, imp-of, imp-use}
+use Rattle.laws.proofs.ConnectiveLaws.{both-left, both-of, both-right, either-cases, either-left, either-right, imp-of, imp-use, and-is-both}
 use Rattle.laws.proofs.CountLaws.{tally-ext, tally-le}
 use Rattle.files.specs.Diagram.{Diagram, End, associationAt}
 use Rattle.files.specs.WellFormedDiagram.{WfDiagram}
@@ -21,7 +21,7 @@ use Rattle.rules.specs.Arrow.{Side, countedFrom, countedLeft, countedRight, r1,
 use Rattle.rules.specs.LinkRules.{incoming, rule7, rule7For, sources, sourcesAt}
 use Rattle.memory_rules.specs.SiteIn.{siteIn}
 use Rattle.memory_rules.proofs.SlotLaws.{endOf}
-use Rattle.link_search.specs.Nets.{Within}
+use Rattle.link_search.specs.Nets.{InLimits}
 use Rattle.type_tables.specs.Rows.{endAt, least, most, opposite}
 use Rattle.type_tables.proofs.EndLaws.{end-at, end-opposite}
 use Rattle.views.specs.Views.{columnFrom, columnHigh, columnLow, columnSlot, columnTo, countedEnd, countsAs, isCounted, slotBy}
@@ -31,11 +31,6 @@ use Rattle.worlds.specs.Tables.{LinesOf}
 use Rattle.rulings.specs.Shaped.{Shaped, kindIn}
 use Rattle.rulings.proofs.SeenLaws.{instance-counts, linked-by}
 use Rattle.rulings.proofs.WithinLaws.{capped-within, within-capped}
-
-both-is-and : (a b : Bool) → both a b ≡ a && b
-unfolding both
-both-is-and true b = refl
-both-is-and false b = refl
 
 -- ---- the side that is counted
 
@@ -104,7 +99,7 @@ module _ (old d : Diagram) (wo : WfDiagram old) (wd : WfDiagram d) (m : MemoryRe
         → both (countsAs old d (source s (associationAt d j) .type) (kindIn m o)) (siteIn old m .linked o (target s (associationAt d j) .role) p)
         ≡ bit (kindIn m o) (getD (x .columnfrom) j 0) && worldOf m .link (getD (x .columnslot) j 0) o p
     source-is o p b c =
-        both-is-and _ _
+        sym (and-is-both _ _)
         ∙ ap₂ (λ (a t : Bool). a && t) (sym (from-is o b)) (linked-by old wo m h d s j o p b c ∙ ap (λ (k : ℕ). worldOf m .link k o p) (sym slot-is))
 
     sources-are : (p : ℕ) → p < m .count → incoming d (siteIn old m) (source s (associationAt d j)) (target s (associationAt d j)) p ≡ tally (sourceBy x (worldOf m) j p) (m .count)
@@ -117,7 +112,7 @@ module _ (old d : Diagram) (wo : WfDiagram old) (wd : WfDiagram d) (m : MemoryRe
     -- ---- the rule at association j and target p
 
     abbrev Limited : ℕ → Type 0
-    Limited p = Within (getD (x .columnlow) j 0) (getD (x .columnhigh) j 0) (tally (sourceBy x (worldOf m) j p) (m .count))
+    Limited p = InLimits (getD (x .columnlow) j 0) (getD (x .columnhigh) j 0) (tally (sourceBy x (worldOf m) j p) (m .count))
 
     limited-forth : (p : ℕ) → p < m .count → sourcesAt d (siteIn old m) (source s (associationAt d j)) (target s (associationAt d j)) (source s (associationAt d j) .limits) p ≡ true
         → bit (kindIn m p) (getD (x .columnto) j 0) ≡ true → Limited p
@@ -150,7 +145,7 @@ module _ (old d : Diagram) (wo : WfDiagram old) (wd : WfDiagram d) (m : MemoryRe
   abbrev Columns : Type 0
   Columns =
       (j p : ℕ) → j < 16 → p < m .count → bit (kindIn m p) (getD (x .columnto) j 0) ≡ true
-      → Within (getD (x .columnlow) j 0) (getD (x .columnhigh) j 0) (tally (sourceBy x (worldOf m) j p) (m .count))
+      → InLimits (getD (x .columnlow) j 0) (getD (x .columnhigh) j 0) (tally (sourceBy x (worldOf m) j p) (m .count))
 
   forth : rule7 d (siteIn old m) ≡ true → Columns
   unfolding columnTo

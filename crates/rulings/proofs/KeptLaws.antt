@@ -9,7 +9,7 @@ use Rattle.files.specs.WellFormedDiagram.{WfDiagram}
 use Rattle.records.specs.declared.MemoryRecord.{MemoryRecord}
 use Rattle.memory_rules.specs.SiteIn.{siteIn}
 use Rattle.worlds.specs.declared.Lines.{Lines}
-use Rattle.worlds.specs.Kept.{Keeps, TypesAvoided, worldOf}
+use Rattle.worlds.specs.Kept.{AllKept, TypesAvoided, worldOf}
 use Rattle.worlds.specs.Tables.{LinesOf, RowTables, SingleTypes, linksMissing, singleMissing}
 use Rattle.rulings.specs.Ruled.{Ruled}
 use Rattle.rulings.specs.Shaped.{Shaped, kindIn}
@@ -21,7 +21,7 @@ use Rattle.rulings.proofs.WholeLaws.{rule9-kept}
 
 module _ (old d : Diagram) (wo : WfDiagram old) (wd : WfDiagram d) (m : MemoryRecord) (h : Shaped old m) (singles : ℕ) (targets lows highs : List ℕ) (x : Lines)
     (of-singles : SingleTypes old d singles) (of-rows : RowTables old d targets lows highs) (of-lines : LinesOf old d x) where
-  pub ruled-keeps : (bad : ℕ) → Ruled d (siteIn old m) → TypesAvoided bad (worldOf m) → Keeps bad singles (singleMissing old d) targets lows highs x (worldOf m)
+  pub ruled-keeps : (bad : ℕ) → Ruled d (siteIn old m) → TypesAvoided bad (worldOf m) → AllKept bad singles (singleMissing old d) targets lows highs x (worldOf m)
   ruled-keeps bad r avoided =
       let two = rule2-kept old d m wo h singles of-singles .0 (r .second) in
       record {
@@ -38,7 +38,7 @@ module _ (old d : Diagram) (wo : WfDiagram old) (wd : WfDiagram d) (m : MemoryRe
   pub ruled-none-missing : Ruled d (siteIn old m) → (o : ℕ) → o < m .count → linksMissing old d (kindIn m o) ≡ false
   ruled-none-missing r = rows-kept old d wo m h targets lows highs of-rows .0 (r .fifth, r .sixth) .1
 
-  pub keeps-ruled : (bad : ℕ) → ((o : ℕ) → o < m .count → linksMissing old d (kindIn m o) ≡ false) → Keeps bad singles (singleMissing old d) targets lows highs x (worldOf m) → Ruled d (siteIn old m)
+  pub keeps-ruled : (bad : ℕ) → ((o : ℕ) → o < m .count → linksMissing old d (kindIn m o) ≡ false) → AllKept bad singles (singleMissing old d) targets lows highs x (worldOf m) → Ruled d (siteIn old m)
   keeps-ruled bad none k =
       let five = rows-kept old d wo m h targets lows highs of-rows .1 (k .rows, none) in
       record {

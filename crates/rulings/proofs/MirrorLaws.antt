@@ -10,7 +10,7 @@ use borrow.Author.Tests.{lt-ltb, ltb-true}
 use Rattle.laws.specs.Bits.{bit}
 use Rattle.laws.specs.Connective.{both}
 use Rattle.laws.proofs.BoundedLaws.{all-at, all-of}
-use Rattle.laws.proofs.ConnectiveLaws.{both-left, both-of, both-right, imp-of, imp-use}
+use Rattle.laws.proofs.ConnectiveLaws.{both-left, both-of, both-right, imp-of, imp-use, same-is, same-of}
 use Rattle.files.specs.Diagram.{Diagram, associationAt}
 use Rattle.files.specs.WellFormedDiagram.{WfDiagram}
 use Rattle.records.specs.declared.MemoryRecord.{MemoryRecord}
@@ -22,7 +22,7 @@ use Rattle.worlds.specs.declared.Lines.{Lines}
 use Rattle.worlds.specs.Kept.{MirrorsKept, worldIn, worldOf}
 use Rattle.worlds.specs.Tables.{LinesOf}
 use Rattle.rulings.specs.Shaped.{Shaped, kindIn}
-use Rattle.rulings.proofs.SeenLaws.{instance-counts, linked-by, same-is, same-of}
+use Rattle.rulings.proofs.SeenLaws.{instance-counts, linked-by}
 
 module _ (old d : Diagram) (wo : WfDiagram old) (wd : WfDiagram d) (m : MemoryRecord) (h : Shaped old m) (x : Lines) (of : LinesOf old d x) where
   -- ---- what the tables say of an association that has a mirror

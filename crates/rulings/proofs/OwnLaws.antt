@@ -12,7 +12,7 @@ use Rattle.files.specs.Diagram.{Diagram, typeAt}
 use Rattle.files.specs.WellFormedDiagram.{WfDiagram}
 use Rattle.files.proofs.NameLaws.{same-self}
 use Rattle.records.specs.Slots.{roleCount, roleName, typeIndex}
-use Rattle.memory_rules.proofs.SlotLaws.{index-of, role-known}
+use Rattle.records.proofs.SlotLaws.{index-of, role-known}
 use Rattle.views.specs.Views.{slotBy}
 use Rattle.worlds.specs.Tables.{linksMissing, singleBy, singleMissing}
 

@@ -11,16 +11,17 @@ use Rattle.laws.specs.Connective.{imp}
 use Rattle.laws.proofs.BoundedLaws.{all-at, all-of, any-at, any-of}
 use Rattle.laws.proofs.ConnectiveLaws.{both-left, both-of, both-right, either-cases, either-left, either-right, imp-of, imp-use}
 use Rattle.files.specs.Diagram.{Diagram, End, associationAt}
-use Rattle.files.specs.Name.{Name, sameName}
+use Rattle.files.specs.Name.{key}
 use Rattle.files.specs.Record.{Link}
-use Rattle.files.proofs.NameLaws.{same-equal, same-self}
+use Rattle.files.proofs.NameLaws.{key-same, same-key}
 use Rattle.records.specs.declared.MemoryRecord.{MemoryRecord}
 use Rattle.records.specs.Slots.{ownRole, roleCount, roleName, roleSlot}
 use Rattle.records.specs.Written.{linkIn}
+use Rattle.records.proofs.SlotLaws.{own-role-below, own-role-slot, role-alike, role-name}
 use Rattle.rules.specs.Arrow.{Side, r1, r2, target}
 use Rattle.rules.specs.LinkRules.{permits, rule5, rule5At}
 use Rattle.memory_rules.specs.SiteIn.{keptLink, linkKept, siteIn}
-use Rattle.memory_rules.proofs.SlotLaws.{end-below, end-role, endOf, own-role-below, own-role-slot, role-name}
+use Rattle.memory_rules.proofs.SlotLaws.{end-below, end-role, endOf}
 use Rattle.type_tables.specs.Rows.{endAt}
 use Rattle.type_tables.proofs.EndLaws.{each-end, end-at}
 use Rattle.views.specs.Views.{countsAs, leadsBy, slotBy}
@@ -51,7 +52,7 @@ module _ (old d : Diagram) (m : MemoryRecord) where
     unfolding permits slotBy
     leads-of side a e =
         let ends = both-right _ _ (both-right _ _ e) in
-        let slot : slotBy old d (endOf d side a) ≡ s = ap (roleSlot old) (end-role d side a ∙ same-equal _ _ (both-left _ _ (both-right _ _ e))) ∙ own-role-slot old s own in
+        let slot : slotBy old d (endOf d side a) ≡ s = role-alike old _ _ (ap key (end-role d side a) ∙ same-key _ _ (both-left _ _ (both-right _ _ e))) ∙ own-role-slot old s own in
         record {
           leads = leads-by old d (kindIn m o) s side a ∙ both-of _ _ (both-left _ _ e) (both-of _ _ (eq-eqb _ _ slot) (sym (instance-counts old d m _ o) ∙ both-left _ _ ends));
           instance = ap (λ (k : End). countsAs old d (k .type) (kindIn m p)) (end-at d side a) ∙ sym (instance-counts old d m _ p) ∙ both-right _ _ ends;
@@ -63,10 +64,10 @@ module _ (old d : Diagram) (m : MemoryRecord) where
         let q = sym (leads-by old d (kindIn m o) s side a) ∙ w .leads in
         let slot : roleSlot old (roleName d (endOf d side a)) ≡ s = eqb-true _ _ (both-left _ _ (both-right _ _ q)) in
         let below : s < roleCount old = own-role-below old s own in
-        let role : target side (associationAt d a) .role ≡ roleName old s =
-        sym (end-role d side a) ∙ sym (role-name old (roleName d (endOf d side a)) (omega arith)) ∙ ap (roleName old) slot in
+        let role : key (target side (associationAt d a) .role) ≡ key (roleName old s) =
+        ap key (sym (end-role d side a)) ∙ sym (role-name old (roleName d (endOf d side a)) (omega arith)) ∙ ap (λ (n : ℕ). key (roleName old n)) slot in
         both-of _ _ (both-left _ _ q)
-        (both-of _ _ (ap (λ (n : Name). sameName n (roleName old s)) role ∙ same-self (roleName old s))
+        (both-of _ _ (key-same _ _ role)
         (both-of _ _ (instance-counts old d m _ o ∙ both-right _ _ (both-right _ _ q))
         (instance-counts old d m _ p ∙ ap (λ (k : End). countsAs old d (k .type) (kindIn m p)) (sym (end-at d side a)) ∙ w .instance)))
 

@@ -21,7 +21,7 @@ use Rattle.records.specs.Slots.{roleCount}
 use Rattle.rules.specs.Arrow.{within}
 use Rattle.rules.specs.LinkRules.{rule5, rule6}
 use Rattle.memory_rules.specs.SiteIn.{siteIn}
-use Rattle.link_search.specs.Nets.{Within}
+use Rattle.link_search.specs.Nets.{InLimits}
 use Rattle.type_tables.specs.Rows.{carriedTo, endAt, least, most, opposite}
 use Rattle.views.specs.Views.{countsAs, highBy, leadsBy, lowBy, mayTargetBy, slotBy}
 use Rattle.worlds.specs.Kept.{RowsKept, worldIn, worldOf}
@@ -60,10 +60,10 @@ module _ (old d : Diagram) (wo : WfDiagram old) (m : MemoryRecord) (h : Shaped o
         both-of _ _ (any-of _ (roleCount d) (w .0) (w .1) (w .2 .leads))
         (all-of _ (roleCount d) (λ e k. imp-of _ _ (λ q. leading-asks o s e b k q .instances p c link)))
 
-    within-row : (o s : ℕ) → o < m .count → Within (lowBy old d (kindIn m o) s) (highBy old d (kindIn m o) s) (linksOf s o)
+    within-row : (o s : ℕ) → o < m .count → InLimits (lowBy old d (kindIn m o) s) (highBy old d (kindIn m o) s) (linksOf s o)
     unfolding lowBy highBy
     within-row o s b =
-        let capped : (e : ℕ) → e < roleCount d → leadsBy old d (kindIn m o) s e ≡ true → Within (least (endAt d e .limits .low)) (most (endAt d e .limits .up)) (linksOf s o) =
+        let capped : (e : ℕ) → e < roleCount d → leadsBy old d (kindIn m o) s e ≡ true → InLimits (least (endAt d e .limits .low)) (most (endAt d e .limits .up)) (linksOf s o) =
         λ e l q. within-capped (endAt d e .limits) (linksOf s o) (few-links s o) (leading-asks o s e b l q .count) in
         record {
           least = low-among old d (kindIn m o) s (linksOf s o) (roleCount d) (λ e l q. capped e l q .least);
@@ -86,7 +86,7 @@ module _ (old d : Diagram) (wo : WfDiagram old) (m : MemoryRecord) (h : Shaped o
   -- ---- from the rows
 
   module _ (may : (o s p : ℕ) → o < m .count → s < 32 → p < m .count → worldOf m .link s o p ≡ true → mayTargetBy old d (kindIn m o) s (kindIn m p) ≡ true)
-      (row : (o s : ℕ) → o < m .count → s < 32 → Within (lowBy old d (kindIn m o) s) (highBy old d (kindIn m o) s) (linksOf s o))
+      (row : (o s : ℕ) → o < m .count → s < 32 → InLimits (lowBy old d (kindIn m o) s) (highBy old d (kindIn m o) s) (linksOf s o))
       (none : (o : ℕ) → o < m .count → linksMissing old d (kindIn m o) ≡ false) where
     target-counts : (o s p e : ℕ) → o < m .count → s < 32 → p < m .count → e < roleCount d → worldOf m .link s o p ≡ true → leadsBy old d (kindIn m o) s e ≡ true
         → countsAs old d (endAt d e .type) (kindIn m p) ≡ true
@@ -159,7 +159,7 @@ module _ (old d : Diagram) (wo : WfDiagram old) (m : MemoryRecord) (h : Shaped o
     unfolding worldIn
     may-of k o s p b l c link = sym (of .target-is (kindIn m o) s (kindIn m p) (h .known o b) l (h .known p c)) ∙ k .allowed s o p l b c link
 
-    row-of : RowsKept targets lows highs (worldOf m) → (o s : ℕ) → o < m .count → s < 32 → Within (lowBy old d (kindIn m o) s) (highBy old d (kindIn m o) s) (linksOf s o)
+    row-of : RowsKept targets lows highs (worldOf m) → (o s : ℕ) → o < m .count → s < 32 → InLimits (lowBy old d (kindIn m o) s) (highBy old d (kindIn m o) s) (linksOf s o)
     unfolding worldIn
     row-of k o s b l = rw (← of .low-is (kindIn m o) s (h .known o b) l, ← of .high-is (kindIn m o) s (h .known o b) l) (k .limited s o l b)
 

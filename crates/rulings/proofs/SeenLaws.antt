@@ -4,11 +4,11 @@
 use Prim.Native.Nat.{_<_, _≤_, ℕ}
 use native.Mathlib.Decide.{decLt}
 use native.Mathlib.Omega.{arith}
-use mathlib.Core.Bool.{Bool, false, false≢true, true}
+use mathlib.Core.Bool.{false, false≢true}
 use mathlib.Core.Path.{_∙_, _≡_, ap, refl, sym}
 use lib.ListN.{length}
 use borrow.Author.Tests.{le-ltb, lt-ltb}
-use Rattle.laws.specs.Connective.{both, same}
+use Rattle.laws.specs.Connective.{both}
 use Rattle.laws.proofs.ConnectiveLaws.{same-test}
 use Rattle.files.specs.Diagram.{Diagram, associationAt}
 use Rattle.files.specs.Name.{Name}
@@ -16,26 +16,14 @@ use Rattle.files.specs.WellFormedDiagram.{WfDiagram}
 use Rattle.records.specs.declared.MemoryRecord.{MemoryRecord}
 use Rattle.records.specs.Slots.{roleCount, roleSlot}
 use Rattle.records.specs.Written.{linkIn}
+use Rattle.records.proofs.SlotLaws.{own-role-below}
 use Rattle.rules.specs.Arrow.{Side, target}
 use Rattle.rules.specs.Instance.{hasType, isInstance}
 use Rattle.memory_rules.specs.SiteIn.{linkedIn, siteIn, typedIn}
-use Rattle.memory_rules.proofs.SlotLaws.{end-role, endOf, own-role-below}
+use Rattle.memory_rules.proofs.SlotLaws.{end-role, endOf}
 use Rattle.views.specs.Views.{countsAs, slotBy}
 use Rattle.worlds.specs.Kept.{worldIn, worldOf}
 use Rattle.rulings.specs.Shaped.{Shaped, kindIn}
-
--- two tests that hold together, and the other way round
-pub same-is : (a b : Bool) → same a b ≡ true → a ≡ b
-unfolding same
-same-is true b e = sym e
-same-is false true e = e
-same-is false false e = refl
-
-pub same-of : (a b : Bool) → a ≡ b → same a b ≡ true
-unfolding same
-same-of true b e = sym e
-same-of false true e = e
-same-of false false e = refl
 
 -- ---- instances
 

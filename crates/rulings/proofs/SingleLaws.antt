@@ -12,7 +12,7 @@ use lib.ListN.{length}
 use borrow.Author.Tests.{eq-eqb, eqb-true, ne-eqb}
 use Rattle.laws.specs.Bits.{bit}
 use Rattle.laws.specs.Bounded.{tally}
-use Rattle.laws.proofs.BoundedLaws.{all-at, all-of, any-at, any-of, tally-none}
+use Rattle.laws.proofs.BoundedLaws.{all-at, all-of, any-at, any-of, tally-none, eqb-turned}
 use Rattle.laws.proofs.ConnectiveLaws.{both-left, both-of, both-right, imp-of, imp-use, same-test, true-false}
 use Rattle.laws.proofs.CountLaws.{tally-ext}
 use Rattle.laws.proofs.FirstLaws.{first-le}
@@ -27,9 +27,6 @@ use Rattle.memory_rules.specs.SiteIn.{siteIn, typedIn}
 use Rattle.worlds.specs.Kept.{SinglesKept, worldIn, worldOf}
 use Rattle.worlds.specs.Tables.{SingleTypes, singleBy, singleMissing}
 use Rattle.rulings.specs.Shaped.{Shaped, kindIn}
-
-eqb-turned : (i j : ℕ) → eqb i j ≡ eqb j i
-eqb-turned i j = same-test (eqb i j) (eqb j i) (λ e. eq-eqb j i (sym (eqb-true i j e))) (λ e. eq-eqb i j (sym (eqb-true j i e)))
 
 index-most : (old : Diagram) (n : Name) → typeIndex old n ≤ length (old .types)
 unfolding typeIndex

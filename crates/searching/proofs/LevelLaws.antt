@@ -1,7 +1,7 @@
 -- Each way out of the search. Where every allowed world of n objects keeps new's tables, every legal record is legal for new; where one
 -- does not, the record that is filled for it is a witness.
 -- Assumes nothing.
-use Prim.Native.Nat.{_<_, _≤_, ℕ}
+use Prim.Native.Nat.{_<_, ℕ}
 use mathlib.Core.Bool.{Bool, false, not, true, true≢false}
 use mathlib.Core.List.{List}
 use mathlib.Core.Path.{_∙_, _≡_, sym}
@@ -11,7 +11,6 @@ use Rattle.laws.proofs.ConnectiveLaws.{both-left}
 use Rattle.files.specs.Diagram.{Diagram}
 use Rattle.files.specs.Record.{Record, objectCount}
 use Rattle.files.specs.WellFormedDiagram.{WfDiagram}
-use Rattle.records.specs.declared.MemoryRecord.{MemoryRecord}
 use Rattle.fillings.specs.Memory.{memoryOf}
 use Rattle.fillings.proofs.MemoryLaws.{memory-stands}
 use Rattle.worlds.specs.Asked.{Breaks, worldBuilt}
@@ -29,7 +28,7 @@ use Rattle.searching.specs.declared.Found.{Found}
 
 module _ {old new : Diagram} {dues : List ℕ} {x : Sheet} {sources : List ℕ} {bad singles : ℕ} {missing : Bool} {targets lows highs : List ℕ} {y : Lines} (n : ℕ) (b : Built)
     (wo : WfDiagram old) (wn : WfDiagram new) (ready : Ready old new dues x sources bad singles missing targets lows highs y)
-    (breaks : Breaks x (worlds.Keeps bad singles missing targets lows highs y) n (b .ok) (worldBuilt n b)) where
+    (breaks : Breaks x (worlds.AllKept bad singles missing targets lows highs y) n (b .ok) (worldBuilt n b)) where
   -- old's sheet with its own table
   abbrev own : Sheet
   own = worlds.sheet (x .usable) (x .singles) (ready .own) (x .lows) (x .highs) (x .lines)

@@ -10,7 +10,7 @@ use Rattle.rules.specs.Judge.{Illegal, Legal}
 use Rattle.fillings.specs.Witness.{Witness}
 use Rattle.searching.specs.declared.Found.{Found}
 
--- f answers "find a site record of n objects that is legal for old and illegal for new"
+-- a site record of n objects that is legal for old and illegal for new: where f is `ok`, its witness is one; else there is none
 pub record Level (old new : Diagram) (n : ℕ) (f : Found) : Type 0 where
   pub count : f .ok ≡ true → f .witness .count ≡ n
   pub sound : f .ok ≡ true → Witness old new (f .witness)

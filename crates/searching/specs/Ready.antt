@@ -5,7 +5,7 @@ use mathlib.Core.Bool.{Bool}
 use mathlib.Core.List.{List}
 use Rattle.files.specs.Diagram.{Diagram}
 use Rattle.type_tables.specs.TypeTables.{Dues}
-use Rattle.worlds.specs.Kept.{Sheet, Turned, sheet}
+use Rattle.worlds.specs.Kept.{Sheet, SourceTable, sheet}
 use Rattle.worlds.specs.Tables.{SheetOf}
 use Rattle.worlds.specs.declared.Lines.{Lines}
 use Rattle.narrowing.specs.Narrow.{Narrows}
@@ -17,5 +17,5 @@ pub record Ready (old new : Diagram) (dues : List ℕ) (x : Sheet) (sources : Li
   pub own : List ℕ
   pub sheet-is : SheetOf old (sheet (x .usable) (x .singles) own (x .lows) (x .highs) (x .lines))
   pub narrow-is : Narrows (sheet (x .usable) (x .singles) own (x .lows) (x .highs) (x .lines)) (x .targets)
-  pub sources-are : Turned (x .targets) sources
+  pub sources-are : SourceTable (x .targets) sources
   pub others-are : TablesOf old new bad singles missing targets lows highs y

@@ -24,16 +24,7 @@ fn nothing() -> Found
 {
     Found {
         ok: false,
-        witness: MemoryRecord {
-            count: 0,
-            types: [0u8; 8],
-            values: [0u8; 256],
-            links: [0u8; 256],
-            strays: records::Strays {
-                values: false,
-                links: false,
-            },
-        },
+        witness: records::empty_record(),
     }
 }
 

@@ -15,7 +15,7 @@ use Rattle.diagrams.specs.declared.StoredDiagram.{StoredDiagram}
 use Rattle.diagrams.specs.View.{diagramOf}
 use Rattle.diagrams.specs.Held.{Held}
 use Rattle.diagrams.proofs.ViewLaws.{type-count}
-use Rattle.resolving.proofs.LookupLaws.{role-count}
+use Rattle.diagrams.proofs.NamedLaws.{role-count}
 use Rattle.type_tables.specs.Rows.{carriedTo, endAt, opposite}
 use Rattle.type_tables.specs.RowsIn.{carriedIn, otherEnd, setOf}
 use Rattle.type_tables.proofs.EndAtLaws.{carried-is, end-type, opposite-is, other-below, type-known}

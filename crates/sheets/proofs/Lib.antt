@@ -1,4 +1,3 @@
-pub mod ArrayLaws
 pub mod ImageLaws
 pub mod NamedLaws
 pub mod GatherLaws

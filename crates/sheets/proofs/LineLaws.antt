@@ -10,10 +10,10 @@ use mathlib.Core.Path.{_∙_, _≡_, ap, refl, sym}
 use lib.Dec.{eqb, ltb}
 use lib.ListN.{getD, length, length-set, set}
 use borrow.Author.Tests.{eqb-false, eqb-true, le-ltb, lt-ltb}
+use Rattle.laws.proofs.ListLaws.{getD-set}
+use Rattle.laws.proofs.BoundedLaws.{ltb-skip}
 use Rattle.worlds.specs.declared.Lines.{Lines}
 use Rattle.sheets.specs.LinesBy.{counted, countedFrom, countedTo, elementIf, linesIn, noLines, stored, withColumn, withMirror, withWhole}
-use Rattle.sheets.proofs.ArrayLaws.{set-at}
-use Rattle.sheets.proofs.PlaceLaws.{below-skip}
 
 -- ---- an array filled from the front
 
@@ -26,11 +26,11 @@ pub stored-at : (f : ℕ → ℕ) (l : List ℕ) (n j : ℕ) → n ≤ length l 
 unfolding stored
 stored-at f l zero j h = sym (rw (le-ltb j 0 (omega arith)))
 stored-at f l (suc n) j h =
-    set-at (stored f l n) n (f n) j (omega (arith, length-stored f l n)) ∙ go (eqb j n) refl (stored-at f l n j (omega arith))
+    getD-set (stored f l n) n (f n) j (omega (arith, length-stored f l n)) ∙ go (eqb j n) refl (stored-at f l n j (omega arith))
   where
     go : (b : Bool) → eqb j n ≡ b → getD (stored f l n) j 0 ≡ cond (ltb j n) (f j) (getD l j 0) → cond b (f n) (getD (stored f l n) j 0) ≡ cond (ltb j (suc n)) (f j) (getD l j 0)
     go true e ih = let q : j ≡ n = eqb-true j n e in sym (ap f q) ∙ sym (rw (lt-ltb j (suc n) (omega arith)))
-    go false e ih = ih ∙ ap (λ (b : Bool). cond b (f j) (getD l j 0)) (sym (ap (ltb j) (sym (add-one n)) ∙ below-skip j n (eqb-false j n e)))
+    go false e ih = ih ∙ ap (λ (b : Bool). cond b (f j) (getD l j 0)) (sym (ap (ltb j) (sym (add-one n)) ∙ ltb-skip j n (eqb-false j n e)))
 
 -- ---- the loop over the associations
 

@@ -11,12 +11,13 @@ use borrow.Author.Tests.{ltb-false, ltb-true}
 use Rattle.laws.specs.Bits.{bit}
 use Rattle.laws.specs.Connective.{both, either}
 use Rattle.laws.proofs.BitLaws.{bit-zero}
+use Rattle.laws.proofs.ListLaws.{zeros}
 use Rattle.files.specs.Diagram.{Association, Diagram, End, associationAt, isComposition, noEnd}
 use Rattle.diagrams.specs.declared.StoredDiagram.{StoredDiagram}
 use Rattle.diagrams.specs.View.{associationIn, diagramOf}
 use Rattle.diagrams.specs.Held.{Held}
 use Rattle.diagrams.proofs.ViewLaws.{association-at, association-count}
-use Rattle.resolving.proofs.LookupLaws.{role-count}
+use Rattle.diagrams.proofs.NamedLaws.{role-count}
 use Rattle.rules.specs.Arrow.{countedLeft, countedRight, mirrors, r1, r2}
 use Rattle.type_tables.specs.Rows.{endAt, least, most, opposite}
 use Rattle.type_tables.proofs.EndAtLaws.{end-low, end-up}
@@ -26,7 +27,6 @@ use Rattle.worlds.specs.declared.Lines.{Lines}
 use Rattle.worlds.specs.Tables.{LinesOf}
 use Rattle.sheets.specs.Named.{EndsBy, SlotsBy}
 use Rattle.sheets.specs.LinesBy.{composed, counted, countedFrom, countedTo, elementIf, endIf, linesIn, mirrored, stored}
-use Rattle.sheets.proofs.ArrayLaws.{zeros}
 use Rattle.sheets.proofs.LineLaws.{stored-at}
 
 -- ---- ends of one association

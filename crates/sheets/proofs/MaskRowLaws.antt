@@ -9,10 +9,10 @@ use lib.Bits.{bitAnd, bitOr}
 use lib.ListN.{getD, getD-replicate, replicate}
 use Rattle.laws.specs.Bits.{bit}
 use Rattle.laws.specs.Bounded.{all, any}
-use Rattle.laws.specs.Connective.{both, imp}
+use Rattle.laws.specs.Connective.{imp}
 use Rattle.laws.proofs.BitLaws.{bit-and, bit-or, bit-zero}
 use Rattle.laws.proofs.BoundedLaws.{all-at}
-use Rattle.laws.proofs.ConnectiveLaws.{or-right}
+use Rattle.laws.proofs.ConnectiveLaws.{or-right, and-is-both}
 use Rattle.sheets.specs.RowsBy.{gathered, maskAt, targetAt}
 
 pub all-types : (u : ℕ) → u < 24 → bit u 16777215 ≡ true
@@ -21,11 +21,6 @@ all-types u l = all-at (λ k. bit k 16777215) 24 refl u l
 
 pub mask-step : (u m more keep : ℕ) → bit u (bitAnd (bitOr m more) keep) ≡ (bit u m || bit u more) && bit u keep
 mask-step u m more keep = bit-and u (bitOr m more) keep ∙ ap (λ (b : Bool). b && bit u keep) (bit-or u m more)
-
-and-both-is : (a b : Bool) → a && b ≡ both a b
-unfolding both
-and-both-is true b = refl
-and-both-is false b = refl
 
 module _ (p : ℕ → Bool) (u : ℕ) where
   -- all types from the first end on
@@ -70,4 +65,4 @@ unfolding targetAt
 target-bit p sets n u v w few l e q =
     ap (bit u) q ∙ each-bit p u sets v n
     ∙ ap (λ (b : Bool). b && all (λ e. imp (p e) (bit u (getD sets e 0))) n)
-    (ap (bit u) e ∙ some-bit p u (replicate 32 16777215) l n (λ e h. ap (bit u) (getD-replicate 32 e 16777215 0 (lt-of-lt-of-le h few)) ∙ all-types u l)) ∙ and-both-is (any p n) (all (λ e. imp (p e) (bit u (getD sets e 0))) n)
+    (ap (bit u) e ∙ some-bit p u (replicate 32 16777215) l n (λ e h. ap (bit u) (getD-replicate 32 e 16777215 0 (lt-of-lt-of-le h few)) ∙ all-types u l)) ∙ and-is-both (any p n) (all (λ e. imp (p e) (bit u (getD sets e 0))) n)

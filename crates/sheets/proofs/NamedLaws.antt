@@ -13,24 +13,21 @@ use Rattle.laws.specs.Bounded.{any}
 use Rattle.laws.specs.Connective.{both}
 use Rattle.laws.proofs.BoundedLaws.{any-ext}
 use Rattle.files.specs.Ancestor.{reaches}
-use Rattle.files.specs.Diagram.{TypeDef, typeAt}
+use Rattle.files.specs.Diagram.{typeAt}
 use Rattle.fields.specs.Slot.{slotName}
 use Rattle.diagrams.specs.declared.StoredDiagram.{StoredDiagram}
-use Rattle.diagrams.specs.View.{diagramOf, typeIn}
+use Rattle.diagrams.specs.View.{diagramOf}
 use Rattle.diagrams.specs.Held.{Held}
-use Rattle.diagrams.proofs.ViewLaws.{type-at, type-count}
+use Rattle.diagrams.proofs.ViewLaws.{type-count}
+use Rattle.diagrams.proofs.NamedLaws.{role-count, role-named, type-named}
 use Rattle.records.specs.Slots.{roleName, typeIndex}
 use Rattle.resolving.specs.Lookup.{slotOf}
-use Rattle.resolving.proofs.LookupLaws.{role-count, role-slot, type-index}
-use Rattle.tables.proofs.TableLaws.{role-named, set-reaches}
+use Rattle.resolving.proofs.LookupLaws.{role-slot, type-index}
+use Rattle.tables.proofs.TableLaws.{set-reaches}
 use Rattle.type_tables.specs.RowsIn.{isSubtype}
 use Rattle.views.specs.Views.{countsAs, slotBy}
 use Rattle.sheets.specs.Named.{Images, SlotsBy, SubtypesBy}
 use Rattle.sheets.specs.NamedIn.{isImage}
-
-pub type-named : (d : StoredDiagram) (i : ℕ) → i < d .types .count → typeAt (diagramOf d) i .name ≡ slotName (d .types .names) i
-unfolding typeIn
-type-named d i l = ap (λ (t : TypeDef). t .name) (type-at d i l)
 
 module _ (old d : StoredDiagram) where
   pub images-are : (r : List ℕ) → ((i : ℕ) → i < d .types .count → getD r i 0 ≡ slotOf (old .types .names) (old .types .count) (slotName (d .types .names) i))
@@ -44,7 +41,7 @@ module _ (old d : StoredDiagram) where
   pub slots-are : (r : List ℕ) → Held old
       → ((e : ℕ) → e < d .associations .count * 2 → getD r e 0 ≡ slotOf (old .associations .roles) (old .associations .count * 2) (slotName (d .associations .roles) e))
       → ((e : ℕ) → getD r e 0 ≤ old .associations .count * 2) → SlotsBy (diagramOf old) (diagramOf d) r
-  unfolding slotBy
+  unfolding slotBy roleName
   slots-are r held f g = record {
     exact = λ e l.
         let h : e < d .associations .count * 2 = omega (arith, role-count d) in

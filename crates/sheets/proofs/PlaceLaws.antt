@@ -1,7 +1,6 @@
 -- One step at the places of a slot and a set of types, type by type.
 -- Assumes nothing.
 use Prim.Native.Nat.{_%_, _*_, _+_, _/_, _<_, _≤_, ℕ}
-use native.Mathlib.Decide.{decLt}
 use native.Mathlib.Nat.{le-antisymm}
 use native.Mathlib.Omega.{arith}
 use mathlib.Core.Bool.{Bool, cond, false, true}
@@ -12,24 +11,12 @@ use lib.ListN.{getD, length, length-set, set}
 use borrow.Author.Tests.{eq-eqb, eqb-false, eqb-true, le-ltb, lt-ltb, ltb-true}
 use Rattle.laws.specs.Bits.{bit}
 use Rattle.laws.specs.Connective.{both}
-use Rattle.laws.proofs.ConnectiveLaws.{both-left, both-of, both-right, true-false}
+use Rattle.laws.proofs.ConnectiveLaws.{both-left, both-of, both-right, true-false, both-false}
+use Rattle.laws.proofs.ListLaws.{getD-set}
+use Rattle.laws.proofs.BoundedLaws.{ltb-skip}
 use Rattle.type_tables.specs.RowsIn.{carriedIn, otherEnd}
 use Rattle.sheets.specs.RowsBy.{Stepped, gathered, isPlace, leadsAt, sourceIn}
-use Rattle.sheets.proofs.ArrayLaws.{set-at}
 use Rattle.sheets.proofs.GatherLaws.{gathered-next}
-
-both-off : (a : Bool) → both a false ≡ false
-unfolding both
-both-off true = refl
-both-off false = refl
-
--- below t + 1 and not t
-pub below-skip : (j t : ℕ) → (j ≡ t → ⊥) → ltb j (t + 1) ≡ ltb j t
-below-skip j t ne = go (decLt j t)
-  where
-    go : Dec (j < t) → ltb j (t + 1) ≡ ltb j t
-    go (yes l) = lt-ltb j (t + 1) (omega arith) ∙ sym (lt-ltb j t l)
-    go (no l) = le-ltb j (t + 1) (omega arith) ∙ sym (le-ltb j t (omega arith))
 
 module _ (mask s : ℕ) where
   -- a place of another type, or not of the set and the slot, is as before
@@ -38,8 +25,8 @@ module _ (mask s : ℕ) where
   place-skip t x ne = go (both (eqb s (x % 32)) (bit (x / 32) mask)) refl
     where
       go : (b : Bool) → both (eqb s (x % 32)) (bit (x / 32) mask) ≡ b → both (ltb (x / 32) (t + 1)) b ≡ both (ltb (x / 32) t) b
-      go true e = ap (λ (z : Bool). both z true) (below-skip (x / 32) t (ne e))
-      go false e = both-off (ltb (x / 32) (t + 1)) ∙ sym (both-off (ltb (x / 32) t))
+      go true e = ap (λ (z : Bool). both z true) (ltb-skip (x / 32) t (ne e))
+      go false e = both-false (ltb (x / 32) (t + 1)) ∙ sym (both-false (ltb (x / 32) t))
 
   place-none : (x : ℕ) → isPlace mask s 0 x ≡ false
   unfolding isPlace both
@@ -63,7 +50,7 @@ module _ (f : ℕ → ℕ) (mask s : ℕ) (l : List ℕ) where
       → Stepped f mask s t l r → Stepped f mask s (t + 1) l (set r at v)
   stepped-hit t r at v {q} below e on a is so = record {
     size = length-set r at v ∙ so .size;
-    is = λ x h. set-at r at v x (omega (arith, so .size, slot)) ∙ go x h (eqb x at) refl;
+    is = λ x h. getD-set r at v x (omega (arith, so .size, slot)) ∙ go x h (eqb x at) refl;
   }
     where
       slot : s < 32

@@ -14,7 +14,7 @@ use Rattle.diagrams.specs.declared.StoredDiagram.{StoredDiagram}
 use Rattle.diagrams.specs.View.{diagramOf}
 use Rattle.diagrams.specs.Held.{Held}
 use Rattle.diagrams.proofs.ViewLaws.{type-count}
-use Rattle.resolving.proofs.LookupLaws.{role-count}
+use Rattle.diagrams.proofs.NamedLaws.{role-count}
 use Rattle.type_tables.specs.Rows.{endAt, least, most}
 use Rattle.type_tables.proofs.EndAtLaws.{end-low, end-up}
 use Rattle.views.specs.Views.{countsAs, highAmongBy, highBy, leadsBy, lowAmongBy, lowBy, mayTargetBy}

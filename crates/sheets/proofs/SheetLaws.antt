@@ -16,9 +16,9 @@ use Rattle.diagrams.specs.declared.StoredDiagram.{StoredDiagram}
 use Rattle.diagrams.specs.View.{diagramOf}
 use Rattle.diagrams.specs.Held.{Held}
 use Rattle.diagrams.proofs.ViewLaws.{type-count}
-use Rattle.memory_rules.proofs.SlotLaws.{role-known}
+use Rattle.diagrams.proofs.NamedLaws.{role-count}
 use Rattle.records.specs.Slots.{roleCount, roleName}
-use Rattle.resolving.proofs.LookupLaws.{role-count}
+use Rattle.records.proofs.SlotLaws.{role-known}
 use Rattle.rules.specs.Arrow.{countedRight}
 use Rattle.views.specs.Views.{columnSlot, countedEnd, isComposed, isCounted, isMirror, mirrorLeft, mirrorRight, slotBy, wholeSlot}
 use Rattle.worlds.specs.declared.Lines.{Lines}

@@ -11,13 +11,13 @@ use lib.ListN.{getD, replicate}
 use borrow.Author.Tests.{eq-eqb, eqb-false, eqb-true, le-ltb, lt-ltb, ne-eqb}
 use Rattle.laws.specs.Bits.{bit}
 use Rattle.laws.specs.Connective.{both}
-use Rattle.laws.proofs.BitLaws.{bit-zero}
+use Rattle.laws.proofs.BitLaws.{bit-zero, bit-only}
 use Rattle.laws.proofs.ConnectiveLaws.{both-left, or-right}
-use Rattle.worlds.specs.Kept.{Turned}
+use Rattle.laws.proofs.ListLaws.{zeros}
+use Rattle.laws.proofs.BoundedLaws.{ltb-skip}
+use Rattle.worlds.specs.Kept.{SourceTable}
 use Rattle.sheets.specs.RowsBy.{Stepped, isPlace}
-use Rattle.sheets.proofs.ArrayLaws.{zeros}
 use Rattle.sheets.proofs.MaskRowLaws.{all-types, mask-step}
-use Rattle.sheets.proofs.PlaceLaws.{below-skip}
 
 true-both : (a : Bool) → both true a ≡ a
 unfolding both
@@ -43,7 +43,7 @@ module _ (targets : List ℕ) where
   -- a number with the mark, by bits
   marked : (t m one x : ℕ) → t < 24 → ((j : ℕ) → bit j one ≡ bit j 0 || eqb j (x / 32)) → bit t (bitAnd (bitOr m one) 16777215) ≡ bit t m || eqb t (x / 32)
   marked t m one x lt f =
-      mask-step t m one 16777215 ∙ ap₂ (λ (a b : Bool). (bit t m || a) && b) (f t ∙ ap (λ (b : Bool). b || eqb t (x / 32)) (bit-zero t)) (all-types t lt) ∙ and-true (bit t m || eqb t (x / 32))
+      mask-step t m one 16777215 ∙ ap₂ (λ (a b : Bool). (bit t m || a) && b) (bit-only (x / 32) one f t) (all-types t lt) ∙ and-true (bit t m || eqb t (x / 32))
 
   pub turned-next : (x : ℕ) (r l : List ℕ) (one : ℕ) → x < 768 → ((j : ℕ) → bit j one ≡ bit j 0 || eqb j (x / 32)) → TurnedTo x r
       → Stepped (λ m. bitAnd (bitOr m one) 16777215) (getD targets x 0) (x % 32) 24 r l → TurnedTo (x + 1) l
@@ -80,7 +80,7 @@ module _ (targets : List ℕ) where
           (λ q.
           let b : x % 32 ≡ s = eqb-true _ _ (both-left (eqb (x % 32) s) (bit u (getD targets x 0)) q) in
           ne-eqb t (x / 32) (λ a. p (omega arith)))
-          ∙ inv t s u lt ls lu ∙ ap (λ (c : Bool). c && bit u (getD targets (t * 32 + s) 0)) (sym (below-skip (t * 32 + s) x p))
+          ∙ inv t s u lt ls lu ∙ ap (λ (c : Bool). c && bit u (getD targets (t * 32 + s) 0)) (sym (ltb-skip (t * 32 + s) x p))
 
   -- no target at x
   pub turned-skip : (x : ℕ) (r : List ℕ) → getD targets x 0 ≡ 0 → TurnedTo x r → TurnedTo (x + 1) r
@@ -91,9 +91,9 @@ module _ (targets : List ℕ) where
           let p : t * 32 + s ≡ x = eqb-true _ _ e in
           let n : bit u (getD targets (t * 32 + s) 0) ≡ false = ap (λ (k : ℕ). bit u (getD targets k 0)) p ∙ ap (bit u) z ∙ bit-zero u in
           ap₂ (λ (a b : Bool). a && b) (le-ltb (t * 32 + s) x (omega arith)) n ∙ sym (ap₂ (λ (a b : Bool). a && b) (lt-ltb (t * 32 + s) (x + 1) (omega arith)) n)
-      go false e = ap (λ (c : Bool). c && bit u (getD targets (t * 32 + s) 0)) (sym (below-skip (t * 32 + s) x (eqb-false _ _ e)))
+      go false e = ap (λ (c : Bool). c && bit u (getD targets (t * 32 + s) 0)) (sym (ltb-skip (t * 32 + s) x (eqb-false _ _ e)))
 
-  pub turned-done : (x : ℕ) (r : List ℕ) → 768 ≤ x → TurnedTo x r → Turned targets r
+  pub turned-done : (x : ℕ) (r : List ℕ) → 768 ≤ x → TurnedTo x r → SourceTable targets r
   turned-done x r l inv = record {
     at = λ t s u lt ls lu. inv t s u lt ls lu ∙ ap (λ (b : Bool). b && bit u (getD targets (t * 32 + s) 0)) (lt-ltb (t * 32 + s) x (omega arith));
   }

@@ -15,13 +15,14 @@ use Rattle.laws.specs.Bounded.{any}
 use Rattle.laws.specs.Connective.{both, either}
 use Rattle.laws.proofs.BitLaws.{bit-or, bit-zero}
 use Rattle.laws.proofs.BoundedLaws.{all-ext, any-ext, any-more}
+use Rattle.laws.proofs.ConnectiveLaws.{both-turned}
 use Rattle.files.specs.Diagram.{End, isConcrete, isSingleton, typeAt}
 use Rattle.diagrams.specs.declared.StoredDiagram.{StoredDiagram}
 use Rattle.diagrams.specs.View.{diagramOf, endIn}
 use Rattle.diagrams.specs.Held.{Held}
 use Rattle.diagrams.proofs.ViewLaws.{type-count}
+use Rattle.diagrams.proofs.NamedLaws.{role-count}
 use Rattle.records.specs.Slots.{typeIndex}
-use Rattle.resolving.proofs.LookupLaws.{role-count}
 use Rattle.type_tables.specs.Due.{due}
 use Rattle.type_tables.specs.Rows.{carriedTo, endAt, opposite}
 use Rattle.type_tables.specs.TypeTables.{Dues}
@@ -37,13 +38,6 @@ use Rattle.sheets.proofs.EndLaws.{source-is}
 use Rattle.sheets.proofs.ImageLaws.{images-by}
 
 -- ---- in general
-
-both-turned : (a b : Bool) → both a b ≡ both b a
-unfolding both
-both-turned true true = refl
-both-turned true false = refl
-both-turned false true = refl
-both-turned false false = refl
 
 bit-if : (t : ℕ) (b : Bool) (m : ℕ) → bit t (cond b m 0) ≡ both b (bit t m)
 unfolding both

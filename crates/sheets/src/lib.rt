@@ -11,7 +11,7 @@ ghost use Rattle.diagrams.specs.Held.{Held};
 ghost use Rattle.resolving.specs.Lookup.{slotOf};
 ghost use Rattle.type_tables.specs.RowsIn.{isSubtype, setOf};
 ghost use Rattle.worlds.specs.Tables.{LinesOf, MissingLinks, RowTables, SingleTypes, UsableTypes, singleMissing};
-ghost use Rattle.worlds.specs.Kept.{Turned};
+ghost use Rattle.worlds.specs.Kept.{SourceTable};
 ghost use Rattle.type_tables.specs.TypeTables.{Dues};
 ghost use Rattle.sheets.specs.Named.{EndsBy, Images, SlotsBy, SubtypesBy};
 ghost use Rattle.sheets.specs.NamedIn.{isImage};
@@ -192,7 +192,7 @@ pub fn rows_by(old: diagrams::StoredDiagram, d: diagrams::StoredDiagram) -> Rows
 
 // The table of sources: for type u and slot s at u * 32 + s the types that may have u as a target.
 pub fn sources_of(targets: &[u32; 768]) -> [u32; 768]
-    ensures { λ r. ⌜ Turned (now (targets .entry)) r ⌝ }
+    ensures { λ r. ⌜ SourceTable (now (targets .entry)) r ⌝ }
 {
     let mut r = [0u32; 768];
     let mut x: usize = 0;

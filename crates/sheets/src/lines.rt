@@ -1,7 +1,6 @@
 // What a diagram asks by associations. The left end of association j is end j * 2, the right one j * 2 + 1.
 ghost use mathlib.Core.Path.{_≡_};
-ghost use Prim.Native.Nat.{ℕ, _*_, _+_, _<_, _≤_};
-ghost use lib.ListN.{getD};
+ghost use Prim.Native.Nat.{_*_, _+_, _<_, _≤_};
 ghost use Rattle.sheets.specs.LinesBy.{elementIf, endIf, linesIn, noLines, withColumn, withMirror, withWhole};
 
 // The right end of association j, or the left one.

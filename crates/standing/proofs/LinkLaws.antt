@@ -15,16 +15,16 @@ use Rattle.laws.proofs.ConnectiveLaws.{and-both, and-left, and-right, both-left
 use Rattle.laws.proofs.PickedLaws.{any-picked}
 use Rattle.files.specs.Diagram.{Diagram}
 use Rattle.files.specs.Membership.{hasLink}
-use Rattle.files.specs.Name.{Name, sameName}
+use Rattle.files.specs.Name.{Name, key, sameName}
 use Rattle.files.specs.Record.{Link}
 use Rattle.files.specs.WellFormedDiagram.{WfDiagram}
-use Rattle.files.proofs.NameLaws.{same-equal, same-self}
+use Rattle.files.proofs.NameLaws.{same-key, same-self}
 use Rattle.records.specs.Represents.{linkBit}
 use Rattle.records.specs.Slots.{ownRole, roleCount, roleName, roleSlot}
 use Rattle.records.specs.Written.{Within, linkIn, linkIs, linkOn, recordOf, rolePlace}
 use Rattle.records.specs.declared.MemoryRecord.{MemoryRecord}
 use Rattle.records.proofs.PlaceLaws.{role-placed}
-use Rattle.memory_rules.proofs.SlotLaws.{own-role-below, own-role-slot, role-known}
+use Rattle.records.proofs.SlotLaws.{own-role-below, own-role-slot, role-alike, role-known}
 use Rattle.standing.specs.Clean.{Clean}
 
 -- k is the link of role w from o to p
@@ -68,14 +68,14 @@ module _ (d : Diagram) (m : MemoryRecord) (wf : WfDiagram d) (inside : Within d 
       let on = and-left (linkOn d m x) (isLink o w p (linkIs d x)) q in
       let is = and-right (linkOn d m x) (isLink o w p (linkIs d x)) q in
       let a : x / 256 ≡ o = eqb-true _ _ (both-left _ _ is) in
-      let b : roleName d t ≡ w = same-equal _ _ (both-left _ _ (both-right _ _ is)) in
+      let b : key (roleName d t) ≡ key w = same-key _ _ (both-left _ _ (both-right _ _ is)) in
       let c : x % 8 ≡ p = eqb-true _ _ (both-right _ _ (both-right _ _ is)) in
       let few : length (d .associations) ≤ 16 = wf .few-associations in
       let objects : m .count ≤ 8 = inside .few in
       let there : t < roleCount d = ltb-true _ _ (both-left _ _ on) in
       let bit : linkIn m (x / 256) t (x % 8) ≡ true = both-right _ _ on in
       let kept : ownRole d t ≡ true = clean .links (x / 256) t (x % 8) (omega arith) (omega arith) (omega arith) bit .1 in
-      let slot : t ≡ s = sym (own-role-slot d t kept) ∙ ap (roleSlot d) b ∙ own-role-slot d s own in
+      let slot : t ≡ s = sym (own-role-slot d t kept) ∙ role-alike d _ _ b ∙ own-role-slot d s own in
       subst (λ (n : ℕ). linkIn m n s p ≡ true) a (subst (λ (n : ℕ). linkIn m (x / 256) n p ≡ true) slot (subst (λ (n : ℕ). linkIn m (x / 256) t n ≡ true) c bit))
 
   pub links-written : (o s p : ℕ) → o < 8 → s < 32 → p < 8 → linkIn m o s p ≡ linkBit d (recordOf d m) o s p

@@ -1,19 +1,18 @@
 -- A record in memory that has an index for everything, and keeps nothing beside what is written, stands for the record that is
 -- written of it.
 -- Assumes nothing.
-use Prim.Native.Nat.{_*_, _<_, _≤_, ℕ}
+use Prim.Native.Nat.{_*_, _<_, ℕ}
 use native.Mathlib.Omega.{arith}
-use mathlib.Core.Bool.{Bool, _&&_, false, false≢true}
+use mathlib.Core.Bool.{false, false≢true}
 use mathlib.Core.List.{[]}
 use mathlib.Core.Path.{_∙_, _≡_, ap, subst, sym}
 use lib.Dec.{eqb}
 use lib.ListN.{getD, length}
 use borrow.Author.Tests.{eqb-true}
-use Rattle.laws.specs.Bounded.{any}
 use Rattle.laws.proofs.BoundedLaws.{any-at}
 use Rattle.laws.proofs.ConnectiveLaws.{and-left, and-right, same-test}
 use Rattle.laws.proofs.PickedLaws.{any-picked}
-use Rattle.files.specs.Diagram.{Diagram, typeAt}
+use Rattle.files.specs.Diagram.{Diagram}
 use Rattle.files.specs.Record.{objectCount, objectType}
 use Rattle.files.specs.WellFormedDiagram.{WfDiagram}
 use Rattle.records.specs.Represents.{strayLink, strayValue}
@@ -21,9 +20,9 @@ use Rattle.records.specs.Slots.{attributeSlot, roleCount, roleSlot, typeIndex}
 use Rattle.records.specs.Written.{Within, linkIs, linkOn, recordOf, valueIs, valueOn}
 use Rattle.records.specs.declared.MemoryRecord.{MemoryRecord}
 use Rattle.records.proofs.WrittenLaws.{written-count, written-object}
+use Rattle.records.proofs.SlotLaws.{index-of}
 use Rattle.writing.proofs.WrittenLaws.{written-wf}
 use Rattle.memory_rules.specs.Stands.{Stands}
-use Rattle.memory_rules.proofs.SlotLaws.{index-of}
 use Rattle.standing.specs.Clean.{Clean}
 use Rattle.standing.proofs.LinkLaws.{link-roles, links-written}
 use Rattle.standing.proofs.ValueLaws.{value-attributes, values-written}

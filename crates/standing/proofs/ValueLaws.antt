@@ -8,27 +8,27 @@ use mathlib.Core.List.{[]}
 use mathlib.Core.Logic.{_≢_, _⊎_, inl, inr, ⊎-elim}
 use mathlib.Core.Path.{_∙_, _≡_, ap, refl, subst, sym}
 use lib.Dec.{eqb}
-use lib.ListN.{getD, length}
+use lib.ListN.{length}
 use borrow.Author.Tests.{eq-eqb, eqb-false, eqb-true, lt-ltb, ltb-true, ne-eqb, not-false, not-true}
 use Rattle.laws.specs.Bounded.{any}
 use Rattle.laws.specs.Connective.{both}
 use Rattle.laws.proofs.BoundedLaws.{any-at, any-of}
 use Rattle.laws.proofs.ConnectiveLaws.{and-both, and-left, and-right, both-left, both-of, both-right, known, true-false}
 use Rattle.laws.proofs.PickedLaws.{any-picked}
-use Rattle.files.specs.Diagram.{Diagram, attributeAt, valueTypeAt}
+use Rattle.files.specs.Diagram.{Diagram, attributeAt}
 use Rattle.files.specs.Membership.{hasValue}
-use Rattle.files.specs.Name.{Name, sameName}
+use Rattle.files.specs.Name.{Name, key}
 use Rattle.files.specs.Record.{Value, valueAt}
 use Rattle.files.specs.WellFormedDiagram.{WfDiagram}
 use Rattle.files.specs.WellFormedRecord.{WfRecord}
-use Rattle.files.proofs.NameLaws.{same-equal, same-self}
+use Rattle.files.proofs.NameLaws.{same-key, same-self}
 use Rattle.records.specs.Represents.{codeAmong, valueByte, valueFor}
 use Rattle.records.specs.Slots.{attributeSlot, codeOf, ownAttribute}
-use Rattle.records.specs.Written.{IsValue, Within, attributePlace, recordOf, valueIn, valueIs, valueOn}
+use Rattle.records.specs.Written.{Within, attributePlace, recordOf, valueIn, valueIs, valueOn}
 use Rattle.records.specs.declared.MemoryRecord.{MemoryRecord}
 use Rattle.records.proofs.PlaceLaws.{attribute-placed}
+use Rattle.records.proofs.SlotLaws.{attribute-alike, attribute-known, own-below, own-slot}
 use Rattle.memory_rules.proofs.AmongLaws.{code-has, code-of}
-use Rattle.memory_rules.proofs.SlotLaws.{attribute-known, own-below, own-slot}
 use Rattle.standing.specs.Clean.{Clean}
 use Rattle.standing.proofs.CodeLaws.{code-self}
 
@@ -53,8 +53,8 @@ module _ (d : Diagram) (m : MemoryRecord) (wf : WfDiagram d) (inside : Within d 
       let some : valueIn m (x / 32) t ≢ 0 = eqb-false _ 0 (not-true _ (both-right _ _ on)) in
       let kept : ownAttribute d t ≡ true = clean .values (x / 32) t (omega arith) (omega arith) some .1 in
       let a : x / 32 ≡ o = eqb-true _ _ (both-left _ _ is) in
-      let b : attributeAt d t .name ≡ attributeAt d s .name = same-equal _ _ (both-right _ _ is) in
-      let slot : t ≡ s = sym (own-slot d t kept) ∙ ap (attributeSlot d) b ∙ own-slot d s own in
+      let b : key (attributeAt d t .name) ≡ key (attributeAt d s .name) = same-key _ _ (both-right _ _ is) in
+      let slot : t ≡ s = sym (own-slot d t kept) ∙ attribute-alike d _ _ b ∙ own-slot d s own in
       subst (λ (n : ℕ). valueIn m n s ≢ 0) a (subst (λ (n : ℕ). valueIn m (x / 32) n ≢ 0) slot some)
 
   -- nothing is kept, and so nothing is written

@@ -1,9 +1,9 @@
--- 01 "The bench": the bench, its calls and their replies.
+-- 01 "The bench": the bench, its parts, its calls and their replies.
 -- Assumes nothing.
 use Prim.Native.Nat.{ℕ}
-use mathlib.Core.Bool.{cond}
+use mathlib.Core.Bool.{Bool, cond, false, true}
 use mathlib.Core.List.{List, []}
-use mathlib.Core.Option.{Option, none, some}
+use mathlib.Core.Option.{Option, none}
 use lib.Dec.{eqb}
 use Rattle.files.specs.Diagram.{Diagram}
 use Rattle.files.specs.Record.{Record}
@@ -18,6 +18,8 @@ pub record Bench : Type 0 where
 abbrev pub fresh : Bench
 fresh = record { old = none; new = none; witness = none }
 
+-- ---- calls and replies
+
 pub data Call : Type 0 where
   Load : ℕ → List ℕ → Call  -- place, file
   Clear : ℕ → Call  -- place
@@ -28,7 +30,6 @@ pub data Call : Type 0 where
   HandOut : List ℕ → Call  -- what the buffer holds
 
 pub data Reply : Type 0 where
-  refusal : ℕ → Reply  -- "it returns only its number"
   done : Reply  -- load and clear: "accepted"
   rule : ℕ → Reply  -- judge: 0, or the lowest rule broken
   records : ℕ → List ℕ → Reply  -- compile: their number, and the list of 64 entries
@@ -36,6 +37,17 @@ pub data Reply : Type 0 where
   noDifference : Reply
   difference : ℕ → Reply  -- "with the object count"
   written : ℕ → Reply  -- hand out: the length
+  refusal : ℕ → Reply  -- "it returns only its number"
+
+unfoldable pub isRefusal : Reply → Bool
+isRefusal done = false
+isRefusal (rule n) = false
+isRefusal (records n list) = false
+isRefusal (firstFalse n) = false
+isRefusal noDifference = false
+isRefusal (difference n) = false
+isRefusal (written n) = false
+isRefusal (refusal n) = true
 
 -- what a call gives: its reply, the bench, and what the lent buffer holds afterwards ([] where none is lent)
 pub record Outcome : Type 0 where
@@ -51,14 +63,13 @@ gives reply b = record { reply = reply; bench = b; buffer = [] }
 unfoldable pub placeOf : ℕ → Bench → Option Diagram
 placeOf p b = cond (eqb p 0) (b .old) (b .new)
 
-unfoldable pub dropWitness : Bench → Bench
-dropWitness b = record { old = b .old; new = b .new; witness = none }
-
-unfoldable pub storeWitness : Record → Bench → Bench
-storeWitness w b = record { old = b .old; new = b .new; witness = some w }
-
-unfoldable pub withPlace : ℕ → Option Diagram → Bench → Bench
-withPlace p x b =
+-- the place holds x, or is empty, and the witness is dropped
+unfoldable pub settle : ℕ → Option Diagram → Bench → Bench
+settle p x b =
     cond (eqb p 0)
-    (record { old = x; new = b .new; witness = b .witness })
-    (record { old = b .old; new = x; witness = b .witness })
+    (record { old = x; new = b .new; witness = none })
+    (record { old = b .old; new = x; witness = none })
+
+-- the witness is stored or dropped
+unfoldable pub withWitness : Option Record → Bench → Bench
+withWitness w b = record { old = b .old; new = b .new; witness = w }

@@ -1,10 +1,10 @@
 -- 01 "The bench": rows of calls, "refused ones included".
 -- Assumes nothing.
-use Prim.Native.Nat.{ℕ}
-use mathlib.Core.Bool.{Bool, false, not, true}
+use mathlib.Core.Bool.{false}
 use mathlib.Core.List.{List, [], _∷_}
 use mathlib.Core.Path.{_≡_}
-use Rattle.steps.specs.Bench.{Bench, Call, Clear, Compare, Compile, Evaluate, HandOut, Judge, Load, Outcome, Reply, difference, done, firstFalse, noDifference, records, refusal, rule, written}
+use Rattle.steps.specs.Bench.{Bench, Call, Outcome, fresh}
+use Rattle.steps.specs.Effect.{changes, witness}
 use Rattle.steps.specs.Step.{Step}
 
 pub record Event : Type 0 where
@@ -16,37 +16,18 @@ abbrev pub Row : Bench → List Event → Bench → Type 0
 Row b [] last = b ≡ last
 Row b (e ∷ es) last = Step b (e .call) (e .outcome) × Row (e .outcome .bench) es last
 
-unfoldable pub isRefusal : Reply → Bool
-isRefusal (refusal n) = true
-isRefusal done = false
-isRefusal (rule n) = false
-isRefusal (records n list) = false
-isRefusal (firstFalse n) = false
-isRefusal noDifference = false
-isRefusal (difference n) = false
-isRefusal (written n) = false
+-- a row taken apart at one of its calls: the bench that the call got, and the rows before and behind it
+pub record RowAt (b : Bench) (before : List Event) (e : Event) (behind : List Event) (last : Bench) : Type 0 where
+  pub bench : Bench
+  pub row-before : Row b before bench
+  pub step : Step bench (e .call) (e .outcome)
+  pub row-behind : Row (e .outcome .bench) behind last
 
--- what the lent buffer holds before the call; [] where none is lent
-unfoldable pub lent : Call → List ℕ
-lent (Load p file) = []
-lent (Clear p) = []
-lent (Judge p file) = []
-lent (Compile p) = []
-lent (Evaluate p file) = []
-lent (Compare bound) = []
-lent (HandOut buffer) = buffer
-
--- the call "drops or stores a witness": an accepted load, clear or compare
-unfoldable pub dropsOrStores : Call → Reply → Bool
-dropsOrStores (Load p file) reply = not (isRefusal reply)
-dropsOrStores (Clear p) reply = not (isRefusal reply)
-dropsOrStores (Judge p file) reply = false
-dropsOrStores (Compile p) reply = false
-dropsOrStores (Evaluate p file) reply = false
-dropsOrStores (Compare bound) reply = not (isRefusal reply)
-dropsOrStores (HandOut buffer) reply = false
+-- "A bench is the fresh one or one that a call returned."
+abbrev pub Reached : Bench → Type 0
+Reached b = (es : List Event) × Row fresh es b
 
 -- "none of which drops or stores a witness"
-abbrev pub Keeps : List Event → Type 0
-Keeps [] = Unit {0}
-Keeps (e ∷ es) = (dropsOrStores (e .call) (e .outcome .reply) ≡ false) × Keeps es
+abbrev pub KeepsWitness : List Event → Type 0
+KeepsWitness [] = Unit {0}
+KeepsWitness (e ∷ es) = (changes (e .call) (e .outcome .reply) witness ≡ false) × KeepsWitness es

@@ -2,7 +2,7 @@
 -- `Step b c o`: the call c on the bench b may give o. It is an equation for each call; only compare has a free choice in it.
 -- Assumes nothing.
 use Prim.Native.Nat.{ℕ}
-use mathlib.Core.Bool.{Bool, cond, false, true}
+use mathlib.Core.Bool.{cond}
 use mathlib.Core.List.{List}
 use mathlib.Core.Option.{Option, none, some}
 use mathlib.Core.Path.{_≡_}
@@ -18,73 +18,113 @@ use Rattle.files.specs.Refusal.{Answer, accepted, refused}
 use Rattle.rules.specs.Compile.{compile, compiledBytes}
 use Rattle.rules.specs.Evaluate.{evaluate}
 use Rattle.rules.specs.Judge.{judge}
-use Rattle.comparing.specs.Difference.{Finds}
-use Rattle.steps.specs.Bench.{Bench, Call, Clear, Compare, Compile, Evaluate, HandOut, Judge, Load, Outcome, difference, done, dropWitness, firstFalse, gives, noDifference, placeOf, records, refusal, rule, storeWitness, withPlace, written}
+use Rattle.smallest_records.specs.Difference.{Gap}
+use Rattle.smallest_records.specs.Smallest.{Chooses}
+use Rattle.steps.specs.Bench.{Bench, Call, Clear, Compare, Compile, Evaluate, HandOut, Judge, Load, Outcome, Reply, difference, done, firstFalse, gives, noDifference, placeOf, records, refusal, rule, settle, withWitness, written}
+
+-- ---- what a call gives, by what it changes; "bench and buffer stay unchanged" where it is refused
+
+-- no part of the bench
+unfoldable pub asking : Bench → Answer Reply → Outcome
+asking b (refused n) = gives (refusal n) b
+asking b (accepted reply) = gives reply b
+
+-- a place, and "the witness is dropped"
+unfoldable pub settling : Bench → ℕ → Answer (Option Diagram) → Outcome
+settling b p (refused n) = gives (refusal n) b
+settling b p (accepted x) = gives done (settle p x b)
+
+-- the buffer: "at the front, its length returned, later bytes untouched"
+unfoldable pub writing : Bench → List ℕ → Answer (List ℕ) → Outcome
+writing b buffer (refused n) = record { reply = refusal n; bench = b; buffer = buffer }
+writing b buffer (accepted file) = record { reply = written (length file); bench = b; buffer = over file buffer }
+
+-- the witness: a smallest record of those that are looked for, or none; the reply says which
+abbrev pub Choosing : {A : Type 0} → Bench → Answer A → (A → List ℕ → Record → Type 0) → ℕ → (Option Record → Reply) → Outcome → Type 0
+Choosing b (refused n) S bound says o = o ≡ gives (refusal n) b
+Choosing b (accepted x) S bound says o = (w : Option Record) × Chooses (S x) bound w × (o ≡ gives (says w) (withWitness w b))
 
 -- ---- refusals of the calls: "Order: 9, 10, 21, then the file; 22, then 20."
 
+-- the first refusal, or what follows where there is none
+unfoldable pub andThen : {A B : Type 0} → Answer A → (A → Answer B) → Answer B
+andThen (refused n) f = refused n
+andThen (accepted x) f = f x
+
+-- 9: "bound above 8"
+unfoldable pub inBound : {A : Type 0} → ℕ → Answer A → Answer A
+inBound bound a = cond (ltb 8 bound) (refused 9) a
+
 -- 10: "place above 1"
-unfoldable pub inPlace : ℕ → Bench → Outcome → Outcome
-inPlace p b o = cond (ltb 1 p) (gives (refusal 10) b) o
+unfoldable pub inPlace : {A : Type 0} → ℕ → Answer A → Answer A
+inPlace p a = cond (ltb 1 p) (refused 10) a
 
 -- 21: "a place that the call needs is empty"
-unfoldable pub needing : Bench → Option Diagram → (Diagram → Outcome) → Outcome
-needing b none f = gives (refusal 21) b
-needing b (some d) f = f d
+unfoldable pub needed : Option Diagram → Answer Diagram
+needed none = refused 21
+needed (some d) = accepted d
 
--- "then the file"
-unfoldable pub reading : {A : Type 0} → Bench → Answer A → (A → Outcome) → Outcome
-reading b (refused n) f = gives (refusal n) b
-reading b (accepted x) f = f x
+-- the diagram in the place that a call names
+unfoldable pub diagramAt : Bench → ℕ → Answer Diagram
+diagramAt b p = inPlace p (needed (placeOf p b))
+
+-- 22: "no witness"
+unfoldable pub witnessing : {A : Type 0} → Option Record → (Record → Answer A) → Answer A
+witnessing none f = refused 22
+witnessing (some w) f = f w
+
+-- 20: "hand-out buffer below 60,000 bytes"
+unfoldable pub inBuffer : {A : Type 0} → ℕ → List ℕ → Answer A → Answer A
+inBuffer least buffer a = cond (leb least (length buffer)) a (refused 20)
 
 -- ---- the calls
 
 -- "accepted, the place holds the diagram and the witness is dropped"
-unfoldable pub load : Bench → ℕ → List ℕ → Outcome
-load b p file = inPlace p b (reading b (readDiagram file) (λ d. gives done (dropWitness (withPlace p (some d) b))))
+unfoldable pub load : ℕ → List ℕ → Answer (Option Diagram)
+load p file = inPlace p (andThen (readDiagram file) (λ d. accepted (some d)))
 
 -- "accepted, an empty place too; the place is empty and the witness is dropped"
-unfoldable pub clear : Bench → ℕ → Outcome
-clear b p = inPlace p b (gives done (dropWitness (withPlace p none b)))
+unfoldable pub clear : ℕ → Answer (Option Diagram)
+clear p = inPlace p (accepted none)
+
+-- what is said of a record file under the diagram in a place
+unfoldable pub onRecord : Bench → ℕ → List ℕ → (Diagram → Record → Reply) → Answer Reply
+onRecord b p file says = andThen (diagramAt b p) (λ d. andThen (readRecord file) (λ r. accepted (says d r)))
 
 -- "0, or the lowest rule broken"
-unfoldable pub judging : Bench → ℕ → List ℕ → Outcome
-judging b p file = inPlace p b (needing b (placeOf p b) (λ d. reading b (readRecord file) (λ r. gives (rule (judge d r)) b)))
+abbrev pub judged : Bench → ℕ → List ℕ → Answer Reply
+judged b p file = onRecord b p file (λ d r. rule (judge d r))
 
 -- "the records and their number, at most 64"
-unfoldable pub compiling : Bench → ℕ → Outcome
-compiling b p = inPlace p b (needing b (placeOf p b) (λ d. gives (records (length (compile d)) (compiledBytes d)) b))
+unfoldable pub compiled : Bench → ℕ → Answer Reply
+compiled b p = andThen (diagramAt b p) (λ d. accepted (records (length (compile d)) (compiledBytes d)))
 
 -- "the number of compiled records if all hold on it, else the index from 0 of the first that doesn't"
-unfoldable pub evaluating : Bench → ℕ → List ℕ → Outcome
-evaluating b p file = inPlace p b (needing b (placeOf p b) (λ d. reading b (readRecord file) (λ r. gives (firstFalse (evaluate d r)) b)))
+abbrev pub evaluated : Bench → ℕ → List ℕ → Answer Reply
+evaluated b p file = onRecord b p file (λ d r. firstFalse (evaluate d r))
 
--- "no difference", witness dropped; or "difference" with the object count, witness stored
-unfoldable pub found : Bench → Option Record → Outcome
-found b none = gives noDifference (dropWitness b)
-found b (some w) = gives (difference (objectCount w)) (storeWitness w b)
+-- "Old and new are the diagrams in places 0 and 1 of the bench that compare gets."
+unfoldable pub compared : Bench → ℕ → Answer (Diagram × Diagram)
+compared b bound = inBound bound (andThen (diagramAt b 0) (λ old. andThen (diagramAt b 1) (λ new. accepted (old, new))))
 
--- 9: "bound above 8"; then 21 for either place; then the free choice
-abbrev pub Compares : Bench → Bool → Option Diagram → Option Diagram → ℕ → Outcome → Type 0
-Compares b true old new bound o = o ≡ gives (refusal 9) b
-Compares b false none new bound o = o ≡ gives (refusal 21) b
-Compares b false (some old) none bound o = o ≡ gives (refusal 21) b
-Compares b false (some old) (some new) bound o = (x : Option Record) × Finds old new bound x × (o ≡ found b x)
+-- a reply for none, and one for each object count
+unfoldable pub saying : Reply → (ℕ → Reply) → Option Record → Reply
+saying empty tell none = empty
+saying empty tell (some w) = tell (objectCount w)
 
--- "the witness as a record file at the front, its length returned, later bytes untouched"
--- 22: "no witness"; 20: "hand-out buffer below 60,000 bytes"
-unfoldable pub handOut : Bench → Option Record → List ℕ → Outcome
-handOut b none buffer = record { reply = refusal 22; bench = b; buffer = buffer }
-handOut b (some w) buffer =
-    cond (leb 60000 (length buffer))
-    (record { reply = written (length (writeRecord w)); bench = b; buffer = over (writeRecord w) buffer })
-    (record { reply = refusal 20; bench = b; buffer = buffer })
+-- "no difference", or "difference" with the object count
+abbrev pub differs : Option Record → Reply
+differs = saying noDifference difference
+
+-- "the witness as a record file"
+unfoldable pub handedOut : Option Record → List ℕ → Answer (List ℕ)
+handedOut x buffer = witnessing x (λ w. inBuffer 60000 buffer (accepted (writeRecord w)))
 
 abbrev pub Step : Bench → Call → Outcome → Type 0
-Step b (Load p file) o = o ≡ load b p file
-Step b (Clear p) o = o ≡ clear b p
-Step b (Judge p file) o = o ≡ judging b p file
-Step b (Compile p) o = o ≡ compiling b p
-Step b (Evaluate p file) o = o ≡ evaluating b p file
-Step b (Compare bound) o = Compares b (ltb 8 bound) (b .old) (b .new) bound o
-Step b (HandOut buffer) o = o ≡ handOut b (b .witness) buffer
+Step b (Load p file) o = o ≡ settling b p (load p file)
+Step b (Clear p) o = o ≡ settling b p (clear p)
+Step b (Judge p file) o = o ≡ asking b (judged b p file)
+Step b (Compile p) o = o ≡ asking b (compiled b p)
+Step b (Evaluate p file) o = o ≡ asking b (evaluated b p file)
+Step b (Compare bound) o = Choosing b (compared b bound) (λ d. Gap (d .0) (d .1)) bound differs o
+Step b (HandOut buffer) o = o ≡ writing b buffer (handedOut (b .witness) buffer)

@@ -1,7 +1,6 @@
 -- Which value types a value's code belongs to: its own one, and none where the code is past the last value type.
 -- Assumes nothing.
 use Prim.Native.Nat.{_%_, _/_, _<_, _≤_, ℕ}
-use native.Mathlib.Decide.{decLt}
 use native.Mathlib.Omega.{arith}
 use mathlib.Core.Bool.{false, false≢true, true}
 use mathlib.Core.List.{[]}
@@ -13,37 +12,15 @@ use borrow.Author.Tests.{eq-eqb, eqb-true, ltb-true, ne-eqb}
 use Rattle.laws.specs.Bounded.{any}
 use Rattle.laws.specs.Connective.{both, either}
 use Rattle.laws.proofs.BoundedLaws.{any-of}
-use Rattle.laws.proofs.ConnectiveLaws.{both-left, both-of, either-cases, either-left, either-right, same-test}
+use Rattle.laws.proofs.ConnectiveLaws.{both-left, both-of, either-cases, either-left, either-right, same-test, both-implied}
 use Rattle.files.specs.Diagram.{Diagram, ValueType, valueTypeAt}
-use Rattle.files.specs.Name.{Name, sameName, validName}
+use Rattle.files.specs.Name.{Name, sameName}
 use Rattle.files.specs.Record.{Value}
 use Rattle.files.specs.WellFormedDiagram.{WfDiagram}
-use Rattle.files.proofs.NameLaws.{same-equal, same-self}
+use Rattle.files.proofs.NameLaws.{differ-same, key-length, same-key, same-self}
 use Rattle.records.specs.Written.{IsValue}
 use Rattle.rules.specs.ValueRules.{belongs}
-use Rattle.tables.proofs.UnderLaws.{both-implied}
-
--- names that differ are told apart by their index
-pub differ-same : (name : ℕ → Name) (n : ℕ) → ((i j : ℕ) → i < j → j < n → sameName (name i) (name j) ≡ false)
-    → (i j : ℕ) → i < n → j < n → sameName (name i) (name j) ≡ eqb i j
-differ-same name n f i j li lj = go (decLt i j) (decLt j i)
-  where
-    go : Dec (i < j) → Dec (j < i) → sameName (name i) (name j) ≡ eqb i j
-    go (yes h) g = f i j h lj ∙ sym (ne-eqb i j (λ e. omega arith))
-    go (no h) (yes g) =
-        same-test (sameName (name i) (name j)) (eqb i j)
-        (λ e.
-        let q : name i ≡ name j = same-equal (name i) (name j) e in
-        let t : sameName (name j) (name i) ≡ true = ap (λ (w : Name). sameName (name j) w) q ∙ same-self (name j) in
-        absurd (false≢true (sym (f j i g li) ∙ t)))
-        (λ e. let q : i ≡ j = eqb-true i j e in absurd (omega arith))
-    go (no h) (no g) =
-        let e : i ≡ j = omega arith in
-        ap (λ (w : Name). sameName (name i) w) (ap name (sym e)) ∙ same-self (name i) ∙ sym (eq-eqb i j e)
-
-valid-not-empty : validName [] ≡ true → ⊥
-unfolding validName both
-valid-not-empty e = false≢true e
+use Rattle.memory_rules.proofs.CodeLaws.{name-long}
 
 module _ (d : Diagram) (wf : WfDiagram d) (v : Value) (t k : ℕ) (known : t < length (d .valueTypes)) where
   -- the constants of v's own value type have its constant
@@ -87,6 +64,9 @@ module _ (d : Diagram) (wf : WfDiagram d) (v : Value) (t k : ℕ) (known : t < l
       let beyond : length (d .valueTypes) ≤ k / 8 = omega arith in
       let none : valueTypeAt d (k / 8) .name ≡ [] = ap (λ (x : ValueType). x .name) (List·getD-eq-default (d .valueTypes) (record { name = []; constants = [] }) beyond) in
       let no : sameName (valueTypeAt d t .name) (v .valueType) ≡ false = same-test (sameName (valueTypeAt d t .name) (v .valueType)) false
-      (λ h. absurd (valid-not-empty (subst (λ (w : Name). validName w ≡ true) (same-equal _ _ h ∙ e ∙ none) (wf .value-type t known .named))))
+      (λ h.
+      let z : length (valueTypeAt d t .name) ≡ 0 = key-length _ _ (same-key _ _ h) ∙ ap length (e ∙ none) in
+      let long : 1 ≤ length (valueTypeAt d t .name) = name-long _ (wf .value-type t known .named) in
+      absurd (omega arith))
       (λ h. absurd (false≢true h)) in
       rw no (sym (ne-eqb t (k / 8) (λ q. omega arith)))

@@ -1,42 +1,25 @@
 -- A record in memory that stands for a record has few objects, and each value that it keeps is a constant or no value at all:
 -- what is kept is one more than a code, and a code is the first that fits, or 96.
 -- Assumes nothing.
-use Prim.Native.Nat.{_%_, _+_, _-_, _/_, _<_, _≤_, suc, zero, ℕ}
+use Prim.Native.Nat.{_+_, _-_, _<_, _≤_, suc, zero, ℕ}
 use native.Mathlib.Decide.{decLt}
 use native.Mathlib.Omega.{arith}
 use mathlib.Core.Bool.{Bool, cond, false, true}
-use mathlib.Core.Logic.{_≢_, _⊎_, inl, inr, ⊎-elim}
+use mathlib.Core.Logic.{_≢_, _⊎_, inl, inr}
 use mathlib.Core.Path.{_∙_, _≡_, refl, subst, sym}
-use lib.Dec.{ltb}
 use lib.ListN.{length}
-use borrow.Author.Tests.{ltb-true}
 use Rattle.laws.specs.Bounded.{first}
-use Rattle.files.specs.Diagram.{Diagram, ValueType, attributeAt, valueTypeAt}
-use Rattle.files.specs.Name.{Name, sameName}
+use Rattle.files.specs.Diagram.{Diagram, attributeAt}
+use Rattle.files.specs.Name.{Name}
 use Rattle.files.specs.Record.{Record, valueAt}
 use Rattle.records.specs.declared.MemoryRecord.{MemoryRecord}
 use Rattle.records.specs.Represents.{codeAmong, valueByte, valueFor}
-use Rattle.records.specs.Slots.{codeOf, isCode, isConstant, ownAttribute}
+use Rattle.records.specs.Slots.{codeOf, isCode, ownAttribute}
 use Rattle.records.specs.Written.{IsValue, valueIn}
+use Rattle.records.proofs.SlotLaws.{code-value}
 use Rattle.memory_rules.specs.Stands.{Stands}
 use Rattle.tables.specs.Tables.{Coded}
-use Rattle.laws.proofs.ConnectiveLaws.{both-left, both-of, both-right, either-cases, either-left, either-right}
 use Rattle.laws.proofs.FirstLaws.{first-holds, first-le}
-
--- a code that fits is a value
-code-value : (d : Diagram) (t c : Name) (k : ℕ) → isCode d t c k ≡ true → IsValue d k
-unfolding isCode isConstant
-code-value d t c k e =
-    let rest = both-right (ltb (k / 8) (length (d .valueTypes))) _ e in
-    let v : ValueType = valueTypeAt d (k / 8) in
-    let constant = both-right (sameName (v .name) t) _ rest in
-    record {
-      type-known = ltb-true _ _ (both-left _ _ e);
-      constant-known =
-          ⊎-elim (λ p. either-left (ltb (k % 8) (length (v .constants))) _ (both-left _ _ p))
-          (λ p. either-right (ltb (k % 8) (length (v .constants))) _ (both-of _ _ (both-left _ _ p) (both-left _ _ (both-right _ _ p))))
-          (either-cases _ _ constant);
-    }
 
 -- one more than a code
 abbrev Kept : Diagram → ℕ → Type 0

@@ -1,25 +1,21 @@
--- A name of the diagram and the index that it is kept at: a type's own name has its own index, and two declarations have one
--- slot exactly when they have one name. So what a record in memory says of names is said of indices.
+-- A type's own name has its own index, so that what a record in memory says of type names is said of indices.
 -- Assumes nothing.
 use Prim.Native.Nat.{_<_, suc, zero, ℕ}
-use mathlib.Core.Bool.{Bool, false}
+use mathlib.Core.Bool.{Bool}
 use mathlib.Core.List.{List, []}
 use mathlib.Core.Path.{_∙_, _≡_, ap, refl, subst, sym}
 use lib.Dec.{eqb, ltb}
 use lib.ListN.{getD, length}
 use borrow.Author.Tests.{eq-eqb, eqb-true, lt-ltb, ltb-true}
-use Rattle.laws.specs.Bounded.{any, first}
+use Rattle.laws.specs.Bounded.{any}
 use Rattle.laws.specs.Connective.{both, either}
-use Rattle.laws.proofs.BoundedLaws.{any-at, any-ext, any-none, any-of}
+use Rattle.laws.proofs.BoundedLaws.{any-at, any-ext, any-of}
 use Rattle.laws.proofs.ConnectiveLaws.{both-left, both-of, both-right, same-test}
-use Rattle.laws.proofs.FirstLaws.{first-below, first-hit, first-holds}
 use Rattle.files.specs.Ancestor.{parentAt, parentCount, reaches, reachesBy}
-use Rattle.files.specs.Diagram.{Diagram, TypeDef, attributeAt, typeAt}
-use Rattle.files.specs.Name.{Name, sameName}
+use Rattle.files.specs.Diagram.{Diagram, TypeDef}
 use Rattle.files.specs.WellFormedDiagram.{WfDiagram}
-use Rattle.files.proofs.NameLaws.{same-equal, same-self}
 use Rattle.records.specs.declared.MemoryRecord.{MemoryRecord}
-use Rattle.records.specs.Slots.{attributeSlot, roleCount, roleName, roleSlot, typeIndex}
+use Rattle.records.proofs.SlotLaws.{index-of}
 use Rattle.rules.specs.Instance.{hasType, isInstance}
 use Rattle.memory_rules.specs.SiteIn.{siteIn, typedIn}
 
@@ -36,58 +32,13 @@ any-is q k n =
     any-of (λ i. both (eqb i k) (q i)) n k (ltb-true k n (both-left (ltb k n) (q k) e))
     (both-of (eqb k k) (q k) (eq-eqb k k refl) (both-right (ltb k n) (q k) e)))
 
--- ---- slots of any row of names
-
-module _ (name : ℕ → Name) (n : ℕ) where
-  abbrev pub slotIn : Name → ℕ
-  slotIn w = first (λ t. sameName (name t) w) n
-
-  pub slot-below : (i : ℕ) → i < n → slotIn (name i) < n
-  slot-below i l = first-below (λ t. sameName (name t) (name i)) n i l (same-self (name i))
-
-  -- the slot's own name
-  pub slot-name : (i : ℕ) → i < n → name (slotIn (name i)) ≡ name i
-  slot-name i l = same-equal _ _ (first-holds (λ t. sameName (name t) (name i)) n (slot-below i l))
-
-  -- one slot, one name
-  pub slot-same : (i j : ℕ) → i < n → j < n → sameName (name i) (name j) ≡ eqb (slotIn (name i)) (slotIn (name j))
-  slot-same i j l h =
-      same-test (sameName (name i) (name j)) (eqb (slotIn (name i)) (slotIn (name j)))
-      (λ e. eq-eqb _ _ (ap slotIn (same-equal (name i) (name j) e)))
-      (λ e.
-      let s = sym (slot-name i l) ∙ ap name (eqb-true (slotIn (name i)) (slotIn (name j)) e) ∙ slot-name j h in
-      ap (λ (w : Name). sameName (name i) w) (sym s) ∙ same-self (name i))
-
-pub attribute-same : (d : Diagram) (a b : ℕ) → a < length (d .attributes) → b < length (d .attributes)
-    → sameName (attributeAt d a .name) (attributeAt d b .name) ≡ eqb (attributeSlot d (attributeAt d a .name)) (attributeSlot d (attributeAt d b .name))
-unfolding attributeSlot
-attribute-same d a b = slot-same (λ i. attributeAt d i .name) (length (d .attributes)) a b
-
-pub attribute-below : (d : Diagram) (a : ℕ) → a < length (d .attributes) → attributeSlot d (attributeAt d a .name) < length (d .attributes)
-unfolding attributeSlot
-attribute-below d a = slot-below (λ i. attributeAt d i .name) (length (d .attributes)) a
-
-pub role-same : (d : Diagram) (e f : ℕ) → e < roleCount d → f < roleCount d
-    → sameName (roleName d e) (roleName d f) ≡ eqb (roleSlot d (roleName d e)) (roleSlot d (roleName d f))
-unfolding roleSlot
-role-same d e f = slot-same (roleName d) (roleCount d) e f
-
 -- ---- types
 
 module _ (d : Diagram) (wf : WfDiagram d) where
-  -- no type before i has its name
-  type-before : (i : ℕ) → i < length (d .types) → any (λ k. sameName (typeAt d k .name) (typeAt d i .name)) i ≡ false
-  type-before i l = any-none _ i (λ k h. wf .types-differ k i h l)
-
-  pub type-own : (i : ℕ) → i < length (d .types) → typeIndex d (typeAt d i .name) ≡ i
-  unfolding typeIndex
-  type-own i l =
-      first-hit (λ k. sameName (typeAt d k .name) (typeAt d i .name)) (length (d .types)) i l (type-before i l) (same-self (typeAt d i .name))
-
   -- object o has type i exactly when i stands at its place
   pub has-type : (m : MemoryRecord) (o i : ℕ) → i < length (d .types) → hasType d (siteIn d m) o i ≡ eqb i (getD (m .types) o 0)
   unfolding hasType siteIn typedIn
-  has-type m o i l = ap (λ (k : ℕ). eqb k (getD (m .types) o 0)) (type-own i l)
+  has-type m o i l = ap (λ (k : ℕ). eqb k (getD (m .types) o 0)) (index-of d wf i l)
 
   -- whatever is asked of an object's type is asked of the type that stands at its place
   pub any-type : (m : MemoryRecord) (q : ℕ → Bool) (o : ℕ)

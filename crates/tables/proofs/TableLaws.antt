@@ -1,27 +1,28 @@
 -- The tables of numbers are those of the diagram: a kept set has what is reached, and a row of names has the diagram's names.
 -- Assumes nothing.
-use Prim.Native.Nat.{_%_, _*_, _+_, _/_, _<_, _≤_, ℕ}
+use Prim.Native.Nat.{_*_, _<_, _≤_, ℕ}
 use native.Mathlib.Decide.{decLt}
 use native.Mathlib.Omega.{arith}
 use mathlib.Core.Bool.{Bool, _&&_, cond, false, true}
 use mathlib.Core.List.{List}
 use mathlib.Core.Path.{_∙_, _≡_, ap, ap₂, refl, sym}
-use lib.Dec.{eqb, ltb}
+use lib.Dec.{ltb}
 use lib.ListN.{getD, length}
-use borrow.Author.Tests.{eqb-true, eqb-false, le-ltb, lt-ltb, ltb-true}
+use borrow.Author.Tests.{le-ltb, lt-ltb, ltb-true}
 use Rattle.laws.specs.Bits.{Marks, bit}
 use Rattle.laws.specs.Bounded.{first}
 use Rattle.laws.specs.Connective.{both}
 use Rattle.laws.proofs.BitLaws.{bit-zero}
 use Rattle.laws.proofs.FirstLaws.{first-ext}
 use Rattle.files.specs.Ancestor.{reaches}
-use Rattle.files.specs.Diagram.{Association, Attribute, Diagram, attributeAt}
+use Rattle.files.specs.Diagram.{Attribute, Diagram, attributeAt}
 use Rattle.files.specs.Name.{Name, sameName}
 use Rattle.fields.specs.Slot.{slotName}
 use Rattle.diagrams.specs.declared.StoredDiagram.{StoredDiagram}
-use Rattle.diagrams.specs.View.{associationIn, attributeIn, diagramOf, endIn}
+use Rattle.diagrams.specs.View.{attributeIn, diagramOf}
 use Rattle.diagrams.specs.Held.{Held, onlyTypes}
-use Rattle.diagrams.proofs.ViewLaws.{association-at, association-count, attribute-at, attribute-count, type-count}
+use Rattle.diagrams.proofs.NamedLaws.{attribute-named, role-named}
+use Rattle.diagrams.proofs.ViewLaws.{association-count, attribute-at, attribute-count, type-count}
 use Rattle.records.specs.declared.MemoryRecord.{MemoryRecord}
 use Rattle.records.specs.Slots.{attributeSlot, roleName, roleSlot}
 use Rattle.rules.specs.Instance.{isInstance}
@@ -90,10 +91,6 @@ instances-at d m masks is t o l h = go (decLt o (m .count))
 -- ---- declarations, by the arrays, and slots
 
 module _ (d : StoredDiagram) where
-  pub attribute-named : (i : ℕ) → i < d .attributes .count → attributeAt (diagramOf d) i .name ≡ slotName (d .attributes .names) i
-  unfolding attributeIn
-  attribute-named i l = ap (λ (a : Attribute). a .name) (attribute-at d i l)
-
   pub attribute-owner : (i : ℕ) → i < d .attributes .count → attributeAt (diagramOf d) i .owner ≡ getD (d .attributes .owners) i 0
   unfolding attributeIn
   attribute-owner i l = ap (λ (a : Attribute). a .owner) (attribute-at d i l)
@@ -101,17 +98,6 @@ module _ (d : StoredDiagram) where
   pub attribute-type : (i : ℕ) → i < d .attributes .count → attributeAt (diagramOf d) i .valueType ≡ getD (d .attributes .types) i 0
   unfolding attributeIn
   attribute-type i l = ap (λ (a : Attribute). a .valueType) (attribute-at d i l)
-
-  pub role-named : (e : ℕ) → e < d .associations .count * 2 → roleName (diagramOf d) e ≡ slotName (d .associations .roles) e
-  unfolding roleName associationIn endIn
-  role-named e l =
-      let h : e / 2 < d .associations .count = omega arith in
-      ap (λ (a : Association). cond (eqb (e % 2) 0) (a .left .role) (a .right .role)) (association-at d (e / 2) h) ∙ go (eqb (e % 2) 0) refl
-    where
-      go : (b : Bool) → eqb (e % 2) 0 ≡ b
-          → cond b (slotName (d .associations .roles) (e / 2 * 2)) (slotName (d .associations .roles) (e / 2 * 2 + 1)) ≡ slotName (d .associations .roles) e
-      go true q = let r : e % 2 ≡ 0 = eqb-true _ _ q in ap (slotName (d .associations .roles)) (let s : e / 2 * 2 ≡ e = omega arith in s)
-      go false q = let r : e % 2 ≡ 0 → ⊥ = eqb-false _ _ q in ap (slotName (d .associations .roles)) (let s : e / 2 * 2 + 1 ≡ e = omega arith in s)
 
   pub attribute-slots-of : (slots : List ℕ) (n : ℕ) → n ≡ d .attributes .count
       → ((i : ℕ) → i < n → getD slots i 0 ≡ slotAt (d .attributes .names) n i) → AttributeSlots (diagramOf d) slots
@@ -122,19 +108,19 @@ module _ (d : StoredDiagram) where
         let h : a < n = omega arith in
         f a h
         ∙ first-ext (λ t. sameName (slotName (d .attributes .names) t) (slotName (d .attributes .names) a)) (λ t. sameName (attributeAt (diagramOf d) t .name) (attributeAt (diagramOf d) a .name)) n
-        (λ k q. ap₂ (λ (v w : Name). sameName v w) (sym (attribute-named k (omega arith))) (sym (attribute-named a (omega arith))))
+        (λ k q. ap₂ (λ (v w : Name). sameName v w) (sym (attribute-named d k (omega arith))) (sym (attribute-named d a (omega arith))))
         ∙ ap (first (λ t. sameName (attributeAt (diagramOf d) t .name) (attributeAt (diagramOf d) a .name))) (e ∙ sym c);
   }
 
   pub role-slots-of : (slots : List ℕ) (n : ℕ) → n ≡ d .associations .count * 2
       → ((i : ℕ) → i < n → getD slots i 0 ≡ slotAt (d .associations .roles) n i) → RoleSlots (diagramOf d) slots
-  unfolding slotAt roleSlot
+  unfolding slotAt roleSlot roleName
   role-slots-of slots n e f = record {
     exact = λ a l.
         let c = association-count d in
         let h : a < n = omega arith in
         f a h
         ∙ first-ext (λ t. sameName (slotName (d .associations .roles) t) (slotName (d .associations .roles) a)) (λ t. sameName (roleName (diagramOf d) t) (roleName (diagramOf d) a)) n
-        (λ k q. ap₂ (λ (v w : Name). sameName v w) (sym (role-named k (omega arith))) (sym (role-named a (omega arith))))
+        (λ k q. ap₂ (λ (v w : Name). sameName v w) (sym (role-named d k (omega arith))) (sym (role-named d a (omega arith))))
         ∙ ap (first (λ t. sameName (roleName (diagramOf d) t) (roleName (diagramOf d) a))) (e ∙ ap (λ (k : ℕ). k * 2) (sym c));
   }

@@ -6,12 +6,9 @@ use mathlib.Core.List.{List}
 use mathlib.Core.Path.{_∙_, _≡_, ap, sym}
 use lib.ListN.{getD}
 use borrow.Author.Tests.{eq-eqb, le-ltb, lt-ltb, ne-eqb}
+use Rattle.laws.proofs.ListLaws.{read-at}
 use Rattle.rules.specs.Arrow.{carriesLeft, carriesRight}
 use Rattle.type_tables.specs.RowsIn.{carriedIn, setOf}
-
--- a read at an index that is known
-read : (l : List ℕ) (i : ℕ) {w b : ℕ} → w ≡ i → b ≡ getD l w 0 → b ≡ getD l i 0
-read l i e q = q ∙ ap (λ (k : ℕ). getD l k 0) e
 
 -- ---- sets of a table
 
@@ -27,11 +24,11 @@ set-outside table x {i} e l = rw (sym e, le-ltb i 24 l)
 
 pub carried-left : (arrows : List ℕ) (e : ℕ) {w b : ℕ} {r : Bool} → w ≡ e / 2 → b ≡ getD arrows w 0 → e % 2 ≡ 0 → r ≡ carriesLeft b → r ≡ carriedIn arrows e
 unfolding carriedIn
-carried-left arrows e f q z r = r ∙ ap carriesLeft (read arrows (e / 2) f q) ∙ sym (rw (eq-eqb (e % 2) 0 z))
+carried-left arrows e f q z r = r ∙ ap carriesLeft (read-at arrows (e / 2) f q) ∙ sym (rw (eq-eqb (e % 2) 0 z))
 
 pub carried-right : (arrows : List ℕ) (e : ℕ) {w b : ℕ} {r : Bool} → w ≡ e / 2 → b ≡ getD arrows w 0 → (e % 2 ≡ 0 → ⊥) → r ≡ carriesRight b → r ≡ carriedIn arrows e
 unfolding carriedIn
-carried-right arrows e f q z r = r ∙ ap carriesRight (read arrows (e / 2) f q) ∙ sym (rw (ne-eqb (e % 2) 0 z))
+carried-right arrows e f q z r = r ∙ ap carriesRight (read-at arrows (e / 2) f q) ∙ sym (rw (ne-eqb (e % 2) 0 z))
 
 -- for `search`, as `search steps depth 8 fits 20000`
 pub ruleset steps = (set-inside, set-outside, carried-left, carried-right)

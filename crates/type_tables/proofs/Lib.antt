@@ -1,4 +1,3 @@
-pub mod SetLaws
 pub mod PassedLaws
 pub mod EndLaws
 pub mod LimitLaws

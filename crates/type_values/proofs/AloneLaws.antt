@@ -1,20 +1,21 @@
 -- What rules 1, 3 and 4 ask of an object they ask by the name of its type: so they ask it of that object alone.
 -- Assumes nothing.
 use Prim.Native.Nat.{ℕ}
-use mathlib.Core.Bool.{Bool}
+use mathlib.Core.Bool.{Bool, false, true}
 use mathlib.Core.Path.{_∙_, _≡_, ap, ap₂, refl, sym}
 use lib.ListN.{length}
 use Rattle.laws.specs.Connective.{both, imp}
 use Rattle.laws.proofs.BoundedLaws.{all-ext, any-ext}
 use Rattle.files.specs.Ancestor.{reaches}
 use Rattle.files.specs.Diagram.{Diagram, attributeAt, isConcrete, typeAt}
-use Rattle.files.specs.Name.{Name, sameName}
+use Rattle.files.specs.Name.{Name, key, sameName}
 use Rattle.files.specs.Record.{Value}
+use Rattle.files.proofs.NameLaws.{same-right}
 use Rattle.rules.specs.Instance.{hasType, isInstance}
 use Rattle.rules.specs.Site.{Site}
 use Rattle.rules.specs.TypeRules.{rule1At}
 use Rattle.rules.specs.ValueRules.{declared, declares, rule4At}
-use Rattle.memory_rules.proofs.CodeLaws.{belongs-same}
+use Rattle.rules.proofs.KeyLaws.{belongs-alike, declares-alike}
 use Rattle.type_values.specs.Bad.{alone}
 
 -- the object's type has the name w
@@ -24,6 +25,18 @@ Typed x o w = (v : Name) → x .typed o v ≡ sameName v w
 pub alone-typed : (w : Name) (o : ℕ) → Typed (alone w) o w
 unfolding alone
 alone-typed w o v = refl
+
+-- names of one key make one site
+pub alone-alike : (v w : Name) → key v ≡ key w → alone v ≡ alone w
+unfolding alone
+alone-alike v w e = λ i. record {
+  count = 1;
+  typed = λ o u. same-right u v w e i;
+  valued = λ o u. false;
+  linked = λ o u p. false;
+  eachValue = λ test. true;
+  eachLink = λ test. true;
+}
 
 module _ (d : Diagram) (x : Site) (o : ℕ) (w : Name) (is : Typed x o w) where
   has-alone : (i : ℕ) → hasType d x o i ≡ hasType d (alone w) 0 i
@@ -47,12 +60,12 @@ module _ (d : Diagram) (x : Site) (o : ℕ) (w : Name) (is : Typed x o w) where
   declared-alone v = any-ext _ _ (length (d .attributes)) (λ a l. declares-alone a v)
 
 -- a value of one object, and the same of that object alone
-pub rule4-alone : (d : Diagram) (x : Site) (w : Name) (v u : Value) → Typed x (v .object) w → v .attribute ≡ u .attribute → v .valueType ≡ u .valueType
-    → v .constant ≡ u .constant → rule4At d x v ≡ rule4At d (alone w) u
+pub rule4-alone : (d : Diagram) (x : Site) (w : Name) (v u : Value) → Typed x (v .object) w → key (v .attribute) ≡ key (u .attribute) → key (v .valueType) ≡ key (u .valueType)
+    → key (v .constant) ≡ key (u .constant) → rule4At d x v ≡ rule4At d (alone w) u
 unfolding rule4At
 rule4-alone d x w v u is a t c =
     all-ext _ _ (length (d .attributes)) (λ i l.
     ap₂ imp
-    (declares-alone d x (v .object) w is i (v .attribute) ∙ ap (declares d (alone w) 0 i) a
+    (declares-alone d x (v .object) w is i (v .attribute) ∙ declares-alike d (alone w) 0 i _ _ a
     ∙ sym (declares-alone d (alone w) (u .object) w (alone-typed w (u .object)) i (u .attribute)))
-    (belongs-same v u _ t c))
+    (belongs-alike v u _ t c))

@@ -18,10 +18,10 @@ use Rattle.laws.proofs.ForallLaws.{same-iff}
 use Rattle.laws.proofs.PickedLaws.{any-picked}
 use Rattle.files.specs.Diagram.{Diagram, attributeAt, typeAt, valueTypeAt}
 use Rattle.files.specs.Membership.{hasValue}
-use Rattle.files.specs.Name.{Name}
+use Rattle.files.specs.Name.{Name, key}
 use Rattle.files.specs.Record.{Value, objectCount, valueAt}
 use Rattle.files.specs.WellFormedDiagram.{WfDiagram}
-use Rattle.files.proofs.NameLaws.{same-equal}
+use Rattle.files.proofs.NameLaws.{same-key}
 use Rattle.records.specs.declared.MemoryRecord.{MemoryRecord}
 use Rattle.records.specs.Slots.{ownAttribute}
 use Rattle.records.specs.Written.{attributePlace, recordOf, valueIn, valueIs, valueOn}
@@ -31,6 +31,7 @@ use Rattle.rules.specs.Judge.{Legal}
 use Rattle.rules.specs.Site.{siteOf}
 use Rattle.rules.specs.TypeRules.{rule1, rule1At}
 use Rattle.rules.specs.ValueRules.{declared, declares, rule3, rule3At, rule3For, rule4, rule4At}
+use Rattle.rules.proofs.KeyLaws.{rule3-alike}
 use Rattle.type_tables.specs.Due.{due}
 use Rattle.type_values.specs.Bad.{allowed, alone, badBy, codeKept, codedValue, codesKept, nameKept, namesKept, typeKept}
 use Rattle.type_values.specs.Filled.{Filled, UsableObjects, chosenCode}
@@ -96,14 +97,14 @@ module _ (old new : Diagram) (wold : WfDiagram old) (wnew : WfDiagram new) (type
           forth : declared old (alone name) 0 w ≡ true → declared new (alone name) 0 w ≡ true
           forth e = unfold hasValue in
               let i = any-at _ (length (recordOf old m .values)) (has-old w ∙ e) in
-              let q : valueAt (recordOf old m) (i .0) .attribute ≡ w = same-equal _ _ (both-right _ _ (i .2)) in
-              sym (asked-name w (subst (λ (v : Name). rule3For new (siteOf (recordOf old m)) o v ≡ true) q (value-asked (i .0) (i .1)))) ∙ (has-old w ∙ e)
+              let q : key (valueAt (recordOf old m) (i .0) .attribute) ≡ key w = same-key _ _ (both-right _ _ (i .2)) in
+              sym (asked-name w (sym (rule3-alike new (recordOf old m) o _ _ q) ∙ value-asked (i .0) (i .1))) ∙ (has-old w ∙ e)
 
           back : declared new (alone name) 0 w ≡ true → declared old (alone name) 0 w ≡ true
           back e = unfold declared declares in
               let a = any-at _ (length (new .attributes)) e in
-              let q : attributeAt new (a .0) .name ≡ w = same-equal _ _ (both-right _ _ (a .2)) in
-              sym (has-old w) ∙ (asked-name w (subst (λ (v : Name). rule3For new (siteOf (recordOf old m)) o v ≡ true) q (new-asked (a .0) (a .1))) ∙ e)
+              let q : key (attributeAt new (a .0) .name) ≡ key w = same-key _ _ (both-right _ _ (a .2)) in
+              sym (has-old w) ∙ (asked-name w (sym (rule3-alike new (recordOf old m) o _ _ q) ∙ new-asked (a .0) (a .1)) ∙ e)
 
       name-kept : (w : Name) → nameKept old new t w ≡ true
       unfolding nameKept
@@ -146,7 +147,7 @@ module _ (old new : Diagram) (wold : WfDiagram old) (wnew : WfDiagram new) (type
             let q : valueIn m (x / 32) (attributePlace old (x % 32)) ≡ valueIn m o s = value-at in
             let c : valueIn m (x / 32) (attributePlace old (x % 32)) - 1 ≡ k = omega arith in
             rule4-alone new (siteOf (recordOf old m)) name (valueIs old m x) (codedValue old s k) (subst (λ (i : ℕ). Typed (siteOf (recordOf old m)) i name) (sym at) typed)
-            (ap (λ (i : ℕ). attributeAt old i .name) place) (ap (λ (i : ℕ). valueTypeAt old (i / 8) .name) c) (ap (λ (i : ℕ). getD (valueTypeAt old (i / 8) .constants) (i % 8) []) c)
+            (ap (λ (i : ℕ). key (attributeAt old i .name)) place) (ap (λ (i : ℕ). key (valueTypeAt old (i / 8) .name)) c) (ap (λ (i : ℕ). key (getD (valueTypeAt old (i / 8) .constants) (i % 8) [])) c)
 
       -- it is the chosen one
       chosen-kept : (s : ℕ) → s < length (old .attributes) → due old t s ≢ 0 → rule4At new (alone name) (codedValue old s (chosenCode old new (due old t s - 1))) ≡ true

@@ -15,18 +15,17 @@ use Rattle.laws.proofs.BoundedLaws.{all-at, all-of}
 use Rattle.laws.proofs.ConnectiveLaws.{both-left, both-of, both-right, imp-of, known, same-test}
 use Rattle.laws.proofs.ForallLaws.{same-iff}
 use Rattle.files.specs.Diagram.{Diagram, attributeAt, typeAt, valueTypeAt}
-use Rattle.files.specs.Name.{Name, sameName}
+use Rattle.files.specs.Name.{Name, key}
 use Rattle.files.specs.WellFormedDiagram.{WfDiagram}
-use Rattle.files.proofs.NameLaws.{same-equal, same-self}
+use Rattle.files.proofs.NameLaws.{key-same, same-key}
 use Rattle.records.specs.declared.MemoryRecord.{MemoryRecord}
 use Rattle.records.specs.Slots.{attributeSlot, ownAttribute, typeIndex}
 use Rattle.records.specs.Written.{IsValue, valueIn}
+use Rattle.records.proofs.SlotLaws.{attribute-below, index-alike, index-name, index-of, own-below, own-slot}
 use Rattle.rules.specs.ValueRules.{belongs, declared, rule3, rule3At, rule3For, rule4, rule4At}
 use Rattle.memory_rules.specs.JudgeIn.{rule3In}
 use Rattle.memory_rules.specs.SiteIn.{keptValue, siteIn, typedIn, valueKept, valuedIn}
-use Rattle.memory_rules.proofs.SlotLaws.{index-name, index-of, own-below, own-slot}
 use Rattle.tables.proofs.BelongLaws.{belongs-known}
-use Rattle.tables.proofs.OwnLaws.{attribute-below}
 use Rattle.type_tables.specs.Due.{due}
 use Rattle.worlds.specs.Tables.{possible}
 use Rattle.type_values.specs.Bad.{alone, codedValue}
@@ -45,9 +44,9 @@ index-typed d wf m o l v =
     same-test _ _
     (λ e.
     let i : typeIndex d v ≡ getD (m .types) o 0 = eqb-true _ _ e in
-    let n : typeAt d (getD (m .types) o 0) .name ≡ v = ap (λ (k : ℕ). typeAt d k .name) (sym i) ∙ index-name d v (subst (λ (k : ℕ). k < length (d .types)) (sym i) l) in
-    ap (sameName v) n ∙ same-self v)
-    (λ e. eq-eqb _ _ (ap (typeIndex d) (same-equal _ _ e) ∙ index-of d wf (getD (m .types) o 0) l))
+    let n : key (typeAt d (getD (m .types) o 0) .name) ≡ key v = ap (λ (k : ℕ). key (typeAt d k .name)) (sym i) ∙ index-name d v (subst (λ (k : ℕ). k < length (d .types)) (sym i) l) in
+    key-same v _ (sym n))
+    (λ e. eq-eqb _ _ (index-alike d _ _ (same-key _ _ e) ∙ index-of d wf (getD (m .types) o 0) l))
 
 module _ (old new : Diagram) (wold : WfDiagram old) (wnew : WfDiagram new) (types links : List ℕ) (n : ℕ) (m : MemoryRecord) (few : n ≤ 8)
     (filled : Filled old new types links n m) (usable : UsableObjects old types n)

@@ -11,26 +11,26 @@ use Rattle.laws.proofs.ConnectiveLaws.{both-left, both-of, both-right, imp-use,
 use Rattle.laws.proofs.ForallLaws.{same-iff}
 use Rattle.files.specs.Diagram.{Diagram, attributeAt, typeAt}
 use Rattle.files.specs.Membership.{hasValue}
-use Rattle.files.specs.Name.{Name}
+use Rattle.files.specs.Name.{Name, key}
 use Rattle.files.specs.Record.{Record, Value, objectCount, objectType, valueAt}
 use Rattle.records.specs.Slots.{attributeSlot, typeIndex}
 use Rattle.records.specs.Written.{IsValue}
 use Rattle.records.specs.declared.MemoryRecord.{MemoryRecord}
+use Rattle.records.proofs.SlotLaws.{attribute-name, index-name}
 use Rattle.rules.specs.Judge.{Legal}
 use Rattle.rules.specs.Site.{Site, siteOf}
 use Rattle.rules.specs.TypeRules.{rule1, rule1At}
 use Rattle.rules.specs.ValueRules.{declared, rule3, rule3At, rule3For, rule4, rule4At}
 use Rattle.rules.proofs.JudgeLaws.{legal-keeps}
+use Rattle.rules.proofs.KeyLaws.{declared-alike}
 use Rattle.memory_rules.specs.Stands.{Stands}
-use Rattle.memory_rules.proofs.SlotLaws.{attribute-name, index-name}
 use Rattle.memory_rules.proofs.ValueLaws.{value-known}
 use Rattle.fillings.proofs.LegalLaws.{known-type}
 use Rattle.type_tables.specs.Due.{due}
 use Rattle.type_values.specs.Bad.{allowed, alone, badBy, codeKept, codedValue, codesKept, nameKept, namesKept, typeKept}
-use Rattle.type_values.specs.Named.{dueNamed}
-use Rattle.type_values.proofs.AloneLaws.{Typed, declared-alone, rule1-alone, rule4-alone}
+use Rattle.type_values.proofs.AloneLaws.{Typed, alone-alike, declared-alone, rule1-alone, rule4-alone}
 use Rattle.type_values.proofs.LegalLaws.{Coded, has-declared, record-typed, value-due}
-use Rattle.type_values.proofs.NamedLaws.{named-own}
+use Rattle.type_values.proofs.NamedLaws.{named-alike-type, named-own}
 
 -- ---- a type that is not bad, part by part
 
@@ -71,7 +71,7 @@ allowed-of : (d : Diagram) (t s k : ℕ) → due d t s ≡ 1 + k / 8 → IsValue
 unfolding allowed
 allowed-of d t s k e v = both-of _ _ (eq-eqb _ _ e) (v .constant-known)
 
-rule4-coded : (old new : Diagram) (x : Site) (w : Name) (v : Value) (s k : ℕ) → Typed x (v .object) w → v .attribute ≡ attributeAt old s .name → Coded old v k
+rule4-coded : (old new : Diagram) (x : Site) (w : Name) (v : Value) (s k : ℕ) → Typed x (v .object) w → key (v .attribute) ≡ key (attributeAt old s .name) → Coded old v k
     → rule4At new x v ≡ rule4At new (alone w) (codedValue old s k)
 unfolding codedValue
 rule4-coded old new x w v s k is a c = rule4-alone new x w v (codedValue old s k) is a (sym (c .type-is)) (sym (c .constant-is))
@@ -94,9 +94,9 @@ module _ (old new : Diagram) (r : Record) (m : MemoryRecord) (stands : Stands ol
     type-below o l =
         subst (λ (n : ℕ). n < length (old .types)) (sym (type-index o l)) (known-type old r legal o l)
 
-    type-name : (o : ℕ) → o < objectCount r → typeAt old (typeOf o) .name ≡ objectType r o
+    type-name : (o : ℕ) → o < objectCount r → key (typeAt old (typeOf o) .name) ≡ key (objectType r o)
     type-name o l =
-        ap (λ (n : ℕ). typeAt old n .name) (type-index o l) ∙ index-name old (objectType r o) (known-type old r legal o l)
+        ap (λ (n : ℕ). key (typeAt old n .name)) (type-index o l) ∙ index-name old (objectType r o) (known-type old r legal o l)
 
     -- ---- rule 1
 
@@ -107,7 +107,7 @@ module _ (old new : Diagram) (r : Record) (m : MemoryRecord) (stands : Stands ol
         each : (o : ℕ) → o < siteOf r .count → rule1At new (siteOf r) o ≡ true
         each o l = unfold siteOf in
             rule1-alone new (siteOf r) o (objectType r o) (record-typed r o)
-            ∙ subst (λ (w : Name). rule1At new (alone w) 0 ≡ true) (type-name o l) (good-type old new (typeOf o) (good o (object-in o l)))
+            ∙ subst (λ (x : Site). rule1At new x 0 ≡ true) (alone-alike _ _ (type-name o l)) (good-type old new (typeOf o) (good o (object-in o l)))
 
     -- ---- rule 3
 
@@ -116,7 +116,7 @@ module _ (old new : Diagram) (r : Record) (m : MemoryRecord) (stands : Stands ol
     unfolding rule3For siteOf
     rule3-name o w l e =
         let q : hasValue r o w ≡ declared new (siteOf r) o w = has-declared old r legal o w l
-        ∙ subst (λ (n : Name). declared old (alone n) 0 w ≡ declared new (alone n) 0 w) (type-name o l) e
+        ∙ subst (λ (x : Site). declared old x 0 w ≡ declared new x 0 w) (alone-alike _ _ (type-name o l)) e
         ∙ sym (declared-alone new (siteOf r) o (objectType r o) (record-typed r o) w) in
         same-iff (hasValue r o w) (declared new (siteOf r) o w) .1 ((λ h. sym q ∙ h), (λ h. q ∙ h))
 
@@ -125,8 +125,9 @@ module _ (old new : Diagram) (r : Record) (m : MemoryRecord) (stands : Stands ol
         let w : Name = valueAt r i .attribute in
         let there : attributeSlot old w < length (old .attributes) = value-known old r (legal-keeps old r legal .third) i k (stands .wf-record .value i k .object-below) in
         rule3-name o w l
-        (subst (λ (n : Name). declared old (alone (typeAt old (typeOf o) .name)) 0 n ≡ declared new (alone (typeAt old (typeOf o) .name)) 0 n) (attribute-name old w there)
-        (good-old old new (typeOf o) (good o (object-in o l)) (attributeSlot old w) there))
+        (sym (declared-alike old (alone (typeAt old (typeOf o) .name)) 0 _ _ (attribute-name old w there))
+        ∙ good-old old new (typeOf o) (good o (object-in o l)) (attributeSlot old w) there
+        ∙ declared-alike new (alone (typeAt old (typeOf o) .name)) 0 _ _ (attribute-name old w there))
 
     pub good-keeps-3 : rule3 new (siteOf r) ≡ true
     unfolding rule3
@@ -149,9 +150,9 @@ module _ (old new : Diagram) (r : Record) (m : MemoryRecord) (stands : Stands ol
         let there : attributeSlot old w < length (old .attributes) = value-known old r (legal-keeps old r legal .third) i l under in
         let k = value-due old (stands .wf-diagram) r (stands .wf-record) legal i l in
         let due-is : due old (typeOf o) s ≡ 1 + k .0 / 8 =
-        sym (named-own old (stands .wf-diagram) (typeOf o) (type-below o under) w) ∙ ap (λ (n : Name). dueNamed old n w) (type-name o under) ∙ k .2 in
+        sym (named-own old (stands .wf-diagram) (typeOf o) (type-below o under) w) ∙ named-alike-type old _ _ w (type-name o under) ∙ k .2 in
         rule4-coded old new (siteOf r) (objectType r o) v s (k .0) (record-typed r o) (sym (attribute-name old w there)) (k .1)
-        ∙ subst (λ (n : Name). rule4At new (alone n) (codedValue old s (k .0)) ≡ true) (type-name o under)
+        ∙ subst (λ (x : Site). rule4At new x (codedValue old s (k .0)) ≡ true) (alone-alike _ _ (type-name o under))
         (good-code old new (typeOf o) (good o (object-in o under)) s (k .0) there (k .1 .small) (allowed-of old (typeOf o) s (k .0) due-is (k .1 .is-value)))
 
     pub good-keeps-4 : rule4 new (siteOf r) ≡ true

@@ -15,12 +15,11 @@ use Rattle.laws.specs.Bounded.{all, any}
 use Rattle.laws.specs.Connective.{both, imp}
 use Rattle.laws.proofs.ConnectiveLaws.{and-left, and-right, both-left, known, same-test}
 use Rattle.files.specs.Diagram.{Diagram, attributeAt, valueTypeAt}
-use Rattle.files.specs.Name.{sameName}
+use Rattle.files.specs.Name.{key}
 use Rattle.files.specs.Record.{Value}
 use Rattle.files.specs.WellFormedDiagram.{WfDiagram}
-use Rattle.files.proofs.NameLaws.{same-equal, same-self}
+use Rattle.files.proofs.NameLaws.{differ-once, same-key}
 use Rattle.rules.specs.ValueRules.{belongs}
-use Rattle.tables.proofs.BelongLaws.{differ-same}
 use Rattle.type_tables.specs.Due.{declaresFor, due, dueAmong, joined}
 use Rattle.type_tables.proofs.DueInLaws.{joined-again, joined-apart, joined-first}
 use Rattle.type_values.specs.Named.{fitsDue}
@@ -45,10 +44,9 @@ belongs-one : (d : Diagram) → WfDiagram d → (w : Value) (i j : ℕ) → i < 
     → belongs w (valueTypeAt d i) ≡ true → belongs w (valueTypeAt d j) ≡ true → i ≡ j
 unfolding belongs
 belongs-one d wf w i j l k p q =
-    let a : valueTypeAt d i .name ≡ w .valueType = same-equal _ _ (both-left _ _ p) in
-    let b : valueTypeAt d j .name ≡ w .valueType = same-equal _ _ (both-left _ _ q) in
-    let e : sameName (valueTypeAt d i .name) (valueTypeAt d j .name) ≡ true = ap (sameName (valueTypeAt d i .name)) (b ∙ sym a) ∙ same-self (valueTypeAt d i .name) in
-    eqb-true i j (sym (differ-same (λ n. valueTypeAt d n .name) (length (d .valueTypes)) (wf .value-types-differ) i j l k) ∙ e)
+    let a : key (valueTypeAt d i .name) ≡ key (w .valueType) = same-key _ _ (both-left _ _ p) in
+    let b : key (valueTypeAt d j .name) ≡ key (w .valueType) = same-key _ _ (both-left _ _ q) in
+    differ-once (λ n. valueTypeAt d n .name) (length (d .valueTypes)) (wf .value-types-differ) i j l k (a ∙ sym b)
 
 -- what can be due: nothing, a value type of the diagram, or more than one
 pub record Due (d : Diagram) (e : ℕ) : Type 0 where

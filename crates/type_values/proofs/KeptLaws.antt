@@ -16,20 +16,19 @@ use Rattle.laws.proofs.BoundedLaws.{all-at, all-of, any-at}
 use Rattle.laws.proofs.ConnectiveLaws.{both-left, both-of, both-right, either-cases, either-left, either-right, imp-of, imp-use, known, same-test}
 use Rattle.laws.proofs.ForallLaws.{same-iff}
 use Rattle.files.specs.Diagram.{Diagram, attributeAt, typeAt, valueTypeAt}
-use Rattle.files.specs.Name.{Name}
+use Rattle.files.specs.Name.{Name, key}
 use Rattle.files.specs.Record.{Value}
 use Rattle.files.specs.WellFormedDiagram.{WfDiagram}
 use Rattle.records.specs.Slots.{attributeSlot, typeIndex}
 use Rattle.records.specs.Written.{constantKnown}
+use Rattle.records.proofs.SlotLaws.{attribute-alike, attribute-below, attribute-name}
 use Rattle.rules.specs.ValueRules.{belongs, declared, rule4At}
-use Rattle.memory_rules.proofs.SlotLaws.{attribute-name}
-use Rattle.tables.proofs.OwnLaws.{attribute-below}
 use Rattle.type_tables.specs.Due.{declaresFor, due}
 use Rattle.type_values.specs.Bad.{allowed, alone, codeKept, codedValue, codesKept, nameKept, namesKept}
 use Rattle.type_values.specs.Lacking.{dueKept, firstLacking, sameType, shared, slotAsked, slotKept}
 use Rattle.type_values.specs.Named.{dueNamed, fitsDue}
 use Rattle.type_values.proofs.JoinedLaws.{due-declared, due-known}
-use Rattle.type_values.proofs.NamedLaws.{named-declared, named-due, named-fits, named-known, named-own, named-slot}
+use Rattle.type_values.proofs.NamedLaws.{named-alike, named-declared, named-due, named-fits, named-known, named-own, named-slot}
 use Rattle.type_values.proofs.SharedLaws.{belongs-shared, coded-same, first-known, lacks-none, none-lacking, same-most, same-shares}
 
 -- something is due in the slots only that are a name's own
@@ -38,7 +37,7 @@ unfolding declaresFor
 due-own d wf t s n =
     let a = any-at _ (length (d .attributes)) (due-declared d wf t s ∙ ap not (ne-eqb _ _ n)) in
     let e : attributeSlot d (attributeAt d (a .0) .name) ≡ s = eqb-true _ _ (both-right _ _ (a .2)) in
-    ap (attributeSlot d) (ap (λ (i : ℕ). attributeAt d i .name) (sym e) ∙ attribute-name d (attributeAt d (a .0) .name) (attribute-below d (a .0) (a .1))) ∙ e
+    attribute-alike d _ _ (ap (λ (i : ℕ). key (attributeAt d i .name)) (sym e) ∙ attribute-name d (attributeAt d (a .0) .name) (attribute-below d (a .0) (a .1))) ∙ e
 
 -- ---- what is asked and what fits, in parts
 
@@ -176,11 +175,11 @@ module _ (old new : Diagram) (wold : WfDiagram old) (wnew : WfDiagram new) (t : 
         kept = λ w n.
             let l = named-slot old wold name w n in
             let e : due old t (attributeSlot old w) ≢ 0 = λ z. n (named-own old wold t is-type w ∙ z) in
-            subst (λ (v : Name). dueNew v ≢ 0) (attribute-name old w l) (test-some _ (both-left _ _ (slot-part (attributeSlot old w) l e)));
+            subst (λ (n : ℕ). n ≢ 0) (named-alike new name _ _ (attribute-name old w l)) (test-some _ (both-left _ _ (slot-part (attributeSlot old w) l e)));
         asked = λ w n.
             let l = named-slot new wnew name w n in
             let e : due new type (attributeSlot new w) ≢ 0 = λ z. n (named-known new wnew name there w ∙ z) in
-            subst (λ (v : Name). dueOld v ≢ 0) (attribute-name new w l) (test-some _ (imp-use _ _ (added (attributeSlot new w) l) (some-test _ e)));
+            subst (λ (n : ℕ). n ≢ 0) (named-alike old name _ _ (attribute-name new w l)) (test-some _ (imp-use _ _ (added (attributeSlot new w) l) (some-test _ e)));
       }
 
       slots-code : (s k : ℕ) → s < length (old .attributes) → k < 96 → allowed old t s k ≡ true → rule4At new (alone name) (codedValue old s k) ≡ true

@@ -5,31 +5,33 @@ use Prim.Native.Nat.{_%_, _+_, _-_, _/_, _<_, ℕ}
 use native.Mathlib.Omega.{arith}
 use mathlib.Core.Bool.{Bool, cond, not, true}
 use mathlib.Core.List.{[]}
-use mathlib.Core.Logic.{_≢_, ⊎-elim}
+use mathlib.Core.Logic.{_≢_}
 use mathlib.Core.Path.{_∙_, _≡_, ap, refl, subst, sym}
 use lib.Dec.{eqb}
 use lib.ListN.{getD, length}
-use borrow.Author.Tests.{eqb-false, eqb-true, ltb-true, ne-eqb, not-true}
+use borrow.Author.Tests.{eqb-false, eqb-true, ne-eqb, not-true}
 use Rattle.laws.specs.Connective.{both, same}
 use Rattle.laws.proofs.BoundedLaws.{all-at, any-at}
-use Rattle.laws.proofs.ConnectiveLaws.{both-left, both-of, both-right, either-cases, either-left, either-right, same-test}
+use Rattle.laws.proofs.ConnectiveLaws.{both-left, both-right, same-test}
 use Rattle.laws.proofs.ForallLaws.{same-iff}
 use Rattle.files.specs.Diagram.{Diagram, attributeAt, valueTypeAt}
 use Rattle.files.specs.Membership.{hasValue}
-use Rattle.files.specs.Name.{Name, sameName}
+use Rattle.files.specs.Name.{Name, key}
 use Rattle.files.specs.Record.{Record, Value, objectCount, objectType, valueAt}
 use Rattle.files.specs.WellFormedDiagram.{WfDiagram}
 use Rattle.files.specs.WellFormedRecord.{WfRecord}
-use Rattle.files.proofs.NameLaws.{same-equal, same-self}
-use Rattle.records.specs.Slots.{codeOf, isCode, isConstant}
+use Rattle.files.proofs.NameLaws.{differ-once, same-key}
+use Rattle.files.proofs.MembershipLaws.{value-alike}
+use Rattle.records.specs.Slots.{codeOf, isCode}
 use Rattle.records.specs.Written.{IsValue}
+use Rattle.records.proofs.SlotLaws.{code-value}
 use Rattle.rules.specs.Judge.{Legal}
 use Rattle.rules.specs.Site.{siteOf}
 use Rattle.rules.specs.ValueRules.{belongs, declared, declares, rule3, rule3At, rule3For, rule4, rule4At}
 use Rattle.rules.proofs.JudgeLaws.{legal-keeps}
+use Rattle.rules.proofs.KeyLaws.{declared-alike}
 use Rattle.memory_rules.proofs.CodeLaws.{belongs-coded, code-constant, code-holds, code-type}
 use Rattle.memory_rules.proofs.ValueLaws.{value-declared}
-use Rattle.tables.proofs.BelongLaws.{differ-same}
 use Rattle.type_values.specs.Bad.{alone}
 use Rattle.type_values.specs.Named.{dueNamed, fitsDue}
 use Rattle.type_values.proofs.AloneLaws.{Typed, declared-alone, rule4-alone}
@@ -41,17 +43,8 @@ use Rattle.type_values.proofs.NamedLaws.{named-declared, named-due, nam
 pub record Coded (d : Diagram) (v : Value) (k : ℕ) : Type 0 where
   pub small : k < 96
   pub is-value : IsValue d k
-  pub type-is : valueTypeAt d (k / 8) .name ≡ v .valueType
-  pub constant-is : getD (valueTypeAt d (k / 8) .constants) (k % 8) [] ≡ v .constant
-
-code-value : (d : Diagram) (t c : Name) (k : ℕ) → isCode d t c k ≡ true → IsValue d k
-unfolding isCode isConstant
-code-value d t c k e =
-    record {
-      type-known = ltb-true _ _ (both-left _ _ e);
-      constant-known = ⊎-elim (λ a. either-left _ _ (both-left _ _ a)) (λ b. either-right _ _ (both-of _ _ (both-left _ _ b) (both-left _ _ (both-right _ _ b))))
-          (either-cases _ _ (both-right _ _ (both-right _ _ e)));
-    }
+  pub type-is : key (valueTypeAt d (k / 8) .name) ≡ key (v .valueType)
+  pub constant-is : key (getD (valueTypeAt d (k / 8) .constants) (k % 8) []) ≡ key (v .constant)
 
 module _ (d : Diagram) (wf : WfDiagram d) where
   -- a value that belongs to value type u has a code of u
@@ -61,13 +54,12 @@ module _ (d : Diagram) (wf : WfDiagram d) where
       let k : ℕ = codeOf d (v .valueType) (v .constant) in
       let small : k < 96 = belongs-coded d wf v u l e in
       let is : isCode d (v .valueType) (v .constant) k ≡ true = code-holds d wf (v .valueType) (v .constant) small in
-      let type : valueTypeAt d (k / 8) .name ≡ v .valueType = code-type d wf (v .valueType) (v .constant) k is in
+      let type : key (valueTypeAt d (k / 8) .name) ≡ key (v .valueType) = code-type d wf (v .valueType) (v .constant) k is in
       let value = code-value d (v .valueType) (v .constant) k is in
-      let own : valueTypeAt d u .name ≡ v .valueType = same-equal _ _ (both-left _ _ e) in
-      let one : sameName (valueTypeAt d (k / 8) .name) (valueTypeAt d u .name) ≡ true = ap (sameName (valueTypeAt d (k / 8) .name)) (own ∙ sym type) ∙ same-self (valueTypeAt d (k / 8) .name) in (
+      let own : key (valueTypeAt d u .name) ≡ key (v .valueType) = same-key _ _ (both-left _ _ e) in (
         k,
         record { small = small; is-value = value; type-is = type; constant-is = code-constant d wf (v .valueType) (v .constant) k is },
-        eqb-true (k / 8) u (sym (differ-same (λ n. valueTypeAt d n .name) (length (d .valueTypes)) (wf .value-types-differ) (k / 8) u (value .type-known) l) ∙ one),
+        differ-once (λ n. valueTypeAt d n .name) (length (d .valueTypes)) (wf .value-types-differ) (k / 8) u (value .type-known) l (type ∙ sym own),
       )
 
   -- where something is due, and a value belongs to it, that is its code's value type
@@ -94,11 +86,11 @@ module _ (d : Diagram) (r : Record) (legal : Legal d r) where
       forth e = unfold hasValue in
           let i = any-at _ (length (r .values)) e in
           let object : valueAt r (i .0) .object ≡ o = eqb-true _ _ (both-left _ _ (i .2)) in
-          let name : valueAt r (i .0) .attribute ≡ w = same-equal _ _ (both-right _ _ (i .2)) in
+          let name : key (valueAt r (i .0) .attribute) ≡ key w = same-key _ _ (both-right _ _ (i .2)) in
           let under : valueAt r (i .0) .object < objectCount r = omega arith in
           sym (declared-alone d (siteOf r) o (objectType r o) (record-typed r o) w)
           ∙ subst (λ (p : ℕ). declared d (siteOf r) p w ≡ true) object
-          (subst (λ (v : Name). declared d (siteOf r) (valueAt r (i .0) .object) v ≡ true) name (value-declared d r (legal-keeps d r legal .third) (i .0) (i .1) under))
+          (sym (declared-alike d (siteOf r) (valueAt r (i .0) .object) _ _ name) ∙ value-declared d r (legal-keeps d r legal .third) (i .0) (i .1) under)
 
       asked : (a : ℕ) → a < length (d .attributes) → same (hasValue r o (attributeAt d a .name)) (declared d (siteOf r) o (attributeAt d a .name)) ≡ true
       asked a k = unfold rule3 rule3At rule3For siteOf in
@@ -108,10 +100,10 @@ module _ (d : Diagram) (r : Record) (legal : Legal d r) where
       back e = unfold declared declares in
           let s = declared-alone d (siteOf r) o (objectType r o) (record-typed r o) in
           let a = any-at _ (length (d .attributes)) e in
-          let name : attributeAt d (a .0) .name ≡ w = same-equal _ _ (both-right _ _ (a .2)) in
-          subst (λ (v : Name). hasValue r o v ≡ true) name
-          (same-iff (hasValue r o (attributeAt d (a .0) .name)) (declared d (siteOf r) o (attributeAt d (a .0) .name)) .0 (asked (a .0) (a .1)) .1
-          (s (attributeAt d (a .0) .name) ∙ subst (λ (v : Name). declared d (alone (objectType r o)) 0 v ≡ true) (sym name) e))
+          let name : key (attributeAt d (a .0) .name) ≡ key w = same-key _ _ (both-right _ _ (a .2)) in
+          sym (value-alike r o _ _ name)
+          ∙ (same-iff (hasValue r o (attributeAt d (a .0) .name)) (declared d (siteOf r) o (attributeAt d (a .0) .name)) .0 (asked (a .0) (a .1)) .1
+          (s (attributeAt d (a .0) .name) ∙ declared-alike d (alone (objectType r o)) 0 _ _ name ∙ e))
 
 module _ (d : Diagram) (wf : WfDiagram d) (r : Record) (names : WfRecord r) (legal : Legal d r) where
   -- rules 3 and 4: each value has a code, of the value type that is due

@@ -1,29 +1,27 @@
 -- What a diagram declares for an object whose type has a name is what is due by that name's type and the attribute name's slot.
 -- Assumes nothing.
 use Prim.Native.Nat.{_<_, ℕ}
-use native.Mathlib.Omega.{arith}
 use mathlib.Core.Bool.{Bool, cond, false, not, true}
 use mathlib.Core.Logic.{_≢_, ⊎-elim}
 use mathlib.Core.Path.{_∙_, _≡_, ap, ap₂, refl, subst, sym}
 use lib.Dec.{eqb, ltb}
 use lib.ListN.{length}
-use borrow.Author.Tests.{eq-eqb, eqb-true, lt-ltb, ltb-true, ne-eqb}
+use borrow.Author.Tests.{lt-ltb, ltb-true, ne-eqb}
 use Rattle.laws.specs.Bounded.{any}
 use Rattle.laws.specs.Connective.{both, imp}
 use Rattle.laws.proofs.BoundedLaws.{all-ext, all-of, any-at, any-ext, any-none}
-use Rattle.laws.proofs.ConnectiveLaws.{both-right, known, same-test}
+use Rattle.laws.proofs.ConnectiveLaws.{both-right, known}
 use Rattle.files.specs.Ancestor.{reaches}
 use Rattle.files.specs.Diagram.{Diagram, attributeAt, isConcrete, typeAt, valueTypeAt}
-use Rattle.files.specs.Name.{Name, sameName}
+use Rattle.files.specs.Name.{Name, key}
 use Rattle.files.specs.Record.{Value}
 use Rattle.files.specs.WellFormedDiagram.{WfDiagram}
-use Rattle.files.proofs.NameLaws.{same-equal, same-self}
 use Rattle.records.specs.Slots.{attributeSlot, typeIndex}
+use Rattle.records.proofs.SlotLaws.{attribute-alike, attribute-known, attribute-same, index-alike, index-of, index-same}
 use Rattle.rules.specs.Instance.{hasType, isInstance}
 use Rattle.rules.specs.TypeRules.{rule1At}
 use Rattle.rules.specs.ValueRules.{belongs, declared, declares, rule4At}
-use Rattle.memory_rules.proofs.SlotLaws.{attribute-known, attribute-name, index-of, index-same}
-use Rattle.tables.proofs.OwnLaws.{any-is, attribute-below}
+use Rattle.tables.proofs.OwnLaws.{any-is}
 use Rattle.type_tables.specs.Due.{declaresFor, due}
 use Rattle.type_values.specs.Bad.{alone}
 use Rattle.type_values.specs.Named.{dueNamed, fitsDue}
@@ -35,18 +33,14 @@ unfolding both
 grouped true b c = refl
 grouped false b c = refl
 
--- a slot's name is this one exactly when it is this name's slot
-attribute-is : (d : Diagram) (a : ℕ) (w : Name) → a < length (d .attributes)
-    → sameName (attributeAt d a .name) w ≡ eqb (attributeSlot d (attributeAt d a .name)) (attributeSlot d w)
-attribute-is d a w l = same-test _ _ (λ e. eq-eqb _ _ (ap (attributeSlot d) (same-equal _ _ e))) back
-  where
-    back : eqb (attributeSlot d (attributeAt d a .name)) (attributeSlot d w) ≡ true → sameName (attributeAt d a .name) w ≡ true
-    back e =
-        let q : attributeSlot d (attributeAt d a .name) ≡ attributeSlot d w = eqb-true _ _ e in
-        let own : attributeSlot d (attributeAt d a .name) < length (d .attributes) = attribute-below d a l in
-        let there : attributeSlot d w < length (d .attributes) = omega arith in
-        let n : attributeAt d a .name ≡ w = sym (attribute-name d (attributeAt d a .name) own) ∙ ap (λ (s : ℕ). attributeAt d s .name) q ∙ attribute-name d w there in
-        ap (λ (v : Name). sameName v w) n ∙ same-self w
+-- names of one key: the same is due
+pub named-alike : (d : Diagram) (type v w : Name) → key v ≡ key w → dueNamed d type v ≡ dueNamed d type w
+unfolding dueNamed
+named-alike d type v w e = ap (λ (s : ℕ). cond (ltb (typeIndex d type) (length (d .types))) (due d (typeIndex d type) s) 0) (attribute-alike d v w e)
+
+pub named-alike-type : (d : Diagram) (v w a : Name) → key v ≡ key w → dueNamed d v a ≡ dueNamed d w a
+unfolding dueNamed
+named-alike-type d v w a e = ap (λ (t : ℕ). cond (ltb t (length (d .types))) (due d t (attributeSlot d a)) 0) (index-alike d v w e)
 
 module _ (d : Diagram) (wf : WfDiagram d) (name : Name) where
   -- the type of this name
@@ -70,7 +64,7 @@ module _ (d : Diagram) (wf : WfDiagram d) (name : Name) where
   declares-named : (a : ℕ) (w : Name) → a < length (d .attributes) → declares d (alone name) 0 a w ≡ both (ltb type count) (declaresFor d type (attributeSlot d w) a)
   unfolding declares declaresFor isInstance
   declares-named a w l =
-      ap₂ both (any-named (λ i. reaches d i (attributeAt d a .owner))) (attribute-is d a w l) ∙ grouped (ltb type count) _ _
+      ap₂ both (any-named (λ i. reaches d i (attributeAt d a .owner))) (attribute-same d a w l) ∙ grouped (ltb type count) _ _
 
   -- the name has a type, or it has none
   declares-known : type < count → (a : ℕ) (w : Name) → a < length (d .attributes) → declares d (alone name) 0 a w ≡ declaresFor d type (attributeSlot d w) a

@@ -7,19 +7,18 @@ use mathlib.Core.Logic.{_≢_, ⊎-elim}
 use mathlib.Core.Path.{_∙_, _≡_, ap, refl, subst, sym}
 use lib.Dec.{eqb, ltb}
 use lib.ListN.{length}
-use borrow.Author.Tests.{eqb-false, eqb-true, lt-ltb, not-true}
+use borrow.Author.Tests.{eqb-false, lt-ltb, not-true}
 use Rattle.laws.specs.Connective.{both, either}
 use Rattle.laws.proofs.BoundedLaws.{any-at, any-none, any-of}
 use Rattle.laws.proofs.ConnectiveLaws.{both-left, both-of, both-right, either-left, either-right, known, same-test, true-false}
 use Rattle.laws.proofs.FirstLaws.{first-below, first-holds, first-least, first-le, first-none}
 use Rattle.files.specs.Diagram.{Diagram, valueTypeAt}
-use Rattle.files.specs.Name.{Name, sameName}
+use Rattle.files.specs.Name.{key, sameName}
 use Rattle.files.specs.WellFormedDiagram.{WfDiagram}
-use Rattle.files.proofs.NameLaws.{same-equal, same-self}
+use Rattle.files.proofs.NameLaws.{differ-once, key-same, same-key}
 use Rattle.records.specs.Written.{constantKnown}
 use Rattle.rules.specs.ValueRules.{belongs}
-use Rattle.memory_rules.proofs.CodeLaws.{belongs-same}
-use Rattle.tables.proofs.BelongLaws.{differ-same}
+use Rattle.rules.proofs.KeyLaws.{belongs-alike}
 use Rattle.type_values.specs.Bad.{codedValue}
 use Rattle.type_values.specs.Lacking.{firstLacking, lacking, sameType, shared}
 
@@ -34,31 +33,28 @@ first-known d v =
 -- its slot is no matter
 pub coded-belongs : (d e : Diagram) (s u k j : ℕ) → belongs (codedValue d s k) (valueTypeAt e j) ≡ belongs (codedValue d u k) (valueTypeAt e j)
 unfolding codedValue
-coded-belongs d e s u k j = belongs-same (codedValue d s k) (codedValue d u k) (valueTypeAt e j) refl refl
+coded-belongs d e s u k j = belongs-alike (codedValue d s k) (codedValue d u k) (valueTypeAt e j) refl refl
 
 module _ (old new : Diagram) (wf : WfDiagram new) where
   -- a value belongs to a value type of its own type's name only
-  coded-name : (s k j : ℕ) → belongs (codedValue old s k) (valueTypeAt new j) ≡ true → valueTypeAt new j .name ≡ valueTypeAt old (k / 8) .name
+  coded-name : (s k j : ℕ) → belongs (codedValue old s k) (valueTypeAt new j) ≡ true → key (valueTypeAt new j .name) ≡ key (valueTypeAt old (k / 8) .name)
   unfolding belongs codedValue
-  coded-name s k j e = same-equal _ _ (both-left _ _ e)
+  coded-name s k j e = same-key _ _ (both-left _ _ e)
 
-  name-one : (i j : ℕ) → i < length (new .valueTypes) → j < length (new .valueTypes) → valueTypeAt new i .name ≡ valueTypeAt new j .name → i ≡ j
-  name-one i j l h e =
-      eqb-true i j
-      (sym (differ-same (λ n. valueTypeAt new n .name) (length (new .valueTypes)) (wf .value-types-differ) i j l h)
-      ∙ ap (sameName (valueTypeAt new i .name)) (sym e) ∙ same-self (valueTypeAt new i .name))
+  name-one : (i j : ℕ) → i < length (new .valueTypes) → j < length (new .valueTypes) → key (valueTypeAt new i .name) ≡ key (valueTypeAt new j .name) → i ≡ j
+  name-one = differ-once (λ n. valueTypeAt new n .name) (length (new .valueTypes)) (wf .value-types-differ)
 
-  pub same-name : (v : ℕ) → sameType old new v < length (new .valueTypes) → valueTypeAt new (sameType old new v) .name ≡ valueTypeAt old v .name
+  pub same-name : (v : ℕ) → sameType old new v < length (new .valueTypes) → key (valueTypeAt new (sameType old new v) .name) ≡ key (valueTypeAt old v .name)
   unfolding sameType
-  same-name v l = same-equal _ _ (first-holds (λ j. sameName (valueTypeAt new j .name) (valueTypeAt old v .name)) (length (new .valueTypes)) l)
+  same-name v l = same-key _ _ (first-holds (λ j. sameName (valueTypeAt new j .name) (valueTypeAt old v .name)) (length (new .valueTypes)) l)
 
-  pub same-is : (v j : ℕ) → j < length (new .valueTypes) → valueTypeAt new j .name ≡ valueTypeAt old v .name → sameType old new v ≡ j
+  pub same-is : (v j : ℕ) → j < length (new .valueTypes) → key (valueTypeAt new j .name) ≡ key (valueTypeAt old v .name) → sameType old new v ≡ j
   same-is v j l e = name-one (sameType old new v) j below l (same-name v below ∙ sym e)
     where
       below : sameType old new v < length (new .valueTypes)
       below = unfold sameType in
           first-below (λ i. sameName (valueTypeAt new i .name) (valueTypeAt old v .name)) (length (new .valueTypes)) j l
-          (ap (λ (w : Name). sameName w (valueTypeAt old v .name)) e ∙ same-self (valueTypeAt old v .name))
+          (key-same _ _ e)
 
   pub same-most : (v : ℕ) → sameType old new v ≤ length (new .valueTypes)
   unfolding sameType
@@ -66,7 +62,7 @@ module _ (old new : Diagram) (wf : WfDiagram new) where
 
   -- ---- codes of v
 
-  pub shared-belongs : (s k j : ℕ) → j < length (new .valueTypes) → valueTypeAt new j .name ≡ valueTypeAt old (k / 8) .name → shared old new k ≡ true
+  pub shared-belongs : (s k j : ℕ) → j < length (new .valueTypes) → key (valueTypeAt new j .name) ≡ key (valueTypeAt old (k / 8) .name) → shared old new k ≡ true
       → belongs (codedValue old s k) (valueTypeAt new j) ≡ true
   unfolding shared
   shared-belongs s k j l e h =

@@ -17,18 +17,18 @@ use Rattle.laws.proofs.FirstLaws.{first-ext}
 use Rattle.laws.proofs.JoinedLaws.{getD-each, length-each}
 use Rattle.laws.proofs.SearchLaws.{both-no, both-yes}
 use Rattle.fields.specs.Slot.{slotName}
-use Rattle.files.specs.Diagram.{TypeDef, ValueType, attributeAt, typeAt, valueTypeAt}
+use Rattle.files.specs.Diagram.{ValueType, attributeAt, typeAt, valueTypeAt}
 use Rattle.files.specs.Name.{Name, sameName}
-use Rattle.files.proofs.NameLaws.{same-self}
+use Rattle.files.proofs.NameLaws.{key-same}
 use Rattle.diagrams.specs.declared.StoredDiagram.{StoredDiagram}
 use Rattle.diagrams.specs.Held.{Held}
-use Rattle.diagrams.specs.View.{diagramOf, typeIn, valueTypeIn}
-use Rattle.diagrams.proofs.ViewLaws.{attribute-count, type-at, type-count, value-type-at, value-type-count}
+use Rattle.diagrams.specs.View.{diagramOf, valueTypeIn}
+use Rattle.diagrams.proofs.ViewLaws.{attribute-count, type-count, value-type-at, value-type-count}
+use Rattle.diagrams.proofs.NamedLaws.{attribute-named, type-named, value-type-named}
 use Rattle.resolving.specs.Lookup.{slotOf}
 use Rattle.resolving.proofs.LookupLaws.{attribute-slot, type-index}
 use Rattle.records.specs.Written.{constantKnown}
 use Rattle.rules.specs.ValueRules.{belongs}
-use Rattle.tables.proofs.TableLaws.{attribute-named}
 use Rattle.type_values.specs.Bad.{codedValue}
 use Rattle.type_values.specs.Lacking.{firstLacking, lacking, sameType, shared}
 use Rattle.type_values.specs.Tables.{AttributePlaces, Lackings, SameTypes, TypePlaces}
@@ -36,14 +36,6 @@ use Rattle.type_values.specs.Numbers.{constantIn, constantName, knownIn,
 use Rattle.type_values.proofs.SharedLaws.{belongs-shared, coded-same, same-name}
 
 module _ (d : StoredDiagram) where
-  pub value-name : (v : ℕ) → v < d .values .count → valueTypeAt (diagramOf d) v .name ≡ slotName (d .values .names) v
-  unfolding valueTypeIn
-  value-name v l = ap (λ (t : ValueType). t .name) (value-type-at d v l)
-
-  pub type-name : (t : ℕ) → t < d .types .count → typeAt (diagramOf d) t .name ≡ slotName (d .types .names) t
-  unfolding typeIn
-  type-name t l = ap (λ (x : TypeDef). x .name) (type-at d t l)
-
   -- ---- constants
 
   abbrev sizeOf : ℕ → ℕ
@@ -104,7 +96,7 @@ module _ (old new : StoredDiagram) (held : Held new) where
   unfolding sameType slotOf
   same-type v l =
       ap (first (λ j. sameName (valueTypeAt (diagramOf new) j .name) (valueTypeAt (diagramOf old) v .name))) (value-type-count new)
-      ∙ first-ext _ _ (new .values .count) (λ j k. ap₂ sameName (value-name new j k) (value-name old v l))
+      ∙ first-ext _ _ (new .values .count) (λ j k. ap₂ sameName (value-type-named new j k) (value-type-named old v l))
 
   pub same-types-are : (types : List ℕ) (m n : ℕ) → m ≡ old .values .count → n ≡ new .values .count
       → ((i : ℕ) → i < m → getD types i 0 ≡ slotOf (new .values .names) n (slotName (old .values .names) i)) → SameTypes (diagramOf old) (diagramOf new) types
@@ -142,7 +134,7 @@ module _ (old new : StoredDiagram) (held : Held new) where
       let j : ℕ = sameType (diagramOf old) (diagramOf new) (k / 8) in
       let under : j < length (diagramOf new .valueTypes) = subst (λ (n : ℕ). j < n) (sym (value-type-count new)) l in
       let name = same-name (diagramOf old) (diagramOf new) (held .wf) (k / 8) under in
-      sym (both-yes (ap (λ (n : Name). sameName n (valueTypeAt (diagramOf old) (k / 8) .name)) name ∙ same-self (valueTypeAt (diagramOf old) (k / 8) .name)) refl)
+      sym (both-yes (key-same _ _ name) refl)
       ∙ constants-in new j _ l ∙ ap (sharedIn (new .values .sizes) (new .values .constants) (new .values .count) j) e
 
   shared-in : (k : ℕ) (w : Name) → codedValue (diagramOf old) 0 k .constant ≡ w
@@ -192,7 +184,7 @@ module _ (old new : StoredDiagram) (held : Held new) where
   types-placed index m n e q f = record {
     exact = λ t l.
         let k : t < old .types .count = subst (λ (i : ℕ). t < i) (type-count old) l in
-        f t (subst (λ (i : ℕ). t < i) (sym e) k) ∙ ap₂ (λ (i : ℕ) (w : Name). slotOf (new .types .names) i w) q (sym (type-name old t k)) ∙ sym (type-index new (typeAt (diagramOf old) t .name));
+        f t (subst (λ (i : ℕ). t < i) (sym e) k) ∙ ap₂ (λ (i : ℕ) (w : Name). slotOf (new .types .names) i w) q (sym (type-named old t k)) ∙ sym (type-index new (typeAt (diagramOf old) t .name));
   }
 
   pub attributes-placed : (slots : List ℕ) (m n : ℕ) → m ≡ old .attributes .count → n ≡ new .attributes .count

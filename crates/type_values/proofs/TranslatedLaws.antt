@@ -23,7 +23,7 @@ use Rattle.diagrams.specs.Held.{Held}
 use Rattle.diagrams.specs.View.{diagramOf}
 use Rattle.diagrams.proofs.ViewLaws.{attribute-count, type-count}
 use Rattle.records.specs.Slots.{attributeSlot, typeIndex}
-use Rattle.memory_rules.proofs.SlotLaws.{index-of}
+use Rattle.records.proofs.SlotLaws.{index-of}
 use Rattle.type_tables.specs.Due.{due}
 use Rattle.type_tables.specs.TypeTables.{Dues, Kinds}
 use Rattle.type_tables.proofs.StoredLaws.{stored-kinds}

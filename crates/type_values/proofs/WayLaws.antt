@@ -11,21 +11,11 @@ use lib.ListN.{getD, length, take}
 use borrow.Author.Tests.{le-ltb, lt-ltb, ne-eqb}
 use Rattle.laws.specs.Bounded.{all}
 use Rattle.laws.specs.Connective.{both, either}
-use Rattle.laws.proofs.ConnectiveLaws.{both-of}
+use Rattle.laws.proofs.ConnectiveLaws.{both-of, and-is-both, or-is-either}
 use Rattle.laws.proofs.SearchLaws.{both-no, both-right-no, both-yes}
 use Rattle.fields.specs.Slot.{slotName}
 use Rattle.files.specs.Name.{Name}
 use Rattle.type_values.specs.Numbers.{chosenIn, constantIn, constantName, dueBy, goodIn, keptIn, knownIn, lackingIn, sharedIn, slotAskedIn, slotKeptIn, valueAtIn}
-
-or-is-either : (a b : Bool) → a || b ≡ either a b
-unfolding either
-or-is-either true b = refl
-or-is-either false b = refl
-
-and-is-both : (a b : Bool) → a && b ≡ both a b
-unfolding both
-and-is-both true b = refl
-and-is-both false b = refl
 
 module _ (constants : List ℕ) (size k : ℕ) where
   pub constant-some : {w : Name} → w ≡ slotName constants k → k % 8 < size → w ≡ constantName constants size k

@@ -8,7 +8,7 @@ use lib.ListN.{length}
 use Rattle.laws.specs.Bounded.{all, any}
 use Rattle.laws.specs.Connective.{both, either, imp}
 use Rattle.files.specs.Ancestor.{reaches}
-use Rattle.files.specs.Diagram.{Association, Diagram, End, associationAt, isComposition, typeAt}
+use Rattle.files.specs.Diagram.{Diagram, associationAt, isComposition, typeAt}
 use Rattle.records.specs.Slots.{roleCount, roleName, roleSlot, typeIndex}
 use Rattle.rules.specs.Arrow.{countedLeft, countedRight, mirrors}
 use Rattle.type_tables.specs.Rows.{carriedTo, endAt, least, most, opposite}

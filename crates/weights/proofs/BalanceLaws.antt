@@ -2,28 +2,17 @@
 -- with at most so many. `columns-balance`: the sources that targets have at least stand in rows, each with at most so many.
 -- `parts-balance`: parts of different wholes are different, so that there are as many objects that can be a part.
 -- Assumes nothing.
-use Prim.Native.Nat.{_<_, _≤_, zero-le, ℕ}
+use Prim.Native.Nat.{_<_, _≤_, ℕ}
 use native.Mathlib.Nat.{le-trans}
-use native.Mathlib.Omega.{arith}
 use mathlib.Core.Bool.{Bool, _&&_, cond, false, true}
 use mathlib.Core.Path.{_≡_, ap, refl, subst, sym}
 use Rattle.laws.specs.Bounded.{tally}
 use Rattle.laws.proofs.BoundedLaws.{tally-none}
-use Rattle.laws.proofs.ConnectiveLaws.{and-left, and-right, same-test, true-false}
+use Rattle.laws.proofs.ConnectiveLaws.{and-left, and-right, same-test, true-false, where-least, where-most}
 use Rattle.laws.proofs.CountLaws.{tally-ext, tally-mono}
 use Rattle.growing.specs.World.{World}
 use Rattle.weights.specs.Sums.{sum}
 use Rattle.weights.proofs.SumLaws.{balance}
-
--- a number where a test holds, else 0: it is not above another number that it is not above where the test holds
-pub where-least : (b : Bool) (x y : ℕ) → (b ≡ true → x ≤ y) → cond b x 0 ≤ y
-where-least true x y f = f refl
-where-least false x y f = zero-le
-
--- a number is not above another one where a test holds, and 0 where it fails
-pub where-most : (b : Bool) (x y : ℕ) → (b ≡ true → x ≤ y) → (b ≡ false → x ≡ 0) → x ≤ cond b y 0
-where-most true x y f g = f refl
-where-most false x y f g = let z : x ≡ 0 = g refl in omega arith
 
 module _ (w : World) (s : ℕ) where
   -- the links in slot s of objects with a good type go to objects of `to`

@@ -14,17 +14,17 @@ use borrow.Author.Tests.{eqb-true}
 use Rattle.laws.specs.Bits.{bit}
 use Rattle.laws.specs.Bounded.{tally}
 use Rattle.laws.proofs.BoundedLaws.{any-at, any-of}
-use Rattle.laws.proofs.ConnectiveLaws.{and-both, and-left, and-right}
+use Rattle.laws.proofs.ConnectiveLaws.{and-both, and-left, and-right, where-least}
 use Rattle.laws.proofs.CountLaws.{tally-le, tally-mono}
-use Rattle.growing.specs.World.{World}
+use Rattle.growing.specs.World.{World, sourceCount, targetCount}
 use Rattle.worlds.specs.declared.Lines.{Lines}
 use Rattle.worlds.specs.declared.Query.{Query}
-use Rattle.worlds.specs.Asked.{Asked}
-use Rattle.worlds.specs.Kept.{Allowed, Slotted, Turned, sheet, wholeBy, wholeOf}
+use Rattle.worlds.specs.Asked.{Satisfies}
+use Rattle.worlds.specs.Kept.{Allowed, Slotted, SourceTable, sheet, wholeBy, wholeOf}
 use Rattle.weights.specs.Numbers.{inMask, lineNumber, numberAt, wholeLow, wholeRow}
 use Rattle.weights.specs.Scales.{columnLeast, columnMost, columnsScale, mirrorScale, ownOf, rowLeast, rowMost, rowsScale, together, wholeScale}
 use Rattle.weights.specs.Sums.{sum}
-use Rattle.weights.proofs.BalanceLaws.{columns-balance, parts-balance, rows-balance, where-least}
+use Rattle.weights.proofs.BalanceLaws.{columns-balance, parts-balance, rows-balance}
 use Rattle.weights.proofs.NumberLaws.{in-mask, number-flat, number-high, number-low, number-parts}
 use Rattle.weights.proofs.OwnLaws.{column-least, column-most, low-asked, row-least, row-most}
 use Rattle.weights.proofs.SumLaws.{sum-ext}
@@ -42,28 +42,22 @@ sums-le : (f f′ g g′ : ℕ → ℕ) (n : ℕ) → ((i : ℕ) → f i ≡ f�
 sums-le f f′ g g′ n p q l = let a = sum-ext f f′ n (λ i k. p i) in
     let b = sum-ext g g′ n (λ i k. q i) in omega arith
 
-module _ (usable singles : ℕ) (targets lows highs sources : List ℕ) (x : Lines) (q : Query) (w : World) (turned : Turned targets sources)
-    (allowed : Allowed (sheet usable singles targets lows highs x) w) (asked : Asked q w) (some : 0 < w .size) where
-  abbrev row : ℕ → ℕ → ℕ
-  row s o = tally (λ p. w .link s o p) (w .size)
-
-  abbrev column : ℕ → ℕ → ℕ → ℕ
-  column s from p = tally (λ o. bit (w .kind o) from && w .link s o p) (w .size)
-
+module _ (usable singles : ℕ) (targets lows highs sources : List ℕ) (x : Lines) (q : Query) (w : World) (turned : SourceTable targets sources)
+    (allowed : Allowed (sheet usable singles targets lows highs x) w) (asked : Satisfies q w) (some : 0 < w .size) where
   -- only types that may have links to the first object have one
   reached : (s : ℕ) → s < 32 → (o : ℕ) → o < w .size → w .link s o 0 ≡ true → bit (w .kind o) (getD sources (w .kind 0 * 32 + s) 0) ≡ true
   reached s l o k h = turned .at (w .kind o) s (w .kind 0) (allowed .known o k) l (allowed .known 0 some) ∙ allowed .rows .allowed s o 0 l k some h
 
-  row-few : (s o : ℕ) → row s o ≤ 255
+  row-few : (s o : ℕ) → targetCount w s o ≤ 255
   row-few s o = let l = tally-le (λ p. w .link s o p) (w .size) in
       let f = allowed .few in omega arith
 
-  row-low : (s first : ℕ) → s < 32 → first ≤ row s 0 → (o : ℕ) → o < w .size → max (getD lows (w .kind o * 32 + s) 0) (cond (eqb o 0) first 0) ≤ row s o
-  row-low s first l f = limit-cases (λ (o m : ℕ). o < w .size → max (getD lows (w .kind o * 32 + s) 0) m ≤ row s o) first 0
+  row-low : (s first : ℕ) → s < 32 → first ≤ targetCount w s 0 → (o : ℕ) → o < w .size → max (getD lows (w .kind o * 32 + s) 0) (cond (eqb o 0) first 0) ≤ targetCount w s o
+  row-low s first l f = limit-cases (λ (o m : ℕ). o < w .size → max (getD lows (w .kind o * 32 + s) 0) m ≤ targetCount w s o) first 0
       (λ k. max-le (allowed .rows .limited s 0 l k .least) f) (λ o k. max-le (allowed .rows .limited s o l k .least) zero-le)
 
   -- links that sources have at least, against what their targets have at most
-  rows-sum : (s from to first : ℕ) (high : ℕ → ℕ) → s < 32 → first ≤ row s 0 → ((p : ℕ) → p < w .size → bit (w .kind p) to ≡ true → column s from p ≤ high p)
+  rows-sum : (s from to first : ℕ) (high : ℕ → ℕ) → s < 32 → first ≤ targetCount w s 0 → ((p : ℕ) → p < w .size → bit (w .kind p) to ≡ true → sourceCount w s from p ≤ high p)
       → sum (λ o. cond (bit (w .kind o) from && inMask (getD targets (w .kind o * 32 + s) 0) to) (max (getD lows (w .kind o * 32 + s) 0) (cond (eqb o 0) first 0)) 0) (w .size)
       ≤ sum (λ p. cond (bit (w .kind p) to) (high p) 0) (w .size)
   rows-sum s from to first high l f columns = rows-balance w s good (λ t. bit t to) (λ o. max (getD lows (w .kind o * 32 + s) 0) (cond (eqb o 0) first 0)) high
@@ -99,7 +93,7 @@ module _ (usable singles : ℕ) (targets lows highs sources : List ℕ) (x : Lin
       (λ o. number-low targets lows highs (x .wholeslot) (x .wholefrom) (x .wholeto) from to s 0 first (cond (eqb o 0) first 0) (w .kind o))
       (λ p. number-flat targets lows highs (x .wholeslot) (x .wholefrom) (x .wholeto) to 0 s high last (cond (eqb p 0) last high) (w .kind p))
       (rows-sum s from to first (λ p. cond (eqb p 0) last high) k (row-least q w asked s)
-      (limit-cases (λ (p m : ℕ). p < w .size → bit (w .kind p) to ≡ true → column s from p ≤ m) last high
+      (limit-cases (λ (p m : ℕ). p < w .size → bit (w .kind p) to ≡ true → sourceCount w s from p ≤ m) last high
       (λ i e. le-min (allowed .columns .at j 0 l i e .most) (column-most q w asked s from may (reached s k) (allowed .few)))
       (λ p i e. allowed .columns .at j p l i e .most)))
 
@@ -124,10 +118,10 @@ module _ (usable singles : ℕ) (targets lows highs sources : List ℕ) (x : Lin
       (λ p. number-flat targets lows highs (x .wholeslot) (x .wholefrom) (x .wholeto) to 0 s low first (cond (eqb p 0) first low) (w .kind p))
       (λ o. number-high targets lows highs (x .wholeslot) (x .wholefrom) (x .wholeto) from 0 s 255 last (cond (eqb o 0) last 255) (w .kind o))
       (columns-balance w s (λ t. bit t from) (λ t. bit t to) (λ p. cond (eqb p 0) first low) (λ o. min (getD highs (w .kind o * 32 + s) 0) (cond (eqb o 0) last 255))
-      (limit-cases (λ (p m : ℕ). p < w .size → bit (w .kind p) to ≡ true → m ≤ column s from p) first low
+      (limit-cases (λ (p m : ℕ). p < w .size → bit (w .kind p) to ≡ true → m ≤ sourceCount w s from p) first low
       (λ i e. max-le (allowed .columns .at j 0 l i e .least) (column-least q w asked s from may (reached s k)))
       (λ p i e. allowed .columns .at j p l i e .least))
-      (limit-cases (λ (o m : ℕ). o < w .size → bit (w .kind o) from ≡ true → row s o ≤ min (getD highs (w .kind o * 32 + s) 0) m) last 255
+      (limit-cases (λ (o m : ℕ). o < w .size → bit (w .kind o) from ≡ true → targetCount w s o ≤ min (getD highs (w .kind o * 32 + s) 0) m) last 255
       (λ i e. le-min (allowed .rows .limited s 0 k i .most) (row-most q w asked s (allowed .few)))
       (λ o i e. le-min (allowed .rows .limited s o k i .most) (row-few s o))))
 
@@ -150,12 +144,12 @@ module _ (usable singles : ℕ) (targets lows highs sources : List ℕ) (x : Lin
       (λ o. number-low targets lows highs (x .wholeslot) (x .wholefrom) (x .wholeto) from to s 0 first (cond (eqb o 0) first 0) (w .kind o))
       (λ p. number-high targets lows highs (x .wholeslot) (x .wholefrom) (x .wholeto) to 0 back 255 last (cond (eqb p 0) last 255) (w .kind p))
       (rows-sum s from to first (λ p. min (getD highs (w .kind p * 32 + back) 0) (cond (eqb p 0) last 255)) l (row-least q w asked s)
-      (limit-cases (λ (p m : ℕ). p < w .size → bit (w .kind p) to ≡ true → column s from p ≤ min (getD highs (w .kind p * 32 + back) 0) m) last 255
+      (limit-cases (λ (p m : ℕ). p < w .size → bit (w .kind p) to ≡ true → sourceCount w s from p ≤ min (getD highs (w .kind p * 32 + back) 0) m) last 255
       (λ i e. le-min (le-trans (turn 0 i e) (allowed .rows .limited back 0 k i .most))
       (le-min (le-trans (turn 0 i e) (row-most q w asked back (allowed .few))) (column-most q w asked s from may (reached s l) (allowed .few))))
       (λ p i e. le-min (le-trans (turn p i e) (allowed .rows .limited back p k i .most)) (le-trans (turn p i e) (row-few back p)))))
     where
-      turn : (p : ℕ) → p < w .size → bit (w .kind p) to ≡ true → column s from p ≤ row back p
+      turn : (p : ℕ) → p < w .size → bit (w .kind p) to ≡ true → sourceCount w s from p ≤ targetCount w back p
       turn p i e = tally-mono (λ o. bit (w .kind o) from && w .link s o p) (λ o. w .link back p o) (w .size) (λ o m h.
           sym (mirror o p m i (and-left (bit (w .kind o) from) (w .link s o p) h) e) ∙ and-right (bit (w .kind o) from) (w .link s o p) h)
 
@@ -165,7 +159,7 @@ module _ (usable singles : ℕ) (targets lows highs sources : List ℕ) (x : Lin
   parts o = tally (λ p. wholeOf x w p o) (w .size)
 
   -- by one line: where it counts, all links in its slot go to parts
-  line-parts : (slotted : Slotted x) (o limit j : ℕ) → o < w .size → j < 16 → limit ≤ row (q .row) o
+  line-parts : (slotted : Slotted x) (o limit j : ℕ) → o < w .size → j < 16 → limit ≤ targetCount w (q .row) o
       → wholeRow targets lows (x .wholeslot) (x .wholefrom) (x .wholeto) (q .row) limit (w .kind o) j ≤ parts o
   unfolding wholeRow lineNumber wholeOf
   line-parts slotted o limit j k l f =
@@ -181,11 +175,11 @@ module _ (usable singles : ℕ) (targets lows highs sources : List ℕ) (x : Lin
       (and-both (bit (w .kind p) to) (w .link s o p)
       (in-mask target to (and-right (bit (w .kind o) from) (inMask target to) e) (w .kind p) (allowed .rows .allowed s o p (slotted .whole j l) k i h)) h)))))
     where
-      links : (s low : ℕ) → low ≤ row s o → (b : Bool) → eqb (q .row) s ≡ b → cond b (max low limit) low ≤ row s o
-      links s low m true e = max-le m (subst (λ (r : ℕ). limit ≤ row r o) (eqb-true (q .row) s e) f)
+      links : (s low : ℕ) → low ≤ targetCount w s o → (b : Bool) → eqb (q .row) s ≡ b → cond b (max low limit) low ≤ targetCount w s o
+      links s low m true e = max-le m (subst (λ (r : ℕ). limit ≤ targetCount w r o) (eqb-true (q .row) s e) f)
       links s low m false e = m
 
-  all-parts : (slotted : Slotted x) (o limit n : ℕ) → o < w .size → n ≤ 16 → limit ≤ row (q .row) o
+  all-parts : (slotted : Slotted x) (o limit n : ℕ) → o < w .size → n ≤ 16 → limit ≤ targetCount w (q .row) o
       → wholeLow targets lows (x .wholeslot) (x .wholefrom) (x .wholeto) (q .row) limit (w .kind o) n ≤ parts o
   unfolding wholeLow
   all-parts slotted o limit zero k l f = zero-le
@@ -221,6 +215,6 @@ module _ (usable singles : ℕ) (targets lows highs sources : List ℕ) (x : Lin
       ∙ ap (λ (m : ℕ). cond (bit (w .kind p) to) m 0) (same-limit (eqb p 0)))
       (parts-balance (w .size) (wholeOf x w) (λ o. cond (bit (w .kind o) from) (least o) 0) (λ p. bit (w .kind p) to)
       (λ o k. where-least (bit (w .kind o) from) (least o) (parts o) (λ e. all-parts slotted o (cond (eqb o 0) first 0) 16 k (omega arith)
-      (limit-cases (λ (o m : ℕ). m ≤ row (q .row) o) first 0 (low-asked q w asked) (λ o. zero-le) o)))
+      (limit-cases (λ (o m : ℕ). m ≤ targetCount w (q .row) o) first 0 (low-asked q w asked) (λ o. zero-le) o)))
       (λ p k. allowed .wholes .at p k)
       (λ o p k l e. parts-of to joined o p e))

@@ -12,8 +12,8 @@ use lib.ListN.{getD}
 use borrow.Author.Count.{below-more}
 use borrow.Author.Tests.{eqb-true, ne-eqb}
 use Rattle.laws.specs.Bits.{bit}
-use Rattle.laws.proofs.BitLaws.{bit-and, bit-or}
-use Rattle.laws.proofs.ConnectiveLaws.{and-both, or-left, or-right}
+use Rattle.laws.proofs.BitLaws.{bit-or, bit-both}
+use Rattle.laws.proofs.ConnectiveLaws.{or-left, or-right}
 use Rattle.weights.specs.declared.Weight.{Weight}
 use Rattle.weights.specs.Numbers.{inMask, limitAt, lineNumber, numberBy, slotNumber, wholeLow, wholeRow}
 
@@ -24,7 +24,7 @@ unfolding inMask
 in-mask a b h t e = sym (ap (bit t) (eqb-true (bitOr a b) b h)) ∙ bit-or t a b ∙ or-left (bit t a) (bit t b) e
 
 pub in-meet : (a b c : ℕ) → inMask (bitAnd a b) c ≡ true → (t : ℕ) → bit t a ≡ true → bit t b ≡ true → bit t c ≡ true
-in-meet a b c h t e f = in-mask (bitAnd a b) c h t (bit-and t a b ∙ and-both (bit t a) (bit t b) e f)
+in-meet a b c h t e f = in-mask (bitAnd a b) c h t (bit-both t a b e f)
 
 -- one mask more
 pub mask-more : (masks : List ℕ) (j m i : ℕ) → i ≡ j → ((k : ℕ) → k < j → (t : ℕ) → bit t (getD masks k 0) ≡ true → bit t m ≡ true)

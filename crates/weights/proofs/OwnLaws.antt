@@ -10,14 +10,13 @@ use lib.Dec.{eqb, ltb}
 use borrow.Author.Tests.{eqb-true, ltb-true}
 use Rattle.laws.specs.Bits.{bit}
 use Rattle.laws.specs.Bounded.{tally}
-use Rattle.laws.proofs.ConnectiveLaws.{and-both, and-left, and-right}
+use Rattle.laws.proofs.ConnectiveLaws.{and-both, and-left, and-right, where-least}
 use Rattle.laws.proofs.CountLaws.{tally-le, tally-mono}
 use Rattle.growing.specs.World.{World}
 use Rattle.worlds.specs.declared.Query.{Query}
-use Rattle.worlds.specs.Asked.{Asked, sourceAsked}
+use Rattle.worlds.specs.Asked.{Satisfies, sourceAsked}
 use Rattle.weights.specs.Numbers.{inMask}
 use Rattle.weights.specs.Scales.{columnLeast, columnMost, ownOf, rowLeast, rowMost}
-use Rattle.weights.proofs.BalanceLaws.{where-least}
 use Rattle.weights.proofs.NumberLaws.{in-meet}
 
 -- a number is not above what is chosen by a test where it is not above either
@@ -25,7 +24,7 @@ cond-most : (b : Bool) (n x y : ℕ) → (b ≡ true → n ≤ x) → n ≤ y �
 cond-most true n x y f g = f refl
 cond-most false n x y f g = g
 
-module _ (q : Query) (w : World) (asked : Asked q w) where
+module _ (q : Query) (w : World) (asked : Satisfies q w) where
   -- at least `low` in slot `row`, where the query has seeds
   pub low-asked : cond (ltb 0 (q .seeds)) (q .low) 0 ≤ tally (λ p. w .link (q .row) 0 p) (w .size)
   low-asked = where-least (ltb 0 (q .seeds)) (q .low) (tally (λ p. w .link (q .row) 0 p) (w .size)) (λ e. asked .row (ltb-true 0 (q .seeds) e) .least)

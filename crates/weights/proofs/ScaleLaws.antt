@@ -10,8 +10,8 @@ use Rattle.laws.specs.Bits.{bit}
 use Rattle.growing.specs.World.{World}
 use Rattle.worlds.specs.declared.Lines.{Lines}
 use Rattle.worlds.specs.declared.Query.{Query}
-use Rattle.worlds.specs.Asked.{Asked}
-use Rattle.worlds.specs.Kept.{Allowed, Slotted, Turned, sheet}
+use Rattle.worlds.specs.Asked.{Satisfies}
+use Rattle.worlds.specs.Kept.{Allowed, Slotted, SourceTable, sheet}
 use Rattle.weights.specs.declared.Own.{Own}
 use Rattle.weights.specs.declared.Scale.{Scale}
 use Rattle.weights.specs.declared.Shortage.{Shortage}
@@ -22,8 +22,8 @@ use Rattle.weights.proofs.FairLaws.{columns-at, mirror-at, rows-at, who
 
 -- the scale that f makes of what is asked of the first object and of the types that may have links to it in slot s
 abbrev Balanced : List ℕ → Lines → ℕ → (Own → ℕ → Scale) → Type 0
-Balanced sources x s f = (usable singles : ℕ) (targets lows highs : List ℕ) (q : Query) (w : World) → Turned targets sources → Allowed (sheet usable singles targets lows highs x) w
-    → Asked q w → 0 < w .size → let r = f (ownOf q) (getD sources (w .kind 0 * 32 + s) 0) in together targets lows highs x (r .a) w ≤ together targets lows highs x (r .b) w
+Balanced sources x s f = (usable singles : ℕ) (targets lows highs : List ℕ) (q : Query) (w : World) → SourceTable targets sources → Allowed (sheet usable singles targets lows highs x) w
+    → Satisfies q w → 0 < w .size → let r = f (ownOf q) (getD sources (w .kind 0 * 32 + s) 0) in together targets lows highs x (r .a) w ≤ together targets lows highs x (r .b) w
 
 fair-of : (sources : List ℕ) (x : Lines) (own : Own) (t s may : ℕ) (f : Own → ℕ → Scale) {r : Scale} → may ≡ getD sources (t * 32 + s) 0 → r ≡ f own may
     → f own may .a .slot < 32 → f own may .b .slot < 32 → Balanced sources x s f → Fair sources x own t r
@@ -77,7 +77,7 @@ module _ (sources : List ℕ) (x : Lines) (own : Own) (t : ℕ) where
       (λ u g targets lows highs q w turned allowed asked some. whole-at u g targets lows highs sources x q w turned allowed asked some from to slotted joined)
 
 -- what is lacking where the scale balances
-pub short-of : (targets sources lows highs : List ℕ) (lines : Lines) (q : Query) (own : Own) (types : List ℕ) (k free : ℕ) (x : Scale) (r : Shortage) → 0 < k → Turned targets sources → own ≡ ownOf q
+pub short-of : (targets sources lows highs : List ℕ) (lines : Lines) (q : Query) (own : Own) (types : List ℕ) (k free : ℕ) (x : Scale) (r : Shortage) → 0 < k → SourceTable targets sources → own ≡ ownOf q
     → Fair sources lines own (getD types 0 0) x
     → Lacks (numberAt targets lows highs (lines .wholeslot) (lines .wholefrom) (lines .wholeto) (x .a)) (numberAt targets lows highs (lines .wholeslot) (lines .wholefrom) (lines .wholeto) (x .b)) types k free r
     → Short targets lows highs lines q types k free r

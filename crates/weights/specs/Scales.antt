@@ -9,8 +9,8 @@ use lib.Dec.{eqb, ltb}
 use Rattle.growing.specs.World.{World}
 use Rattle.worlds.specs.declared.Lines.{Lines}
 use Rattle.worlds.specs.declared.Query.{Query}
-use Rattle.worlds.specs.Asked.{Asked}
-use Rattle.worlds.specs.Kept.{Allowed, Turned, sheet}
+use Rattle.worlds.specs.Asked.{Satisfies}
+use Rattle.worlds.specs.Kept.{Allowed, SourceTable, sheet}
 use Rattle.weights.specs.declared.Own.{Own}
 use Rattle.weights.specs.declared.Scale.{Scale}
 use Rattle.weights.specs.declared.Weight.{Weight}
@@ -72,6 +72,6 @@ together targets lows highs x a w = sum (λ o. numberAt targets lows highs (x .w
 pub record Fair (sources : List ℕ) (x : Lines) (own : Own) (t : ℕ) (r : Scale) : Type 0 where
   pub low : r .a .slot < 32
   pub high : r .b .slot < 32
-  pub at : (usable singles : ℕ) (targets lows highs : List ℕ) (q : Query) (w : World) → Turned targets sources → own ≡ ownOf q
-      → Allowed (sheet usable singles targets lows highs x) w → Asked q w → 0 < w .size → w .kind 0 ≡ t
+  pub at : (usable singles : ℕ) (targets lows highs : List ℕ) (q : Query) (w : World) → SourceTable targets sources → own ≡ ownOf q
+      → Allowed (sheet usable singles targets lows highs x) w → Satisfies q w → 0 < w .size → w .kind 0 ≡ t
       → together targets lows highs x (r .a) w ≤ together targets lows highs x (r .b) w

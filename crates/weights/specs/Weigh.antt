@@ -11,7 +11,7 @@ use Rattle.growing.specs.World.{World}
 use Rattle.growing.specs.Demand.{extras}
 use Rattle.worlds.specs.declared.Lines.{Lines}
 use Rattle.worlds.specs.declared.Query.{Query}
-use Rattle.worlds.specs.Asked.{Asked}
+use Rattle.worlds.specs.Asked.{Satisfies}
 use Rattle.worlds.specs.Kept.{Allowed, sheet}
 use Rattle.weights.specs.declared.Gain.{Gain}
 use Rattle.weights.specs.declared.Shortage.{Shortage}
@@ -42,5 +42,5 @@ pub record Lacks (a b : ℕ → ℕ → ℕ) (types : List ℕ) (k free : ℕ) (
 
 -- of each world that begins so, that the tables allow and the query asks for, at least so many further objects have types of the mask
 pub record Short (targets lows highs : List ℕ) (lines : Lines) (q : Query) (types : List ℕ) (k free : ℕ) (r : Shortage) : Type 0 where
-  pub at : (usable singles : ℕ) (w : World) → Begins types k free w → Allowed (sheet usable singles targets lows highs lines) w → Asked q w
+  pub at : (usable singles : ℕ) (w : World) → Begins types k free w → Allowed (sheet usable singles targets lows highs lines) w → Satisfies q w
       → r .c ≤ extras (r .g) k w

@@ -6,9 +6,9 @@ ghost use Prim.Native.Nat.{ℕ, _<_, _≤_, _+_, _*_};
 ghost use lib.ListN.{getD};
 ghost use Rattle.laws.specs.Bits.{bit};
 ghost use Rattle.worlds.specs.Asked.{Sane};
-ghost use Rattle.worlds.specs.Kept.{Slotted, Turned};
+ghost use Rattle.worlds.specs.Kept.{Slotted, SourceTable};
 ghost use Rattle.weights.specs.Numbers.{inMask, limitAt, lineNumber, numberAt, numberBy, slotNumber, wholeLow, wholeRow};
-ghost use Rattle.weights.specs.Scales.{Fair, columnLeast, columnMost, columnsScale, mirrorScale, ownOf, rowLeast, rowMost, rowsScale, wholeScale};
+ghost use Rattle.weights.specs.Scales.{Fair, columnLeast, columnMost, columnsScale, mirrorScale, rowLeast, rowMost, rowsScale, wholeScale};
 ghost use Rattle.weights.specs.Sums.{sum};
 ghost use Rattle.weights.specs.Weigh.{Gained, Gains, Lacks, Short};
 
@@ -562,7 +562,7 @@ pub fn weigh<'a>(
     free: u32,
     v: u8,
 ) -> Shortage
-    requires { ⌜ Slotted lines × Turned (now targets) (now sources) × Sane q × (q .seeds ≤ k) × (k ≤ 8) × ((o : ℕ) → getD types o 0 < 24) ⌝ }
+    requires { ⌜ Slotted lines × SourceTable (now targets) (now sources) × Sane q × (q .seeds ≤ k) × (k ≤ 8) × ((o : ℕ) → getD types o 0 < 24) ⌝ }
     ensures { λ r. ⌜ Short (now (targets .entry)) (now (lows .entry)) (now (highs .entry)) lines q types k free r ⌝ }
 {
     if k == 0 {

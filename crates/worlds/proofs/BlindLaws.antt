@@ -10,7 +10,7 @@ use Rattle.laws.proofs.SwapLaws.{swap-before, swap-below, swap-from, swap-twice
 use Rattle.growing.specs.World.{Blind}
 use Rattle.worlds.specs.declared.Query.{Query}
 use Rattle.worlds.specs.Kept.{Allowed, Sheet}
-use Rattle.worlds.specs.Asked.{Asked, Sane, Solution}
+use Rattle.worlds.specs.Asked.{Satisfies, Sane, Solution}
 use Rattle.worlds.proofs.RenumberLaws.{column-tally, columns-renumbered, mirrors-renumbered, renumbered-exchanged, row-tally, rows-renumbered, singles-renumbered, wholes-renumbered}
 
 pub blind-allowed : (x : Sheet) → Blind 0 (Allowed x)
@@ -33,7 +33,7 @@ blind-allowed x w i j _ _ hi hj a =
     from-below : (o : ℕ) → swap i j o < w .size → o < w .size
     from-below o l = subst (λ (m : ℕ). m < w .size) (swap-twice i j o) (swap-below i j (w .size) hi hj (swap i j o) l)
 
-pub blind-asked : (q : Query) → Sane q → Blind (q .seeds) (Asked q)
+pub blind-asked : (q : Query) → Sane q → Blind (q .seeds) (Satisfies q)
 blind-asked q sane w i j pi pj hi hj a =
     let r = renumbered-exchanged w i j hi hj in
     record {

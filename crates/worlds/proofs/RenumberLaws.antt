@@ -13,12 +13,11 @@ use Rattle.laws.specs.Bits.{bit}
 use Rattle.laws.specs.Bounded.{tally}
 use Rattle.laws.specs.Swap.{swap}
 use Rattle.laws.proofs.BoundedLaws.{any-ext}
-use Rattle.laws.proofs.CountLaws.{tally-ext}
+use Rattle.laws.proofs.CountLaws.{tally-ext, tally-holds, tally-some}
 use Rattle.laws.proofs.SwapLaws.{swap-below, tally-swap}
 use Rattle.growing.specs.World.{World, exchanged}
-use Rattle.growing.proofs.SplitLaws.{tally-holds, tally-some}
 use Rattle.worlds.specs.declared.Lines.{Lines}
-use Rattle.worlds.specs.Kept.{ColumnsKept, MirrorsKept, RowsKept, SinglesKept, TypesAvoided, WholesKept, wholeBy, wholeOf}
+use Rattle.worlds.specs.Kept.{ColumnsKept, MirrorsKept, RowsKept, SinglesKept, WholesKept, wholeBy, wholeOf}
 use Rattle.worlds.specs.Renumbered.{Renumbered}
 
 -- ---- numberings
@@ -89,9 +88,6 @@ module _ {w v : World} {at : ℕ → ℕ} (r : Renumbered w v at) where
       (f .0, omega (arith, r .size, f .1), eqb-true (at (f .0)) o (f .2))
 
   -- ---- what tables ask for
-
-  pub types-renumbered : (mask : ℕ) → TypesAvoided mask w → TypesAvoided mask v
-  types-renumbered mask h = record { at = λ o l. ap (λ (x : ℕ). bit x mask) (r .kind o) ∙ h .at (at o) (below-at o l) }
 
   pub singles-renumbered : (singles : ℕ) → SinglesKept singles w → SinglesKept singles v
   singles-renumbered singles h = record { at = λ t l b. kind-tally t ∙ h .at t l b }

@@ -6,8 +6,8 @@ use mathlib.Core.Path.{_≡_}
 use lib.ListN.{getD}
 use Rattle.laws.specs.Bits.{bit}
 use Rattle.laws.specs.Bounded.{tally}
-use Rattle.growing.specs.World.{World}
-use Rattle.link_search.specs.Nets.{Within, netOf}
+use Rattle.growing.specs.World.{World, targetCount}
+use Rattle.link_search.specs.Nets.{InLimits, netOf}
 use Rattle.worlds.specs.declared.Query.{Query}
 use Rattle.worlds.specs.declared.Built.{Built}
 use Rattle.worlds.specs.Kept.{Allowed, Sheet, worldIn}
@@ -16,7 +16,7 @@ use Rattle.worlds.specs.Kept.{Allowed, Sheet, worldIn}
 abbrev pub sourceAsked : Query → World → ℕ → Bool
 sourceAsked q w o = bit (w .kind o) (q .from) && w .link (q .column) o 0
 
-pub record Asked (q : Query) (w : World) : Type 0 where
+pub record Satisfies (q : Query) (w : World) : Type 0 where
   -- the seeds and their types, and the types that no other object has
   pub many : q .seeds ≤ w .size
   pub typed : (o : ℕ) → o < q .seeds → bit (w .kind o) (getD (q .types) o 0) ≡ true
@@ -25,8 +25,8 @@ pub record Asked (q : Query) (w : World) : Type 0 where
   pub must : (o s p : ℕ) → o < 8 → s < 32 → p < 8 → netOf (q .must) (o * 32 + s) p ≡ true → w .link s o p ≡ true
   pub shut : (o s p : ℕ) → o < 8 → s < 32 → p < 8 → netOf (q .shut) (o * 32 + s) p ≡ true → w .link s o p ≡ false
   -- how many targets and how many sources the first seed has
-  pub row : 0 < q .seeds → Within (q .low) (q .high) (tally (λ p. w .link (q .row) 0 p) (w .size))
-  pub column : 0 < q .seeds → Within (q .least) (q .most) (tally (sourceAsked q w) (w .size))
+  pub row : 0 < q .seeds → InLimits (q .low) (q .high) (targetCount w (q .row) 0)
+  pub column : 0 < q .seeds → InLimits (q .least) (q .most) (tally (sourceAsked q w) (w .size))
 
 -- a query speaks of links between seeds only, and of role slots
 pub record Sane (q : Query) : Type 0 where
@@ -39,19 +39,19 @@ pub record Sane (q : Query) : Type 0 where
 -- a world of n objects that the tables allow and the query asks for
 pub record Solution (x : Sheet) (q : Query) (n : ℕ) (w : World) : Type 0 where
   pub allowed : Allowed x w
-  pub asked : Asked q w
+  pub asked : Satisfies q w
   pub size : w .size ≡ n
 
 -- the world that was built, of n objects
 abbrev pub worldBuilt : ℕ → Built → World
 worldBuilt n b = worldIn n (b .types) (b .links)
 
--- the answer to "find a world with the property": `ok`, it is m; else there is none
+-- a world with the property: where `ok`, m is one; else there is none
 pub record Answers (S : World → Type 0) (ok : Bool) (m : World) : Type 0 where
   pub sound : ok ≡ true → S m
   pub complete : ok ≡ false → (w : World) → S w → ⊥
 
--- the answer to "find an allowed world of n objects that does not keep K": `ok`, it is m; else all keep it
+-- an allowed world of n objects that does not keep K: where `ok`, m is one; else all keep it
 pub record Breaks (x : Sheet) (K : World → Type 0) (n : ℕ) (ok : Bool) (m : World) : Type 0 where
   pub allowed : ok ≡ true → Allowed x m
   pub size : ok ≡ true → m .size ≡ n

@@ -10,8 +10,8 @@ use lib.ListN.{getD}
 use Rattle.laws.specs.Bits.{bit}
 use Rattle.laws.specs.Bounded.{any, tally}
 use Rattle.records.specs.declared.MemoryRecord.{MemoryRecord}
-use Rattle.growing.specs.World.{World}
-use Rattle.link_search.specs.Nets.{Within, netOf}
+use Rattle.growing.specs.World.{World, targetCount}
+use Rattle.link_search.specs.Nets.{InLimits, netOf}
 use Rattle.worlds.specs.declared.Lines.{Lines}
 
 -- the world of n objects whose types and rows of links stand in arrays, as in a record in memory
@@ -34,7 +34,7 @@ pub record SinglesKept (singles : ℕ) (w : World) : Type 0 where
 pub record RowsKept (targets lows highs : List ℕ) (w : World) : Type 0 where
   pub allowed : (s o p : ℕ) → s < 32 → o < w .size → p < w .size → w .link s o p ≡ true → bit (w .kind p) (getD targets (w .kind o * 32 + s) 0) ≡ true
   pub limited : (s o : ℕ) → s < 32 → o < w .size
-      → Within (getD lows (w .kind o * 32 + s) 0) (getD highs (w .kind o * 32 + s) 0) (tally (λ p. w .link s o p) (w .size))
+      → InLimits (getD lows (w .kind o * 32 + s) 0) (getD highs (w .kind o * 32 + s) 0) (targetCount w s o)
 
 -- o counts as a source of p by column j
 abbrev pub sourceBy : Lines → World → ℕ → ℕ → ℕ → Bool
@@ -43,7 +43,7 @@ sourceBy x w j p o = bit (w .kind o) (getD (x .columnfrom) j 0) && w .link (getD
 -- the number of sources of each target that is asked lies within the limits
 pub record ColumnsKept (x : Lines) (w : World) : Type 0 where
   pub at : (j p : ℕ) → j < 16 → p < w .size → bit (w .kind p) (getD (x .columnto) j 0) ≡ true
-      → Within (getD (x .columnlow) j 0) (getD (x .columnhigh) j 0) (tally (sourceBy x w j p) (w .size))
+      → InLimits (getD (x .columnlow) j 0) (getD (x .columnhigh) j 0) (tally (sourceBy x w j p) (w .size))
 
 -- a link stands exactly when the link back does
 pub record MirrorsKept (x : Lines) (w : World) : Type 0 where
@@ -88,7 +88,7 @@ pub record Allowed (x : Sheet) (w : World) : Type 0 where
 
 -- ---- all that another diagram asks of these worlds: no object of a bad type, no singleton class that is missing among the types
 
-pub record Keeps (bad singles : ℕ) (missing : Bool) (targets lows highs : List ℕ) (x : Lines) (w : World) : Type 0 where
+pub record AllKept (bad singles : ℕ) (missing : Bool) (targets lows highs : List ℕ) (x : Lines) (w : World) : Type 0 where
   pub types : TypesAvoided bad w
   pub present : missing ≡ false
   pub singles-kept : SinglesKept singles w
@@ -107,5 +107,5 @@ pub record Slotted (x : Lines) : Type 0 where
   pub whole : (j : ℕ) → j < 16 → getD (x .wholeslot) j 0 < 32
 
 -- the table of sources is the table of targets, turned: t may have u as a target in slot s
-pub record Turned (targets sources : List ℕ) : Type 0 where
+pub record SourceTable (targets sources : List ℕ) : Type 0 where
   pub at : (t s u : ℕ) → t < 24 → s < 32 → u < 24 → bit t (getD sources (u * 32 + s) 0) ≡ bit u (getD targets (t * 32 + s) 0)

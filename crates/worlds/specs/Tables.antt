@@ -15,7 +15,7 @@ use Rattle.type_tables.specs.Due.{due}
 use Rattle.type_tables.specs.Rows.{carriedTo, endAt, opposite}
 use Rattle.views.specs.Views.{columnFrom, columnHigh, columnLow, columnSlot, columnTo, countsAs, highBy, lowBy, mayTargetBy, mirrorFrom, mirrorLeft, mirrorRight, mirrorTo, slotBy, wholeFrom, wholeSlot, wholeTo}
 use Rattle.worlds.specs.declared.Lines.{Lines}
-use Rattle.worlds.specs.Kept.{Sheet, Slotted, Turned}
+use Rattle.worlds.specs.Kept.{Sheet, Slotted}
 
 -- ---- types
 

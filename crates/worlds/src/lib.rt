@@ -1,4 +1,6 @@
 // What the search by types works on: a query, tables by types, and what it finds.
+ghost use mathlib.Core.Path.{_≡_};
+ghost use mathlib.Core.Bool.{false};
 
 // A question about the sites that one diagram allows. Its seeds are the first objects.
 pub struct Query {
@@ -45,4 +47,15 @@ pub struct Built {
     pub ok: bool,
     pub types: [u8; 8],
     pub links: [u8; 256],
+}
+
+// No site was found.
+pub fn nothing() -> Built
+    ensures { λ r. ⌜ r .ok ≡ false ⌝ }
+{
+    Built {
+        ok: false,
+        types: [0u8; 8],
+        links: [0u8; 256],
+    }
 }

@@ -1,4 +1,3 @@
-pub mod IndexLaws
 pub mod WrittenLaws
 pub mod PutLaws
 pub mod PieceLaws

@@ -7,7 +7,6 @@ use mathlib.Core.Path.{_≡_, refl}
 use lib.Dec.{leb}
 use lib.ListN.{length}
 use borrow.Author.Tests.{leb-true}
-use Rattle.laws.specs.Connective.{both}
 use Rattle.laws.proofs.ConnectiveLaws.{both-left, both-right, true-false}
 use Rattle.files.specs.Diagram.{Diagram}
 use Rattle.records.specs.declared.MemoryRecord.{MemoryRecord}

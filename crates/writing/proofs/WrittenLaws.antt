@@ -13,7 +13,7 @@ use borrow.Author.Tests.{eqb-true, eq-eqb, eqb-false, ltb-true, ltb-false, lt-lt
 use Rattle.laws.specs.Connective.{both, either}
 use Rattle.laws.specs.Lists.{picked}
 use Rattle.laws.proofs.ConnectiveLaws.{both-left, both-right, both-of, either-left, either-right, either-cases, known}
-use Rattle.laws.proofs.PickedLaws.{picked-most, picked-rising}
+use Rattle.laws.proofs.PickedLaws.{picked-most, picked-rising, picked-each, rising-at}
 use Rattle.files.specs.Diagram.{Diagram, ValueType, attributeAt}
 use Rattle.files.specs.Name.{Name, before, sameName, validName}
 use Rattle.files.specs.Record.{Link, Value}
@@ -31,7 +31,6 @@ use Rattle.records.specs.Written.{Within, attributePlace, linkIn, linkIs, linkO
 use Rattle.records.proofs.PlaceLaws.{attribute-place, role-place}
 use Rattle.records.proofs.RankLaws.{place-order}
 use Rattle.records.proofs.WrittenLaws.{written-count, written-object}
-use Rattle.writing.proofs.IndexLaws.{picked-each, rising-at}
 
 -- ---- the places of a diagram's attributes and roles
 

@@ -14,7 +14,7 @@ const NEW: &[u8] = b"\x10\x00\x01\x01\x30\x00\x08\x00\x05Shelf\x00\x30\x00\x07\x
 const CARD: &[u8] = b"\x60\x00\x01\x01\x61\x00\x05\x04Card";
 
 #[test]
-fn a_row_of_all_seven_calls() {
+fn a_row_of_all_calls() {
     let calls = [
         Call::Load {
             place: 0,

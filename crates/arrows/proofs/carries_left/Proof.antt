@@ -1,6 +1,5 @@
 use Rattle.laws.specs.Connective.{either}
 use Rattle.rules.specs.Arrow.{carriesLeft}
-use borrow.Author.Needs.{needs}
 use Rattle.arrows.proofs.carries_left.Statement.{statement}
 use Rattle.arrows.proofs.carries_left.Tie as tie
 use Rattle.arrows.proofs.carries_left.Reads as reads

@@ -1,6 +1,5 @@
 use Rattle.laws.specs.Connective.{either}
 use Rattle.rules.specs.Arrow.{carriesRight}
-use borrow.Author.Needs.{needs}
 use Rattle.arrows.proofs.carries_right.Statement.{statement}
 use Rattle.arrows.proofs.carries_right.Tie as tie
 use Rattle.arrows.proofs.carries_right.Reads as reads

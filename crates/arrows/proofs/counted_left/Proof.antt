@@ -1,5 +1,4 @@
 use Rattle.rules.specs.Arrow.{countedLeft}
-use borrow.Author.Needs.{needs}
 use Rattle.arrows.proofs.counted_left.Statement.{statement}
 use Rattle.arrows.proofs.counted_left.Tie as tie
 use Rattle.arrows.proofs.counted_left.Reads as reads

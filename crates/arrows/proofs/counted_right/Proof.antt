@@ -1,5 +1,4 @@
 use Rattle.rules.specs.Arrow.{countedRight}
-use borrow.Author.Needs.{needs}
 use Rattle.arrows.proofs.counted_right.Statement.{statement}
 use Rattle.arrows.proofs.counted_right.Tie as tie
 use Rattle.arrows.proofs.counted_right.Reads as reads

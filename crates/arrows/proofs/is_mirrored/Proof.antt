@@ -1,5 +1,4 @@
 use Rattle.rules.specs.Arrow.{mirrors}
-use borrow.Author.Needs.{needs}
 use Rattle.arrows.proofs.is_mirrored.Statement.{statement}
 use Rattle.arrows.proofs.is_mirrored.Tie as tie
 use Rattle.arrows.proofs.is_mirrored.Reads as reads

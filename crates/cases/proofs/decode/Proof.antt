@@ -1,6 +1,5 @@
 use lib.ListN.{length, length-set}
-use native.Mathlib.Omega.{arith}
-use mathlib.Core.Path.{_≡_, _∙_}
+use mathlib.Core.Path.{_≡_}
 use Prim.Native.Nat.{_≤_, _-_}
 use borrow.Author.Needs.{needs}
 use Rattle.cases.proofs.decode.Statement.{statement}

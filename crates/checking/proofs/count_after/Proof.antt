@@ -1,4 +1,4 @@
-use Rattle.checking.proofs.ChoiceLaws.{choice}
+use Rattle.laws.proofs.SearchLaws.{choice}
 use borrow.Author.Needs.{needs}
 use Rattle.checking.proofs.count_after.Statement.{statement}
 use Rattle.checking.proofs.count_after.Tie as tie

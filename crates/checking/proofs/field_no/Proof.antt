@@ -1,4 +1,4 @@
-use Rattle.checking.proofs.ChoiceLaws.{choice}
+use Rattle.laws.proofs.SearchLaws.{choice}
 use Rattle.checking.specs.Progress.{fieldNo}
 use borrow.Author.Needs.{needs}
 use Rattle.checking.proofs.field_no.Statement.{statement}

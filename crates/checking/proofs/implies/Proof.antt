@@ -1,5 +1,4 @@
 use Rattle.laws.proofs.SearchLaws.{tests}
-use borrow.Author.Needs.{needs}
 use Rattle.checking.proofs.implies.Statement.{statement}
 use Rattle.checking.proofs.implies.Tie as tie
 use Rattle.checking.proofs.implies.Reads as reads

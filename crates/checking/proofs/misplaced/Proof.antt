@@ -1,7 +1,6 @@
 use Rattle.laws.specs.Bounded.{any}
 use Rattle.laws.specs.Connective.{both, either}
 use Rattle.files.specs.Refusal.{misplaced}
-use borrow.Author.Needs.{needs}
 use Rattle.checking.proofs.misplaced.Statement.{statement}
 use Rattle.checking.proofs.misplaced.Tie as tie
 use Rattle.checking.proofs.misplaced.Reads as reads

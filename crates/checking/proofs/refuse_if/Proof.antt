@@ -1,5 +1,4 @@
 use Rattle.laws.proofs.SearchLaws.{tests}
-use borrow.Author.Needs.{needs}
 use Rattle.checking.proofs.refuse_if.Statement.{statement}
 use Rattle.checking.proofs.refuse_if.Tie as tie
 use Rattle.checking.proofs.refuse_if.Reads as reads

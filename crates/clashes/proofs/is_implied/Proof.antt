@@ -4,12 +4,12 @@ use Prim.Native.Nat.{_<_}
 use mathlib.Core.Bool.{false≢true}
 use mathlib.Core.Path.{_≡_}
 use native.Mathlib.Omega.{arith}
-use Rattle.growing.specs.World.{World}
+use Rattle.growing.specs.World.{World, targetCount}
 use Rattle.growing.specs.Growth.{Nowhere}
-use Rattle.link_search.specs.Nets.{Within}
+use Rattle.link_search.specs.Nets.{InLimits}
 use Rattle.worlds.specs.Asked.{Solution}
 use Rattle.worlds.specs.Kept.{ColumnsKept, MirrorsKept, RowsKept, Sheet, WholesKept, sheet}
-use Rattle.clashes.specs.Counts.{SourcesKept, targetCount}
+use Rattle.clashes.specs.Sources.{SourcesKept}
 use Rattle.clashes.specs.Clashes.{FirstColumn}
 use Rattle.clashes.specs.Refuted.{BitsKept, Refuted, TargetsKept}
 use Rattle.clashes.proofs.SolutionLaws.{bits-kept, first-column, nowhere-by, sources-kept}
@@ -86,7 +86,7 @@ returns-5 c =
     let b = e .before in
     let a = b .args in
     λ _. by b
-    (λ w. (RowsKept (a .targets .now) (a .lows .now) (a .highs .now) w × Within (a .q .low) (a .q .high) (targetCount w (a .q .row) 0)) × (MirrorsKept (a .lines) w × WholesKept (a .lines) w))
+    (λ w. (RowsKept (a .targets .now) (a .lows .now) (a .highs .now) w × InLimits (a .q .low) (a .q .high) (targetCount w (a .q .row) 0)) × (MirrorsKept (a .lines) w × WholesKept (a .lines) w))
     (λ w s. ((s .allowed .rows, s .asked .row (seeded e)), (s .allowed .mirrors, s .allowed .wholes)))
     (c .before .is-bad-first-part .ensures (c .if5 .taken) (a .lows .now) (a .highs .now) (a .q .high) (a .q .seeds) (seeded e))
 
@@ -99,7 +99,7 @@ returns-6 c =
     let b = e .before in
     let a = b .args in
     λ _. by b
-    (λ w. (RowsKept (a .targets .now) (a .lows .now) (a .highs .now) w × Within (a .q .low) (a .q .high) (targetCount w (a .q .row) 0)) × (SourcesKept (a .sources .now) w × ColumnsKept (a .lines) w × MirrorsKept (a .lines) w))
+    (λ w. (RowsKept (a .targets .now) (a .lows .now) (a .highs .now) w × InLimits (a .q .low) (a .q .high) (targetCount w (a .q .row) 0)) × (SourcesKept (a .sources .now) w × ColumnsKept (a .lines) w × MirrorsKept (a .lines) w))
     (λ w s. ((s .allowed .rows, s .asked .row (seeded e)), (sources-kept (sheetOf b) (a .q) (a .n) (a .sources .now) (b .pre .1) w s, s .allowed .columns, s .allowed .mirrors)))
     (c .before .is-bad-first-back .ensures (c .if6 .taken) (a .lows .now) (a .highs .now) (a .q .seeds) (seeded e))
 
@@ -112,7 +112,7 @@ returns-7 c =
     let b = e .before in
     let a = b .args in
     let x = sheetOf b in
-    λ _. by b (λ w. RowsKept (a .targets .now) (a .lows .now) (a .highs .now) w × Within (a .q .low) (a .q .high) (targetCount w (a .q .row) 0))
+    λ _. by b (λ w. RowsKept (a .targets .now) (a .lows .now) (a .highs .now) w × InLimits (a .q .low) (a .q .high) (targetCount w (a .q .row) 0))
     (λ w s. (s .allowed .rows, s .asked .row (seeded e))) (c .before .is-bad-first-row .ensures (c .if7 .taken) (a .targets .now) (a .q .seeds) (seeded e))
 
 is-bad-first-column-requires : tie.Need-is-bad-first-column-requires

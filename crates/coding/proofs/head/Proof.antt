@@ -4,16 +4,13 @@ use Rattle.coding.proofs.head.Statement.{statement}
 use Rattle.coding.proofs.head.Tie as tie
 use Rattle.coding.proofs.head.Reads as reads
 use Rattle.coding.proofs.head.Lts as lts
-use Rattle.coding.proofs.length_in.Reads as length-in-reads
+use Rattle.coding.proofs.parts_of.Reads as parts-of-reads
 use Rattle.coding.proofs.put.Reads as put-reads
-use Rattle.coding.proofs.status_of.Reads as status-of-reads
 use Rattle.fields.proofs.low.Reads as low-reads
+use Rattle.laws.proofs.front.Reads as front-reads
 
-length-in-requires : tie.Need-length-in-requires
-length-in-requires c κs = search needs
-
-status-of-requires : tie.Need-status-of-requires
-status-of-requires c κs = search needs
+parts-of-requires : tie.Need-parts-of-requires
+parts-of-requires c κs = search needs
 
 low-requires : tie.Need-low-requires
 low-requires c κs = search needs
@@ -30,6 +27,12 @@ low-requires-4 c κs = search needs
 slice-aggregate-put : tie.Need-slice-aggregate-put
 slice-aggregate-put c = search needs
 
+slice-aggregate-front : tie.Need-slice-aggregate-front
+slice-aggregate-front c = search needs
+
+front-requires : tie.Need-front-requires
+front-requires c κs = search needs
+
 put-requires : tie.Need-put-requires
 put-requires c κs = search needs
 
@@ -43,13 +46,14 @@ pub head-spec : {M : Type 1} → statement M
 head-spec =
     tie.close
     (tie.spec
-    length-in-requires
-    status-of-requires
+    parts-of-requires
     low-requires
     low-requires-2
     low-requires-3
     low-requires-4
     slice-aggregate-put
+    slice-aggregate-front
+    front-requires
     put-requires
     same-length
     returns)

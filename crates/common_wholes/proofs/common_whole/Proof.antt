@@ -3,7 +3,7 @@
 use Prim.Native.Nat.{_-_, _≤_}
 use mathlib.Core.Bool.{true}
 use mathlib.Core.Logic.{⊎-elim}
-use mathlib.Core.Path.{_∙_, _≡_, refl, subst, sym}
+use mathlib.Core.Path.{_≡_, refl, subst, sym}
 use native.Mathlib.Omega.{arith}
 use Rattle.laws.proofs.ConnectiveLaws.{true-false}
 use Rattle.common_wholes.specs.declared.Shared.{Shared}

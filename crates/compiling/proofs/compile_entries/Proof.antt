@@ -8,7 +8,7 @@ use Rattle.compiling.proofs.compile_entries.Statement.{statement}
 use Rattle.compiling.proofs.compile_entries.Tie as tie
 use Rattle.compiling.proofs.compile_entries.Reads as reads
 use Rattle.compiling.proofs.compile_entries.Lts as lts
-use Rattle.compiling.proofs.no_entries.Reads as no-entries-reads
+use Rattle.entries.proofs.no_entries.Reads as no-entries-reads
 use Rattle.compiling.proofs.push_association.Reads as push-association-reads
 
 abbrev Inv-loop : tie.InvT-loop

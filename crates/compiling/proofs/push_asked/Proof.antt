@@ -1,12 +1,12 @@
 use Rattle.compiling.proofs.EntryLaws.{none-asked, five-asked, six-asked, seven-asked}
-use Rattle.compiling.proofs.AppendLaws.{appends-as, appends-none}
+use Rattle.entries.proofs.AppendLaws.{appends-as, appends-none}
 use native.Mathlib.Omega.{arith}
 use borrow.Author.Needs.{needs}
 use Rattle.compiling.proofs.push_asked.Statement.{statement}
 use Rattle.compiling.proofs.push_asked.Tie as tie
 use Rattle.compiling.proofs.push_asked.Reads as reads
 use Rattle.compiling.proofs.push_asked.Lts as lts
-use Rattle.compiling.proofs.push.Reads as push-reads
+use Rattle.entries.proofs.push.Reads as push-reads
 use Rattle.compiling.proofs.push_limited.Reads as push-limited-reads
 use Rattle.laws.proofs.wide.Reads as wide-reads
 

@@ -1,11 +1,11 @@
 use Rattle.compiling.proofs.EntryLaws.{limited-none, limited-some}
-use Rattle.compiling.proofs.AppendLaws.{appends-as}
+use Rattle.entries.proofs.AppendLaws.{appends-as}
 use borrow.Author.Needs.{needs}
 use Rattle.compiling.proofs.push_limited.Statement.{statement}
 use Rattle.compiling.proofs.push_limited.Tie as tie
 use Rattle.compiling.proofs.push_limited.Reads as reads
 use Rattle.compiling.proofs.push_limited.Lts as lts
-use Rattle.compiling.proofs.push.Reads as push-reads
+use Rattle.entries.proofs.push.Reads as push-reads
 
 add-push : tie.Need-add-push
 add-push c = search needs

@@ -2,9 +2,9 @@ use Prim.Native.Nat.{_+_, _-_, _≤_}
 use mathlib.Core.Path.{_≡_, sym}
 use Rattle.diagrams.specs.View.{associationIn}
 use Rattle.compiling.specs.Table.{entriesFor}
-use Rattle.compiling.specs.View.{Appends}
+use Rattle.entries.specs.View.{Appends}
 use Rattle.compiling.proofs.TableLaws.{askedTo, asked-begin, asked-more, asked-whole, sides-known}
-use Rattle.compiling.proofs.AppendLaws.{appends-as, appends-none, appends-then}
+use Rattle.entries.proofs.AppendLaws.{appends-as, appends-none, appends-then}
 use native.Mathlib.Omega.{arith}
 use borrow.Author.Needs.{needs}
 use Rattle.compiling.proofs.push_row.Statement.{statement}

@@ -1,13 +1,13 @@
 use native.Mathlib.Omega.{arith}
 use Rattle.diagrams.specs.View.{associationIn}
-use Rattle.compiling.proofs.AppendLaws.{appends-as, appends-none}
+use Rattle.entries.proofs.AppendLaws.{appends-as, appends-none}
 use Rattle.compiling.proofs.TableLaws.{whole-no, whole-yes}
 use borrow.Author.Needs.{needs}
 use Rattle.compiling.proofs.push_whole.Statement.{statement}
 use Rattle.compiling.proofs.push_whole.Tie as tie
 use Rattle.compiling.proofs.push_whole.Reads as reads
 use Rattle.compiling.proofs.push_whole.Lts as lts
-use Rattle.compiling.proofs.push.Reads as push-reads
+use Rattle.entries.proofs.push.Reads as push-reads
 
 element-copy-out-if1 : tie.Need-element-copy-out-if1
 element-copy-out-if1 c = search needs

@@ -1,5 +1,5 @@
 use native.Mathlib.Omega.{arith}
-use Rattle.compiling.specs.View.{entryIn}
+use Rattle.entries.specs.View.{entryIn}
 use Rattle.compiling.proofs.ByteLaws.{bytes-more}
 use borrow.Author.Needs.{needs}
 use Rattle.compiling.proofs.put_entry.Statement.{statement}

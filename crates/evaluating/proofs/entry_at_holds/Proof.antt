@@ -1,4 +1,4 @@
-use Rattle.evaluating.proofs.KnownLaws.{entry-known, entry-is}
+use Rattle.entries.specs.View.{entryIn}
 use borrow.Author.Needs.{needs}
 use Rattle.evaluating.proofs.entry_at_holds.Statement.{statement}
 use Rattle.evaluating.proofs.entry_at_holds.Tie as tie
@@ -28,14 +28,14 @@ element-copy-out-entry-holds-5 : tie.Need-element-copy-out-entry-holds-5
 element-copy-out-entry-holds-5 c = search needs
 
 entry-holds-requires : tie.Need-entry-holds-requires
+unfolding entryIn
 entry-holds-requires c κs =
     let s = c .before .before .before .before .before in
-    (s .pre .0, entry-known (s .args .d) (s .args .t5) (s .pre .0 .held) (s .pre .1 .0) (s .args .k) (s .pre .1 .1))
+    (s .pre .0, s .pre .1 .0 .association (s .args .k) (s .pre .1 .1))
 
 returns : tie.Need-returns
-returns c =
-    let s = c .before .before .before .before .before .before in
-    entry-is (s .args .d) _ (s .args .t5) (s .pre .1 .0) (s .args .k) (c .entry-holds .ensures)
+unfolding entryIn
+returns c = c .entry-holds .ensures
 
 pub entry-at-holds-spec : {M : Type 1} → statement M
 entry-at-holds-spec =

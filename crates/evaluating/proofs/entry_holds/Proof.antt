@@ -1,4 +1,5 @@
 use Rattle.evaluating.proofs.EntryLaws.{kinds}
+use Rattle.memory_rules.specs.SiteIn.{siteIn}
 use borrow.Author.Needs.{needs}
 use Rattle.evaluating.proofs.entry_holds.Statement.{statement}
 use Rattle.evaluating.proofs.entry_holds.Tie as tie
@@ -13,6 +14,7 @@ targets-hold-requires : tie.Need-targets-hold-requires
 targets-hold-requires c κs = search needs
 
 returns : tie.Need-returns
+unfolding siteIn
 returns c = search (kinds, needs) depth 8 fits 20000
 
 targets-hold-requires-2 : tie.Need-targets-hold-requires-2
@@ -25,6 +27,7 @@ sources-hold-requires : tie.Need-sources-hold-requires
 sources-hold-requires c κs = search needs
 
 returns-3 : tie.Need-returns-3
+unfolding siteIn
 returns-3 c = search (kinds, needs) depth 8 fits 20000
 
 sources-hold-requires-2 : tie.Need-sources-hold-requires-2

@@ -1,6 +1,7 @@
 use Rattle.memory_rules.specs.SiteIn.{siteIn}
 use Rattle.rules.specs.Evaluate.{holds}
-use Rattle.rules.specs.Compile.{compile, entryAt}
+use Rattle.entries.specs.View.{entryIn}
+use Rattle.evaluating.proofs.KnownLaws.{failing-is}
 use Rattle.diagrams.specs.View.{diagramOf}
 use Rattle.laws.proofs.LoopLaws.{each}
 use Rattle.laws.specs.Bounded.{all}
@@ -15,7 +16,7 @@ use Rattle.evaluating.proofs.first_failing.Lts as lts
 use Rattle.evaluating.proofs.entry_at_holds.Reads as entry-at-holds-reads
 
 abbrev Inv-loop : tie.InvT-loop
-Inv-loop d m masks roles e n k₀ k = (k ≤ n) × (all (λ k. holds (diagramOf d) (siteIn (diagramOf d) m) (entryAt (compile (diagramOf d)) k)) k ≡ true)
+Inv-loop d m masks roles e n k₀ k = (k ≤ n) × (all (λ k. holds (diagramOf d) (siteIn (diagramOf d) m) (entryIn e k)) k ≡ true)
 
 abbrev μ-loop : tie.MeasureT-loop
 μ-loop d m masks roles e n k₀ k = n - k
@@ -27,7 +28,7 @@ entry-at-holds-requires : tie.Need-entry-at-holds-requires Inv-loop μ-loop
 entry-at-holds-requires c κs = search needs
 
 returns : tie.Need-returns Inv-loop μ-loop
-returns c = search each
+returns c = failing-is _ _ _ (search each)
 
 add-k : tie.Need-add-k Inv-loop μ-loop
 add-k c = search needs
@@ -39,7 +40,7 @@ loop-again : tie.Need-loop-again Inv-loop μ-loop
 loop-again c = search each
 
 returns-2 : tie.Need-returns-2 Inv-loop μ-loop
-returns-2 c = search each
+returns-2 c = failing-is _ _ _ (search each)
 
 pub first-failing-spec : {M : Type 1} → statement M
 first-failing-spec =

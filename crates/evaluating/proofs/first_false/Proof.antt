@@ -1,4 +1,6 @@
-use Rattle.evaluating.proofs.KnownLaws.{failing-is}
+use mathlib.Core.Path.{ap, _∙_}
+use Rattle.rules.specs.Evaluate.{firstFailing}
+use Rattle.evaluating.proofs.KnownLaws.{compiled-named}
 use borrow.Author.Needs.{needs}
 use Rattle.evaluating.proofs.first_false.Statement.{statement}
 use Rattle.evaluating.proofs.first_false.Tie as tie
@@ -19,10 +21,10 @@ compile-entries-requires : tie.Need-compile-entries-requires
 compile-entries-requires c κs = search needs
 
 first-failing-requires : tie.Need-first-failing-requires
-first-failing-requires c κs = search needs
+first-failing-requires c κs = search (needs, compiled-named)
 
 returns : tie.Need-returns
-returns c = failing-is _ _ _ (c .before .before .before .compile-entries .ensures) (c .first-failing .ensures)
+returns c = c .first-failing .ensures ∙ ap (firstFailing _ _) (c .before .before .before .compile-entries .ensures .entries)
 
 pub first-false-spec : {M : Type 1} → statement M
 first-false-spec =

@@ -1,5 +1,6 @@
 use Rattle.masks.specs.Masks.{limitsOf}
-use Rattle.evaluating.proofs.SideLaws.{sources-0, sources-1}
+use Rattle.rules.specs.Evaluate.{sideOf}
+use Rattle.evaluating.proofs.SideLaws.{sources-of}
 use native.Mathlib.Omega.{arith}
 use Rattle.judging.proofs.TabledLaws.{tabled-judged}
 use Rattle.link_rules.proofs.JudgedLaws.{judged-fits}
@@ -17,49 +18,17 @@ cast-n c = search needs
 wide-requires : tie.Need-wide-requires
 wide-requires c κs = search needs
 
-mul-left : tie.Need-mul-left
-mul-left c = search needs
-
-add-sources-hold : tie.Need-add-sources-hold
-add-sources-hold c = search needs
-
 sources-hold-requires : tie.Need-sources-hold-requires
 sources-hold-requires c κs =
-    let s = c .before .before .before .before .before .before in
-    let w = c .before .before .wide .ensures .0 in
-    (judged-fits (tabled-judged (s .pre .0)), (omega (arith, s .pre .1), omega (arith, s .pre .1)))
+    let s = c .before .before .before .before .before in
+    let w = c .wide .ensures .0 in
+    (judged-fits (tabled-judged (s .pre .0)), omega (arith, s .pre .1))
 
 returns : tie.Need-returns
 returns c =
-    let s = c .before .before .before .before .before .before .before in
-    sources-0 (tabled-judged (s .pre .0)) (s .args .i) (s .pre .1) (s .args .side) (limitsOf (s .args .low) (s .args .up)) _ (c .before .before .before .wide .ensures .0)
-    (c .before .before .if1 .taken) (c .sources-hold .ensures)
-
-add-sources-hold-2 : tie.Need-add-sources-hold-2
-add-sources-hold-2 c = search needs
-
-sources-hold-requires-2 : tie.Need-sources-hold-requires-2
-sources-hold-requires-2 c κs =
     let s = c .before .before .before .before .before .before in
-    let w = c .before .before .wide .ensures .0 in
-    (judged-fits (tabled-judged (s .pre .0)), (omega (arith, s .pre .1), omega (arith, s .pre .1)))
-
-returns-2 : tie.Need-returns-2
-returns-2 c =
-    let s = c .before .before .before .before .before .before .before in
-    sources-1 (tabled-judged (s .pre .0)) (s .args .i) (s .pre .1) (s .args .side) (limitsOf (s .args .low) (s .args .up)) _ (c .before .before .before .wide .ensures .0)
-    (c .before .before .if1 .left) (c .sources-hold2 .ensures)
+    sources-of (tabled-judged (s .pre .0)) (s .args .i) (s .pre .1) _ (c .before .wide .ensures .0) (sideOf (s .args .side)) (limitsOf (s .args .low) (s .args .up)) (c .sources-hold .ensures)
 
 pub sources-hold-spec : {M : Type 1} → statement M
 sources-hold-spec =
-    tie.close
-    (tie.spec
-    cast-n
-    wide-requires
-    mul-left
-    add-sources-hold
-    sources-hold-requires
-    returns
-    add-sources-hold-2
-    sources-hold-requires-2
-    returns-2)
+    tie.close (tie.spec cast-n wide-requires sources-hold-requires returns)

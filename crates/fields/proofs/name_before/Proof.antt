@@ -1,4 +1,4 @@
-use Rattle.files.specs.Name.{before}
+use Rattle.files.specs.Name.{before, key}
 use borrow.Author.Needs.{needs}
 use Rattle.fields.proofs.name_before.Statement.{statement}
 use Rattle.fields.proofs.name_before.Tie as tie
@@ -14,7 +14,7 @@ is-less-requires : tie.Need-is-less-requires
 is-less-requires c κs = search needs
 
 returns : tie.Need-returns
-unfolding before
+unfolding before key
 returns c = cc
 
 pub name-before-spec : {M : Type 1} → statement M

@@ -1,6 +1,5 @@
 use Rattle.laws.specs.Connective.{both, either}
 use Rattle.files.specs.Name.{nameByte}
-use borrow.Author.Needs.{needs}
 use Rattle.fields.proofs.name_byte.Statement.{statement}
 use Rattle.fields.proofs.name_byte.Tie as tie
 use Rattle.fields.proofs.name_byte.Reads as reads

@@ -1,4 +1,4 @@
-use Rattle.files.specs.Name.{sameName}
+use Rattle.files.specs.Name.{key, sameName}
 use borrow.Author.Needs.{needs}
 use Rattle.fields.proofs.same_name.Statement.{statement}
 use Rattle.fields.proofs.same_name.Tie as tie
@@ -14,7 +14,7 @@ is-equal-requires : tie.Need-is-equal-requires
 is-equal-requires c κs = search needs
 
 returns : tie.Need-returns
-unfolding sameName
+unfolding sameName key
 returns c = cc
 
 pub same-name-spec : {M : Type 1} → statement M

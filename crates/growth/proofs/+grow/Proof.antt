@@ -27,7 +27,7 @@ use Rattle.growth.proofs.+grow.Lts-grow as grow-lts
 use Rattle.demands.proofs.demand.Reads as demand-reads
 use Rattle.growth.proofs.is_fresh.Reads as is-fresh-reads
 use Rattle.leaves.proofs.ends.Reads as ends-reads
-use Rattle.growth.proofs.nothing.Reads as nothing-reads
+use Rattle.worlds.proofs.nothing.Reads as nothing-reads
 use Rattle.growth.proofs.put.Reads as put-reads
 use Rattle.laws.proofs.with32.Reads as with32-reads
 use Rattle.growth.proofs.+grow.{statement}

@@ -23,7 +23,7 @@ use Rattle.clashes.proofs.is_implied.Reads as is-implied-reads
 use Rattle.relaxing.proofs.is_stuck.Reads as is-stuck-reads
 use Rattle.growth.proofs.grow.Reads as grow-reads
 use Rattle.growth.proofs.is_common.Reads as is-common-reads
-use Rattle.growth.proofs.nothing.Reads as nothing-reads
+use Rattle.worlds.proofs.nothing.Reads as nothing-reads
 use Rattle.growth.proofs.put.Reads as put-reads
 use Rattle.growth.proofs.+seed.{statement}
 use Rattle.growth.proofs.+seed.Tie.{close}

@@ -6,7 +6,7 @@ use Rattle.growth.proofs.SeedLaws.{answers-few, answers-grown}
 use borrow.Author.Needs.{needs}
 use Rattle.growth.proofs.find.Statement.{statement}
 use Rattle.growth.proofs.find.Tie as tie
-use Rattle.growth.proofs.nothing.Reads as nothing-reads
+use Rattle.worlds.proofs.nothing.Reads as nothing-reads
 use Rattle.growth.proofs.seed.Reads as seed-reads
 
 nothing-requires : tie.Need-nothing-requires

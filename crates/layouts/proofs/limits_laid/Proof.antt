@@ -1,7 +1,6 @@
 use Rattle.files.specs.DiagramLayout.{limitsLaid}
 use Rattle.files.specs.Content.{atEnd}
 use Rattle.laws.specs.Connective.{both, either}
-use borrow.Author.Needs.{needs}
 use Rattle.layouts.proofs.limits_laid.Statement.{statement}
 use Rattle.layouts.proofs.limits_laid.Tie as tie
 use Rattle.layouts.proofs.limits_laid.Reads as reads

@@ -1,5 +1,5 @@
-use Rattle.layouts.proofs.NamesLaws.{starts, past-begin, past-next, past-done, starts-at, laid-not, laid-end}
-use Rattle.files.specs.Content.{pastNames, atEnd}
+use Rattle.layouts.proofs.NamesLaws.{starts, past-begin, past-next, starts-at, laid-not, laid-end}
+use Rattle.files.specs.Content.{pastNames}
 use Rattle.laws.proofs.LoopLaws.{each}
 use Rattle.laws.specs.Bounded.{all}
 use mathlib.Core.Bool.{true}

@@ -6,9 +6,8 @@ use mathlib.Core.Logic.{⊎-elim}
 use mathlib.Core.Path.{_≡_, sym, subst}
 use borrow.Author.Needs.{needs}
 use lib.ListN.{getD}
-use Rattle.laws.proofs.MaskLaws.{mask-begin, mask-with, mask-miss, mask-done}
+use Rattle.laws.proofs.MaskLaws.{mask-begin, mask-with, mask-miss, mask-done, none-marked}
 use Rattle.laws.specs.Bits.{Marks}
-use Rattle.leaves.proofs.MaskLaws.{none-marked}
 use Rattle.leaves.specs.Fitting.{typed}
 use Rattle.leaves.proofs.among.Statement.{statement}
 use Rattle.leaves.proofs.among.Tie as tie

@@ -1,5 +1,4 @@
 use mathlib.Core.Path.{refl}
-use native.Mathlib.Omega.{arith}
 use borrow.Author.Needs.{needs}
 use Rattle.link_rules.proofs.slot.Statement.{statement}
 use Rattle.link_rules.proofs.slot.Tie as tie

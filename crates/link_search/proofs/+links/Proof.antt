@@ -4,7 +4,7 @@ use Prim.Native.Nat.{ℕ, _<_}
 use mathlib.Core.Path.{_≡_}
 use native.Mathlib.Omega.{arith}
 use Rattle.link_search.specs.Nets.{Net, openBits}
-use Rattle.link_search.specs.Families.{Fits}
+use Rattle.link_search.specs.Families.{NetFits}
 use Rattle.link_search.proofs.NetLaws.{answer-dead, answer-fine, Try, try-falls, try-long, try-long-may, again-falls, again-long, again-long-may, answer-first, answer-second, answer-none}
 use Rattle.link_search.specs.declared.Sight.{Sight}
 use borrow.Author.Needs.{needs}
@@ -37,7 +37,7 @@ module _ (t : ℕ) where
 
   -- what is asked
   abbrev Right : Start → Net → Type 0
-  Right c = Fits (c .args .row-low .now) (c .args .row-high .now) (c .args .column-slot .now) (c .args .column-from .now) (c .args .column-low .now) (c .args .column-high .now) (c .args .mirror-right .now) (c .args .mirror-left .now) (c .args .mirror-from .now) (c .args .mirror-to .now) (c .args .whole-slot .now) (c .args .whole-from .now) (c .args .whole-to .now)
+  Right c = NetFits (c .args .row-low .now) (c .args .row-high .now) (c .args .column-slot .now) (c .args .column-from .now) (c .args .column-low .now) (c .args .column-high .now) (c .args .mirror-right .now) (c .args .mirror-left .now) (c .args .mirror-from .now) (c .args .mirror-to .now) (c .args .whole-slot .now) (c .args .whole-from .now) (c .args .whole-to .now)
 
   abbrev Wanted : Type 0
   Wanted = links-lts.Else2 (calls t) (links-at t) links.Post

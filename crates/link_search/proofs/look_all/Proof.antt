@@ -1,9 +1,7 @@
 -- `look_all` meets its contract: a look at each family, joined.
 -- Assumes nothing.
-use mathlib.Core.Path.{_≡_, sym, ap, subst, _∙_}
-use mathlib.Core.List.{List}
-use Prim.Native.Nat.{ℕ}
-use Rattle.link_search.specs.Families.{Fits}
+use mathlib.Core.Path.{sym, ap, subst, _∙_}
+use Rattle.link_search.specs.Families.{NetFits}
 use Rattle.link_search.specs.Answers.{Looked, joined}
 use Rattle.link_search.specs.declared.Sight.{Sight}
 use Rattle.link_search.proofs.JoinLaws.{looked-dead-part, looked-fits}
@@ -51,7 +49,7 @@ returns-2 c =
     let k1 = k2 .before in
     let k0 = k1 .before .before .before in
     let a = k0 .before .args in
-    subst (Looked (Fits (a .row-low .now) (a .row-high .now) (a .column-slot .now) (a .column-from .now) (a .column-low .now) (a .column-high .now) (a .mirror-right .now) (a .mirror-left .now) (a .mirror-from .now) (a .mirror-to .now) (a .whole-slot .now) (a .whole-from .now) (a .whole-to .now)) (a .must .now) (a .may .now)) (sym (c .join3 .ensures ∙ ap (λ (l : Sight). joined l (k3 .look-wholes .result)) (j2 .join2 .ensures ∙ ap (λ (l : Sight). joined l (k1 .look-columns .result)) (j1 .join .ensures))))
+    subst (Looked (NetFits (a .row-low .now) (a .row-high .now) (a .column-slot .now) (a .column-from .now) (a .column-low .now) (a .column-high .now) (a .mirror-right .now) (a .mirror-left .now) (a .mirror-from .now) (a .mirror-to .now) (a .whole-slot .now) (a .whole-from .now) (a .whole-to .now)) (a .must .now) (a .may .now)) (sym (c .join3 .ensures ∙ ap (λ (l : Sight). joined l (k3 .look-wholes .result)) (j2 .join2 .ensures ∙ ap (λ (l : Sight). joined l (k1 .look-columns .result)) (j1 .join .ensures))))
     (looked-fits (k0 .look-rows .ensures) (k1 .look-columns .ensures) (k2 .look-mirrors .ensures) (k3 .look-wholes .ensures))
 
 pub look-all-spec : {M : Type 1} → statement M

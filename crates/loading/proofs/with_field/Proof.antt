@@ -1,5 +1,4 @@
-use Rattle.loading.proofs.GrownLaws.{allowed-value-type, allowed-type, allowed-attribute, allowed-association, grown-edition, grown-value-type, grown-type, grown-attribute, grown-association}
-use borrow.Author.Needs.{needs}
+use Rattle.loading.proofs.WithFieldLaws.{allowed-value-type, allowed-type, allowed-attribute, allowed-association, grown-edition, grown-value-type, grown-type, grown-attribute, grown-association}
 use Rattle.loading.proofs.with_field.Statement.{statement}
 use Rattle.loading.proofs.with_field.Tie as tie
 use Rattle.loading.proofs.with_field.Reads as reads

@@ -1,6 +1,4 @@
-use mathlib.Core.Path.{refl}
 use Rattle.laws.proofs.SearchLaws.{same-yes, same-no}
-use borrow.Author.Needs.{needs}
 use Rattle.masks.proofs.is_same.Statement.{statement}
 use Rattle.masks.proofs.is_same.Tie as tie
 use Rattle.masks.proofs.is_same.Reads as reads

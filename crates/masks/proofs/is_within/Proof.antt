@@ -1,6 +1,5 @@
 use Rattle.masks.proofs.MaskRuleLaws.{within-is}
 use Rattle.laws.specs.Connective.{both, either}
-use borrow.Author.Needs.{needs}
 use Rattle.masks.proofs.is_within.Statement.{statement}
 use Rattle.masks.proofs.is_within.Tie as tie
 use Rattle.masks.proofs.is_within.Reads as reads

@@ -1,4 +1,4 @@
-use Rattle.masks.specs.Masks.{limitsOf, mirrorFits, mirrorRowFits}
+use Rattle.masks.specs.Masks.{mirrorFits, mirrorRowFits}
 use Rattle.laws.proofs.LoopLaws.{each}
 use Rattle.laws.specs.Bounded.{all}
 use mathlib.Core.Bool.{true}

@@ -1,4 +1,4 @@
-use Rattle.masks.specs.Masks.{limitsOf, mirrorRowFits, mirrorsFit}
+use Rattle.masks.specs.Masks.{mirrorRowFits, mirrorsFit}
 use Rattle.laws.proofs.LoopLaws.{each}
 use Rattle.laws.specs.Bounded.{all}
 use mathlib.Core.Bool.{true}

@@ -3,7 +3,7 @@ use Rattle.laws.proofs.MaskLaws.{mask-begin, mask-with, mask-miss, mask-done}
 use Rattle.laws.specs.Bits.{bit, Marks}
 use native.Mathlib.Omega.{arith}
 use mathlib.Core.Logic.{⊎-elim}
-use mathlib.Core.Path.{_≡_, ap, _∙_}
+use mathlib.Core.Path.{ap, _∙_}
 use Prim.Native.Nat.{_≤_, _-_}
 use borrow.Author.Needs.{needs}
 use Rattle.masks.proofs.wholes_by.Statement.{statement}

@@ -1,6 +1,6 @@
 -- `only` meets its contract, bit by bit.
 -- Assumes nothing.
-use Rattle.queries.proofs.TypeLaws.{bit-only}
+use Rattle.laws.proofs.BitLaws.{bit-only}
 use borrow.Author.Needs.{needs}
 use Rattle.queries.proofs.only.Statement.{statement}
 use Rattle.queries.proofs.only.Tie as tie

@@ -1,7 +1,6 @@
 use Rattle.laws.specs.Bounded.{any}
 use Rattle.files.specs.Refusal.{misplaced}
 use Rattle.laws.specs.Connective.{both, either}
-use borrow.Author.Needs.{needs}
 use Rattle.refusing.proofs.is_misplaced.Statement.{statement}
 use Rattle.refusing.proofs.is_misplaced.Tie as tie
 use Rattle.refusing.proofs.is_misplaced.Reads as reads

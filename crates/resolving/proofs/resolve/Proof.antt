@@ -9,7 +9,7 @@ use Rattle.resolving.proofs.resolve.Lts as lts
 use Rattle.fields.proofs.after.Reads as after-reads
 use Rattle.fields.proofs.content.Reads as content-reads
 use Rattle.fields.proofs.read_head.Reads as read-head-reads
-use Rattle.resolving.proofs.empty_memory.Reads as empty-memory-reads
+use Rattle.records.proofs.empty_record.Reads as empty-record-reads
 use Rattle.resolving.proofs.put_field.Reads as put-field-reads
 
 abbrev Inv-loop : tie.InvT-loop
@@ -18,8 +18,8 @@ Inv-loop d file m₀ s₀ m s = Reads (diagramOf d) file m s
 abbrev μ-loop : tie.MeasureT-loop
 μ-loop d file m₀ s₀ m s = length s
 
-empty-memory-requires : tie.Need-empty-memory-requires Inv-loop μ-loop
-empty-memory-requires c κs = search needs
+empty-record-requires : tie.Need-empty-record-requires Inv-loop μ-loop
+empty-record-requires c κs = search needs
 
 loop-holds : tie.Need-loop-holds Inv-loop μ-loop
 loop-holds c = search reading depth 8 fits 20000
@@ -60,7 +60,7 @@ resolve-spec =
     (tie.spec
     Inv-loop
     μ-loop
-    empty-memory-requires
+    empty-record-requires
     loop-holds
     read-head-requires
     enum-told

@@ -1,11 +1,10 @@
-use Rattle.sheets.proofs.ArrayLaws.{set-every, zeros-few}
 use native.Mathlib.Omega.{arith}
 use Prim.Native.Nat.{_-_, _<_, _≤_, ℕ}
 use mathlib.Core.Path.{_∙_, _≡_, ap}
 use borrow.Author.Count.{below-none}
 use lib.ListN.{getD, length}
 use Rattle.fields.specs.Slot.{slotName}
-use Rattle.laws.proofs.ListLaws.{set-more}
+use Rattle.laws.proofs.ListLaws.{set-more, set-each, zeros}
 use Rattle.resolving.specs.Lookup.{slotOf}
 use borrow.Author.Needs.{needs}
 use Rattle.sheets.proofs.roles_found.Statement.{statement}
@@ -24,7 +23,7 @@ abbrev μ-loop : tie.MeasureT-loop
 μ-loop names n others m r₀ e₀ r e = m - e
 
 loop-holds : tie.Need-loop-holds Inv-loop μ-loop
-loop-holds c = (search needs, search needs, below-none _, zeros-few 32 (c .args .n))
+loop-holds c = (search needs, search needs, below-none _, λ i. omega (arith, zeros 32 i))
 
 slot-name-requires : tie.Need-slot-name-requires Inv-loop μ-loop
 slot-name-requires c κs = search needs
@@ -51,7 +50,7 @@ loop-again c = let l = c .before .before .before .before .before .before .loop i
       search needs,
       search needs,
       rw (c .wide .ensures .0) (set-more (λ (j v : ℕ). v ≡ slotOf (a .names .now) (a .n) (slotName (a .others .now) j)) (l .r) (l .e) (s .result) (omega arith) (l .inv .2) (s .ensures .0 ∙ ap (slotOf (a .names .now) (a .n)) (c .before .before .slot-name .ensures))),
-      set-every (λ (v : ℕ). v ≤ a .n) (l .r) (c .wide .result) (s .result) (omega arith) (l .inv .3) (s .ensures .1),
+      λ k. set-each (λ (v : ℕ). v ≤ a .n) (l .r) (c .wide .result) (s .result) k (omega arith) (l .inv .3 k) (s .ensures .1),
     )
 
 returns : tie.Need-returns Inv-loop μ-loop

@@ -5,9 +5,7 @@ use Rattle.bench.proofs.Bench.clear.Tie as tie
 use Rattle.bench.proofs.Bench.clear.Reads as reads
 use Rattle.bench.proofs.Bench.clear.Lts as lts
 use Rattle.bench.proofs.empty_place.Reads as empty-place-reads
-use Rattle.bench.proofs.no_witness.Reads as no-witness-reads
-use Rattle.bench.proofs.with_place.Reads as with-place-reads
-use Rattle.bench.proofs.with_witness.Reads as with-witness-reads
+use Rattle.bench.proofs.settle.Reads as settle-reads
 
 returns : tie.Need-returns
 returns c = search stores depth 8 fits 20000
@@ -15,14 +13,8 @@ returns c = search stores depth 8 fits 20000
 empty-place-requires : tie.Need-empty-place-requires
 empty-place-requires c κs = search needs
 
-with-place-requires : tie.Need-with-place-requires
-with-place-requires c κs = search needs
-
-no-witness-requires : tie.Need-no-witness-requires
-no-witness-requires c κs = search needs
-
-with-witness-requires : tie.Need-with-witness-requires
-with-witness-requires c κs = search needs
+settle-requires : tie.Need-settle-requires
+settle-requires c κs = search needs
 
 returns-2 : tie.Need-returns-2
 returns-2 c = search stores depth 8 fits 20000
@@ -33,7 +25,5 @@ clear-spec =
     (tie.spec
     returns
     empty-place-requires
-    with-place-requires
-    no-witness-requires
-    with-witness-requires
+    settle-requires
     returns-2)

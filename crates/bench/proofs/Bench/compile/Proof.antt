@@ -1,34 +1,29 @@
 use Prim.Native.Nat.{_≤_}
 use native.Mathlib.Omega.{arith}
 use Rattle.bench.proofs.AskLaws.{asks, number-few}
-use Rattle.bench.proofs.PartLaws.{held-place}
+use Rattle.bench.proofs.FoundLaws.{found-held}
 use borrow.Author.Needs.{needs}
 use Rattle.bench.proofs.Bench.compile.Statement.{statement}
 use Rattle.bench.proofs.Bench.compile.Tie as tie
 use Rattle.bench.proofs.Bench.compile.Reads as reads
 use Rattle.bench.proofs.Bench.compile.Lts as lts
-use Rattle.bench.proofs.place_of.Reads as place-of-reads
+use Rattle.bench.proofs.diagram_at.Reads as diagram-at-reads
 use Rattle.compiling.proofs.compile.Reads as compile-reads
 
+diagram-at-requires : tie.Need-diagram-at-requires
+diagram-at-requires c κs = search needs
+
 returns : tie.Need-returns
-returns c = search asks depth 8 fits 20000
-
-place-of-requires : tie.Need-place-of-requires
-place-of-requires c κs = search needs
-
-returns-2 : tie.Need-returns-2
-returns-2 c = search asks depth 8 fits 20000
+returns c = search (needs, asks)
 
 compile-requires : tie.Need-compile-requires
-compile-requires c κs = search (needs, held-place)
+compile-requires c κs = search (needs, found-held)
 
-cast-t11 : tie.Need-cast-t11
-cast-t11 c =
-    let few : c .before .before .compile .result .number ≤ 64 = search (number-few, held-place) depth 8 fits 20000 in record { fits = omega arith }
+cast-t9 : tie.Need-cast-t9
+cast-t9 c = let few : c .before .before .compile .result .number ≤ 64 = search (needs, number-few, found-held) in record { fits = omega arith }
 
-returns-3 : tie.Need-returns-3
-returns-3 c = search asks depth 8 fits 20000
+returns-2 : tie.Need-returns-2
+returns-2 c = search (needs, asks)
 
 pub compile-spec : {M : Type 1} → statement M
-compile-spec =
-    tie.close (tie.spec returns place-of-requires returns-2 compile-requires cast-t11 returns-3)
+compile-spec = tie.close (tie.spec diagram-at-requires returns compile-requires cast-t9 returns-2)

@@ -4,9 +4,7 @@ use Rattle.bench.proofs.Bench.load.Statement.{statement}
 use Rattle.bench.proofs.Bench.load.Tie as tie
 use Rattle.bench.proofs.Bench.load.Reads as reads
 use Rattle.bench.proofs.Bench.load.Lts as lts
-use Rattle.bench.proofs.no_witness.Reads as no-witness-reads
-use Rattle.bench.proofs.with_place.Reads as with-place-reads
-use Rattle.bench.proofs.with_witness.Reads as with-witness-reads
+use Rattle.bench.proofs.settle.Reads as settle-reads
 use Rattle.loading.proofs.read_diagram.Reads as read-diagram-reads
 
 returns : tie.Need-returns
@@ -18,14 +16,8 @@ read-diagram-requires c κs = search needs
 returns-2 : tie.Need-returns-2
 returns-2 c = search stores depth 8 fits 20000
 
-with-place-requires : tie.Need-with-place-requires
-with-place-requires c κs = search needs
-
-no-witness-requires : tie.Need-no-witness-requires
-no-witness-requires c κs = search needs
-
-with-witness-requires : tie.Need-with-witness-requires
-with-witness-requires c κs = search needs
+settle-requires : tie.Need-settle-requires
+settle-requires c κs = search needs
 
 returns-3 : tie.Need-returns-3
 returns-3 c = search stores depth 8 fits 20000
@@ -37,7 +29,5 @@ load-spec =
     returns
     read-diagram-requires
     returns-2
-    with-place-requires
-    no-witness-requires
-    with-witness-requires
+    settle-requires
     returns-3)

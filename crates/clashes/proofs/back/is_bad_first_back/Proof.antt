@@ -9,11 +9,11 @@ use lib.Dec.{eqb}
 use lib.ListN.{getD}
 use borrow.Author.Tests.{eqb-true}
 use Rattle.laws.proofs.ConnectiveLaws.{and-left, and-right}
-use Rattle.growing.specs.World.{World}
-use Rattle.link_search.specs.Nets.{Within}
+use Rattle.growing.specs.World.{targetCount}
+use Rattle.link_search.specs.Nets.{InLimits}
 use Rattle.worlds.specs.Kept.{ColumnsKept, MirrorsKept, RowsKept}
 use Rattle.clashes.specs.Clashes.{FirstTargets, Never}
-use Rattle.clashes.specs.Counts.{SourcesKept, targetCount}
+use Rattle.clashes.specs.Sources.{SourcesKept}
 use Rattle.clashes.specs.Refuted.{Refuted}
 use Rattle.clashes.proofs.FirstTargetsLaws.{never-left, never-right, targets-refuted}
 use borrow.Author.Needs.{needs}
@@ -91,7 +91,7 @@ refuted : (c : tie.After-mask Inv-loop μ-loop)
     → let y = c .before in let t = y .before in let x = t .before in let a = x .before .before .args in
     Never (λ w. FirstTargets (t .type-of .result) (a .row) (getD (a .targets .now) (x .rows-at .result + y .wide .result) 0) (a .low) (a .high) w × (SourcesKept (a .sources .now) w × ColumnsKept (a .t3) w × MirrorsKept (a .t3) w))
     → (lows highs : List ℕ) (seeds : ℕ) → 0 < seeds
-    → Refuted (λ w. (RowsKept (a .targets .now) lows highs w × Within (a .low) (a .high) (targetCount w (a .row) 0)) × (SourcesKept (a .sources .now) w × ColumnsKept (a .t3) w × MirrorsKept (a .t3) w)) (a .types .now) seeds
+    → Refuted (λ w. (RowsKept (a .targets .now) lows highs w × InLimits (a .low) (a .high) (targetCount w (a .row) 0)) × (SourcesKept (a .sources .now) w × ColumnsKept (a .t3) w × MirrorsKept (a .t3) w)) (a .types .now) seeds
 refuted c f lows highs seeds some =
     let y = c .before in
     let t = y .before in

@@ -8,7 +8,7 @@ use Rattle.clashes.proofs.mirrors.is_bad_pair.Statement.{statement}
 use Rattle.clashes.proofs.mirrors.is_bad_pair.Tie as tie
 use Rattle.clashes.proofs.mirrors.is_bad_pair.Reads as reads
 use Rattle.clashes.proofs.mirrors.is_bad_pair.Lts as lts
-use Rattle.clashes.proofs.bits.is_link.Reads as is-link-reads
+use Rattle.link_search.proofs.is_link.Reads as is-link-reads
 
 is-link-requires : tie.Need-is-link-requires
 is-link-requires c κs = search needs

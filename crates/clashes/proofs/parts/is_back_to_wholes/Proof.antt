@@ -2,7 +2,6 @@
 -- Assumes nothing.
 use mathlib.Core.Bool.{_&&_}
 use mathlib.Core.Path.{_∙_, refl, sym}
-use native.Mathlib.Omega.{arith}
 use Rattle.laws.proofs.ConnectiveLaws.{and-left, and-right, true-false}
 use Rattle.clashes.proofs.TwoWholesLaws.{two-wholes}
 use borrow.Author.Needs.{needs}

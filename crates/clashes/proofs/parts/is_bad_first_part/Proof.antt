@@ -1,7 +1,7 @@
 -- `parts::is_bad_first_part` meets its contract: one composition after the other.
 -- Assumes nothing.
 use Prim.Native.Nat.{_+_, _-_, _≤_}
-use mathlib.Core.Path.{_≡_, refl, sym}
+use mathlib.Core.Path.{refl}
 use native.Mathlib.Omega.{arith}
 use Rattle.laws.proofs.ConnectiveLaws.{true-false}
 use Rattle.worlds.specs.Kept.{MirrorsKept, WholesKept}

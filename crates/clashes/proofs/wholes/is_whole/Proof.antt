@@ -14,7 +14,7 @@ use Rattle.clashes.proofs.wholes.is_whole.Statement.{statement}
 use Rattle.clashes.proofs.wholes.is_whole.Tie as tie
 use Rattle.clashes.proofs.wholes.is_whole.Reads as reads
 use Rattle.clashes.proofs.wholes.is_whole.Lts as lts
-use Rattle.clashes.proofs.bits.is_link.Reads as is-link-reads
+use Rattle.link_search.proofs.is_link.Reads as is-link-reads
 use Rattle.clashes.proofs.type_of.Reads as type-of-reads
 use Rattle.laws.proofs.has32.Reads as has32-reads
 

@@ -7,8 +7,8 @@ use native.Mathlib.Omega.{arith}
 use Rattle.laws.specs.Bits.{bit}
 use Rattle.growing.specs.World.{World}
 use Rattle.demands.specs.Wishes.{Sharpens}
-use Rattle.clashes.specs.Counts.{SourcesKept}
-use Rattle.demands.specs.Families.{ColumnKept}
+use Rattle.clashes.specs.Sources.{SourcesKept}
+use Rattle.demands.specs.Families.{SourcesWithin}
 use Rattle.demands.proofs.NeedLaws.{sharp-same, sharp-trans}
 use Rattle.demands.proofs.ColumnLaws.{column-sharp}
 use borrow.Author.Needs.{needs}
@@ -21,7 +21,7 @@ use Rattle.clashes.proofs.type_of.Reads as type-of-reads
 use Rattle.laws.proofs.has32.Reads as has32-reads
 
 abbrev Inv-loop : tie.InvT-loop
-Inv-loop s sources slot mask to low high types k wish₀ p₀ wish p = (p ≤ k) × Sharpens (λ w. SourcesKept sources w × ColumnKept slot mask to low high w) s wish₀ wish
+Inv-loop s sources slot mask to low high types k wish₀ p₀ wish p = (p ≤ k) × Sharpens (λ w. SourcesKept sources w × SourcesWithin slot mask to low high w) s wish₀ wish
 
 abbrev μ-loop : tie.MeasureT-loop
 μ-loop s sources slot mask to low high types k wish₀ p₀ wish p = k - p
@@ -51,7 +51,7 @@ loop-again c =
     let l = t .before .before .before in
     let b = l .before .before in
     let a = b .args in
-    let P : World → Type 0 = λ w. SourcesKept (a .sources .now) w × ColumnKept (a .slot) (a .mask) (a .to) (a .low) (a .high) w in (
+    let P : World → Type 0 = λ w. SourcesKept (a .sources .now) w × SourcesWithin (a .slot) (a .mask) (a .to) (a .low) (a .high) w in (
       omega arith,
       ⊎-elim
           (λ w. subst (Sharpens P (a .s) (a .best)) (sym (w .2))

@@ -7,7 +7,7 @@ use native.Mathlib.Omega.{arith}
 use Rattle.growing.specs.World.{World}
 use Rattle.worlds.specs.Kept.{ColumnsKept}
 use Rattle.demands.specs.Wishes.{Sharpens}
-use Rattle.clashes.specs.Counts.{SourcesKept}
+use Rattle.clashes.specs.Sources.{SourcesKept}
 use Rattle.demands.proofs.NeedLaws.{sharp-same, sharp-trans}
 use Rattle.demands.proofs.ColumnLaws.{columns-sharp}
 use borrow.Author.Needs.{needs}

@@ -3,9 +3,9 @@
 use Prim.Native.Nat.{ℕ}
 use mathlib.Core.Path.{subst}
 use native.Mathlib.Omega.{arith}
-use Rattle.link_search.specs.Nets.{Within}
+use Rattle.growing.specs.World.{targetCount}
+use Rattle.link_search.specs.Nets.{InLimits}
 use Rattle.demands.specs.Wishes.{Sharpens}
-use Rattle.clashes.specs.Counts.{targetCount}
 use Rattle.demands.specs.Families.{RowsOpen}
 use Rattle.demands.proofs.RowLaws.{own-sharp}
 use borrow.Author.Needs.{needs}
@@ -61,7 +61,7 @@ returns c =
     let b = i .before .before in
     let a = b .args in
     let v = own-sharp (a .targets .now) (a .lows .now) (a .highs .now) (a .shut .now) (a .s) (b .pre .0) 0 (i .wide .result) (x .rows-at .result) (i .wide .result) (b .pre .1) (omega (arith, i .wide .ensures .0)) (x .rows-at .ensures .0) (omega arith) (a .best) (c .with-limits .result) (a .low) (a .high) (d .larger .result) (e .smaller .result) (d .larger .ensures) (e .smaller .ensures) (c .with-limits .ensures) in
-    subst (λ (r : ℕ). Sharpens (λ w. RowsOpen (a .targets .now) (a .lows .now) (a .highs .now) (a .shut .now) w × Within (a .low) (a .high) (targetCount w r 0)) (a .s) (a .best) (c .with-limits .result)) (i .wide .ensures .0) v
+    subst (λ (r : ℕ). Sharpens (λ w. RowsOpen (a .targets .now) (a .lows .now) (a .highs .now) (a .shut .now) w × InLimits (a .low) (a .high) (targetCount w r 0)) (a .s) (a .best) (c .with-limits .result)) (i .wide .ensures .0) v
 
 pub with-first-row-spec : {M : Type 1} → statement M
 with-first-row-spec =

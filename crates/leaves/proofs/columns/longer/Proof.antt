@@ -6,12 +6,12 @@ use mathlib.Core.Path.{_≡_, refl}
 use borrow.Author.Needs.{needs}
 use lib.ListN.{getD}
 use Rattle.leaves.proofs.FilledLaws.{filled-begin, filled-next, filled-done}
-use Rattle.leaves.specs.Filled.{Filled}
+use Rattle.leaves.specs.Filled.{FilledTo}
 use Rattle.leaves.proofs.columns.longer.Statement.{statement}
 use Rattle.leaves.proofs.columns.longer.Tie as tie
 
 abbrev Inv-loop : tie.InvT-loop
-Inv-loop l x r₀ j₀ r j = (j ≤ 16) × Filled (λ k v. v ≡ getD l k 0) x 17 j r
+Inv-loop l x r₀ j₀ r j = (j ≤ 16) × FilledTo (λ k v. v ≡ getD l k 0) x 17 j r
 
 abbrev μ-loop : tie.MeasureT-loop
 μ-loop l x r₀ j₀ r j = 16 - j

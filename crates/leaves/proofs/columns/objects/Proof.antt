@@ -6,13 +6,13 @@ use borrow.Author.Needs.{needs}
 use lib.ListN.{getD}
 use Rattle.laws.specs.Bits.{Marks}
 use Rattle.leaves.proofs.FilledLaws.{filled-begin, filled-next, filled-done}
-use Rattle.leaves.specs.Filled.{Filled}
+use Rattle.leaves.specs.Filled.{FilledTo}
 use Rattle.leaves.specs.Fitting.{typed}
 use Rattle.leaves.proofs.columns.objects.Statement.{statement}
 use Rattle.leaves.proofs.columns.objects.Tie as tie
 
 abbrev Inv-loop : tie.InvT-loop
-Inv-loop types n sets r₀ j₀ r j = (j ≤ 16) × Filled (λ k v. Marks (typed types (getD sets k 0)) n v) 0 16 j r
+Inv-loop types n sets r₀ j₀ r j = (j ≤ 16) × FilledTo (λ k v. Marks (typed types (getD sets k 0)) n v) 0 16 j r
 
 abbrev μ-loop : tie.MeasureT-loop
 μ-loop types n sets r₀ j₀ r j = 16 - j

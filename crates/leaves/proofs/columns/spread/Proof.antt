@@ -6,12 +6,12 @@ use mathlib.Core.Path.{_≡_}
 use borrow.Author.Needs.{needs}
 use Rattle.leaves.proofs.FilledLaws.{filled-begin, filled-next, filled-done}
 use Rattle.leaves.specs.Arrays.{limitAt}
-use Rattle.leaves.specs.Filled.{Filled}
+use Rattle.leaves.specs.Filled.{FilledTo}
 use Rattle.leaves.proofs.columns.spread.Statement.{statement}
 use Rattle.leaves.proofs.columns.spread.Tie as tie
 
 abbrev Inv-loop : tie.InvT-loop
-Inv-loop to limit d r₀ x₀ r x = (x ≤ 136) × Filled (λ k v. v ≡ limitAt to limit d k) d 136 x r
+Inv-loop to limit d r₀ x₀ r x = (x ≤ 136) × FilledTo (λ k v. v ≡ limitAt to limit d k) d 136 x r
 
 abbrev μ-loop : tie.MeasureT-loop
 μ-loop to limit d r₀ x₀ r x = 136 - x

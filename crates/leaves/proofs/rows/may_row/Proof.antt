@@ -5,7 +5,7 @@ use mathlib.Core.Path.{subst}
 use borrow.Author.Needs.{needs}
 use lib.ListN.{getD}
 use Rattle.laws.specs.Bits.{Marks}
-use Rattle.leaves.proofs.MaskLaws.{marks-without}
+use Rattle.laws.proofs.MaskLaws.{marks-without}
 use Rattle.leaves.specs.Arrays.{spotOf}
 use Rattle.leaves.specs.Fitting.{typed}
 use Rattle.leaves.proofs.rows.may_row.Statement.{statement}

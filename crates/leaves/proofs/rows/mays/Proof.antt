@@ -6,12 +6,12 @@ use borrow.Author.Needs.{needs}
 use Rattle.laws.specs.Bits.{Marks}
 use Rattle.leaves.proofs.FilledLaws.{filled-begin, filled-next, filled-done}
 use Rattle.leaves.specs.Arrays.{mayGo}
-use Rattle.leaves.specs.Filled.{Filled}
+use Rattle.leaves.specs.Filled.{FilledTo}
 use Rattle.leaves.proofs.rows.mays.Statement.{statement}
 use Rattle.leaves.proofs.rows.mays.Tie as tie
 
 abbrev Inv-loop : tie.InvT-loop
-Inv-loop targets types n shut end r₀ i₀ r i = (i ≤ n * 32) × Filled (λ k v. Marks (mayGo targets types shut k) n v) 0 256 i r
+Inv-loop targets types n shut end r₀ i₀ r i = (i ≤ n * 32) × FilledTo (λ k v. Marks (mayGo targets types shut k) n v) 0 256 i r
 
 abbrev μ-loop : tie.MeasureT-loop
 μ-loop targets types n shut end r₀ i₀ r i = n * 32 - i

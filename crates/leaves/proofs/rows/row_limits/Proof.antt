@@ -7,12 +7,12 @@ use borrow.Author.Needs.{needs}
 use lib.ListN.{getD}
 use Rattle.leaves.proofs.FilledLaws.{filled-begin, filled-next, filled-done}
 use Rattle.leaves.specs.Arrays.{spotOf}
-use Rattle.leaves.specs.Filled.{Filled}
+use Rattle.leaves.specs.Filled.{FilledTo}
 use Rattle.leaves.proofs.rows.row_limits.Statement.{statement}
 use Rattle.leaves.proofs.rows.row_limits.Tie as tie
 
 abbrev Inv-loop : tie.InvT-loop
-Inv-loop table types n d end r₀ i₀ r i = (i ≤ n * 32) × Filled (λ k v. v ≡ getD table (spotOf types k) 0) d 256 i r
+Inv-loop table types n d end r₀ i₀ r i = (i ≤ n * 32) × FilledTo (λ k v. v ≡ getD table (spotOf types k) 0) d 256 i r
 
 abbrev μ-loop : tie.MeasureT-loop
 μ-loop table types n d end r₀ i₀ r i = n * 32 - i

@@ -1,6 +1,6 @@
 -- `without` meets its contract: bit by bit.
 -- Assumes nothing.
-use Rattle.type_tables.proofs.SetLaws.{bit-without}
+use Rattle.laws.proofs.BitLaws.{bit-without}
 use Rattle.leaves.proofs.rows.without.Statement.{statement}
 use Rattle.leaves.proofs.rows.without.Tie as tie
 

@@ -1,12 +1,12 @@
 -- `judge_column` meets its contract: the column as two masks.
 -- Assumes nothing.
 use Prim.Native.Nat.{ℕ, _+_, _*_, _≤_}
-use mathlib.Core.Path.{_≡_, sym, ap, subst, _∙_}
+use mathlib.Core.Path.{sym, ap, subst, _∙_}
 use lib.Dec.{eqb, leb}
 use lib.ListN.{getD}
 use borrow.Author.Tests.{eqb-true, leb-true}
 use Rattle.laws.proofs.ConnectiveLaws.{and-left, and-right}
-use Rattle.link_search.specs.Answers.{Judged}
+use Rattle.link_search.specs.Answers.{BitsJudged}
 use Rattle.link_search.proofs.ColumnLaws.{column-said, column-free}
 use borrow.Author.Needs.{needs}
 use Rattle.link_search.proofs.columns.judge_column.Statement.{statement}
@@ -66,7 +66,7 @@ returns-2 c =
     let a = w .before .args in
     column-said (a .slot .now) (a .from .now) (a .low .now) (a .high .now) (a .must .now) (a .may .now) (a .j) (a .p) (m .sources .result) (n .sources2 .result) (c .judge .result) (w .before .pre .1) (w .before .pre .2)
     (m .sources .ensures) (n .sources2 .ensures)
-    (subst (λ (q : ℕ). Judged (m .sources .result) (n .sources2 .result) (getD (a .low .now) (a .j * 8 + q) 0) (getD (a .high .now) (a .j * 8 + q) 0) (c .judge .result)) (w .wide .ensures .0) (c .judge .ensures))
+    (subst (λ (q : ℕ). BitsJudged (m .sources .result) (n .sources2 .result) (getD (a .low .now) (a .j * 8 + q) 0) (getD (a .high .now) (a .j * 8 + q) 0) (c .judge .result)) (w .wide .ensures .0) (c .judge .ensures))
 
 pub judge-column-spec : {M : Type 1} → statement M
 judge-column-spec =

@@ -1,7 +1,7 @@
 -- `look_columns` meets its contract: each column and target that was passed is within its limits, or a bit was found.
 -- Assumes nothing.
-use Prim.Native.Nat.{ℕ, _+_, _*_, _/_, _%_, _≤_, _<_, _-_}
-use mathlib.Core.Path.{_≡_, ap₂, _∙_}
+use Prim.Native.Nat.{ℕ, _+_, _*_, _/_, _%_, _≤_, _-_}
+use mathlib.Core.Path.{ap₂, _∙_}
 use mathlib.Core.Logic.{⊎-elim, inl, inr}
 use native.Mathlib.Omega.{arith}
 use Rattle.link_search.specs.Families.{Columns}

@@ -1,10 +1,9 @@
 -- `look_rows` meets its contract: each row that was passed is within its limits, or a bit was found.
 -- Assumes nothing.
-use Prim.Native.Nat.{ℕ, _<_, _≤_, _-_}
-use mathlib.Core.Path.{_≡_}
+use Prim.Native.Nat.{_≤_, _-_}
 use mathlib.Core.Logic.{⊎-elim, inl, inr}
 use native.Mathlib.Omega.{arith}
-use Rattle.link_search.specs.Families.{Rows}
+use Rattle.link_search.specs.Families.{RowsFit}
 use Rattle.link_search.proofs.SeenLaws.{Seen, RowFine, seen-begin, seen-done, looked-dead, row-dead, row-more}
 use borrow.Author.Needs.{needs}
 use Rattle.link_search.proofs.rows.look_rows.Statement.{statement}
@@ -42,7 +41,7 @@ returns c =
     let j = c .before in
     let h = j .before .before .before .before .before .before in
     let a = h .before .args in
-    looked-dead (Rows (a .low .now) (a .high .now)) (a .must .now) (a .may .now)
+    looked-dead (RowsFit (a .low .now) (a .high .now)) (a .must .now) (a .may .now)
     (row-dead (a .low .now) (a .high .now) (a .must .now) (a .may .now) (h .loop .i) (j .judge .result) (search needs) (c .if1 .taken) (j .judge .ensures))
 
 add-i : tie.Need-add-i Inv-loop μ-loop
@@ -65,7 +64,7 @@ returns-2 : tie.Need-returns-2 Inv-loop μ-loop
 returns-2 c =
     let h = c .before in
     let a = h .before .args in
-    seen-done (RowFine (a .low .now) (a .high .now) (a .must .now) (a .may .now)) (a .may .now) (Rows (a .low .now) (a .high .now)) (a .must .now) 256 (h .loop .i) (h .loop .best) (search needs)
+    seen-done (RowFine (a .low .now) (a .high .now) (a .must .now) (a .may .now)) (a .may .now) (RowsFit (a .low .now) (a .high .now)) (a .must .now) 256 (h .loop .i) (h .loop .best) (search needs)
     (λ f. record { at = f }) (h .loop .inv .1)
 
 pub look-rows-spec : {M : Type 1} → statement M

@@ -1,6 +1,6 @@
 -- `is_whole` meets its contract: composition by composition, up to the first.
 -- Assumes nothing.
-use Prim.Native.Nat.{ℕ, _≤_, _<_, _-_}
+use Prim.Native.Nat.{_≤_, _-_}
 use mathlib.Core.Path.{_≡_}
 use mathlib.Core.Bool.{false}
 use native.Mathlib.Omega.{arith}

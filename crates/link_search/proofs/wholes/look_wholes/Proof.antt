@@ -1,7 +1,6 @@
 -- `look_wholes` meets its contract: target by target.
 -- Assumes nothing.
 use Prim.Native.Nat.{ℕ, _≤_, _<_, _-_}
-use mathlib.Core.Path.{_≡_}
 use native.Mathlib.Omega.{arith}
 use borrow.Author.Count.{below-more}
 use Rattle.laws.specs.Bounded.{tally}

@@ -1,11 +1,11 @@
 use Prim.Native.Nat.{_-_, _<_, _≤_, max, min, ℕ}
 use mathlib.Core.Path.{_∙_, _≡_, ap, refl}
 use lib.ListN.{getD, getD-replicate, length}
-use Rattle.sheets.proofs.ArrayLaws.{zeros}
 use Rattle.sheets.proofs.GatherLaws.{gathered-begin, gathered-done}
 use Rattle.sheets.proofs.PlaceLaws.{stepped-next}
 use Rattle.sheets.specs.RowsBy.{highAt, leadsAt, lowAt}
 use borrow.Author.Needs.{needs}
+use Rattle.laws.proofs.ListLaws.{zeros}
 use Rattle.sheets.proofs.places.limits_of.Statement.{statement}
 use Rattle.sheets.proofs.places.limits_of.Tie as tie
 use Rattle.sheets.proofs.places.limits_of.Reads as reads

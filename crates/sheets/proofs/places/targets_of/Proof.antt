@@ -3,9 +3,9 @@ use mathlib.Core.Bool.{Bool}
 use mathlib.Core.Path.{_∙_, ap}
 use lib.ListN.{getD, replicate}
 use Rattle.sheets.specs.RowsBy.{leadsAt, maskAt}
-use Rattle.sheets.proofs.ArrayLaws.{zeros}
 use Rattle.sheets.proofs.MaskRowLaws.{target-bit}
 use borrow.Author.Needs.{needs}
+use Rattle.laws.proofs.ListLaws.{zeros}
 use Rattle.sheets.proofs.places.targets_of.Statement.{statement}
 use Rattle.sheets.proofs.places.targets_of.Tie as tie
 use Rattle.sheets.proofs.places.targets_of.Reads as reads
