@@ -26,17 +26,17 @@ use Rattle.compiling.specs.Compiled.{Gives}
 use Rattle.compiling.specs.declared.Compiled.{Compiled}
 use Rattle.evaluating.specs.Evaluates.{Evaluates}
 use Rattle.evaluating.specs.declared.Evaluation.{Evaluation}
-use Rattle.loading.specs.declared.Loaded.{Loaded}
 use Rattle.steps.specs.Bench as abstract
 use Rattle.steps.specs.Bench.{Call, Compile, Evaluate, Judge, Outcome, isRefusal}
 use Rattle.steps.specs.Step.{Step, andThen, asking, compiled, onRecord}
-use Rattle.bench.specs.Calls.{Does, DoesWith, Finds, Valid}
-use Rattle.bench.specs.View.{benchOf, replyOf}
+use Rattle.bench.specs.Calls.{Does, DoesWith, Valid}
+use Rattle.bench.specs.View.{benchOf, placeIn, placeNo, replyOf}
 use Rattle.bench.specs.declared.Bench.{Bench}
+use Rattle.bench.specs.declared.Place.{Place}
 use Rattle.bench.specs.declared.Reply.{Reply}
 use Rattle.bench.specs.declared.Reply.the-variants.{FirstFalse, Records, Refused, Rule}
 use Rattle.bench.proofs.CallLaws.{kept}
-use Rattle.bench.proofs.FoundLaws.{answer-accepted, answer-refused}
+use Rattle.bench.proofs.FoundLaws.{found-diagram, found-refused}
 use Rattle.bench.proofs.PartLaws.{stays-all}
 
 -- ---- a call with a record file, under the diagram in a place
@@ -48,41 +48,42 @@ record-refused (accepted x) n e h = absurd (h e)
 
 -- the call c says `says` of the diagram and the record
 module _ (b : Bench) (p : ℕ) (f : List ℕ) (c : Call) (says : Diagram → Record → abstract.Reply)
-    (step : (o : Outcome) → o ≡ asking (benchOf b) (onRecord (benchOf b) p f says) → Step (benchOf b) c o) {l : Loaded} (v : Valid b) (found : Finds b p l) where
-  on-place : l .no ≢ 0 → Does b c (record { bench = b; reply = Refused (l .no) }) []
+    (step : (o : Outcome) → o ≡ asking (benchOf b) (onRecord (benchOf b) p f says) → Step (benchOf b) c o)
+    {x : Place} {no : ℕ} (v : Valid b) (is : x ≡ placeIn b p) (k : no ≡ placeNo p (x .loaded)) where
+  on-place : no ≢ 0 → Does b c (record { bench = b; reply = Refused no }) []
   unfolding asking onRecord andThen
-  on-place n = kept b c (Refused (l .no)) [] v (step _ (rw (answer-refused l (found .says) n)))
+  on-place n = kept b c (Refused no) [] v (step _ (rw (found-refused b p is k n)))
 
-  on-file : {no : ℕ} → l .no ≡ 0 → no ≡ refusalOf (readRecord f) → no ≢ 0 → Does b c (record { bench = b; reply = Refused no }) []
+  on-file : {file-no : ℕ} → no ≡ 0 → file-no ≡ refusalOf (readRecord f) → file-no ≢ 0 → Does b c (record { bench = b; reply = Refused file-no }) []
   unfolding asking onRecord andThen
-  on-file {no} n e m = kept b c (Refused no) [] v (step _ (rw (answer-accepted l (found .says) n, record-refused (readRecord f) no e m)))
+  on-file {file-no} n e m = kept b c (Refused file-no) [] v (step _ (rw (found-diagram b p is k n, record-refused (readRecord f) file-no e m)))
 
-  on-done : {no : ℕ} (reply : Reply) → l .no ≡ 0 → no ≡ refusalOf (readRecord f) → no ≡ 0
-      → ((r : Record) → readRecord f ≡ accepted r → replyOf reply [] ≡ says (diagramOf (l .diagram)) r) → Does b c (record { bench = b; reply = reply }) []
+  on-done : {file-no : ℕ} (reply : Reply) → no ≡ 0 → file-no ≡ refusalOf (readRecord f) → file-no ≡ 0
+      → ((r : Record) → readRecord f ≡ accepted r → replyOf reply [] ≡ says (diagramOf (x .diagram)) r) → Does b c (record { bench = b; reply = reply }) []
   unfolding asking onRecord andThen
-  on-done reply n e m is =
-      let r = record-of f (sym e ∙ m) in kept b c reply [] v (step _ (rw (answer-accepted l (found .says) n, r .1, is (r .0) (r .1))))
+  on-done reply n e m q =
+      let r = record-of f (sym e ∙ m) in kept b c reply [] v (step _ (rw (found-diagram b p is k n, r .1, q (r .0) (r .1))))
 
 -- ---- judge and evaluate
 
-module _ (b : Bench) (p : ℕ) (f : List ℕ) {l : Loaded} (v : Valid b) (found : Finds b p l) where
-  pub judge-place : l .no ≢ 0 → Does b (Judge p f) (record { bench = b; reply = Refused (l .no) }) []
-  judge-place = on-place b p f (Judge p f) _ (λ o e. e) v found
+module _ (b : Bench) (p : ℕ) (f : List ℕ) {x : Place} {no : ℕ} (v : Valid b) (is : x ≡ placeIn b p) (k : no ≡ placeNo p (x .loaded)) where
+  pub judge-place : no ≢ 0 → Does b (Judge p f) (record { bench = b; reply = Refused no }) []
+  judge-place = on-place b p f (Judge p f) _ (λ o e. e) v is k
 
-  pub judge-file : {j : Judgement} → l .no ≡ 0 → Judges (diagramOf (l .diagram)) f j → j .no ≢ 0 → Does b (Judge p f) (record { bench = b; reply = Refused (j .no) }) []
-  judge-file n e = on-file b p f (Judge p f) _ (λ o e. e) v found n (e .refusal)
+  pub judge-file : {j : Judgement} → no ≡ 0 → Judges (diagramOf (x .diagram)) f j → j .no ≢ 0 → Does b (Judge p f) (record { bench = b; reply = Refused (j .no) }) []
+  judge-file n e = on-file b p f (Judge p f) _ (λ o e. e) v is k n (e .refusal)
 
-  pub judge-done : {j : Judgement} → l .no ≡ 0 → Judges (diagramOf (l .diagram)) f j → j .no ≡ 0 → Does b (Judge p f) (record { bench = b; reply = Rule (j .rule) }) []
-  judge-done n e m = on-done b p f (Judge p f) _ (λ o e. e) v found _ n (e .refusal) m (λ r q. ap abstract.rule (e .rule r q))
+  pub judge-done : {j : Judgement} → no ≡ 0 → Judges (diagramOf (x .diagram)) f j → j .no ≡ 0 → Does b (Judge p f) (record { bench = b; reply = Rule (j .rule) }) []
+  judge-done n e m = on-done b p f (Judge p f) _ (λ o e. e) v is k _ n (e .refusal) m (λ r q. ap abstract.rule (e .rule r q))
 
-  pub evaluate-place : l .no ≢ 0 → Does b (Evaluate p f) (record { bench = b; reply = Refused (l .no) }) []
-  evaluate-place = on-place b p f (Evaluate p f) _ (λ o e. e) v found
+  pub evaluate-place : no ≢ 0 → Does b (Evaluate p f) (record { bench = b; reply = Refused no }) []
+  evaluate-place = on-place b p f (Evaluate p f) _ (λ o e. e) v is k
 
-  pub evaluate-file : {e : Evaluation} → l .no ≡ 0 → Evaluates (diagramOf (l .diagram)) f e → e .no ≢ 0 → Does b (Evaluate p f) (record { bench = b; reply = Refused (e .no) }) []
-  evaluate-file n e = on-file b p f (Evaluate p f) _ (λ o e. e) v found n (e .refusal)
+  pub evaluate-file : {e : Evaluation} → no ≡ 0 → Evaluates (diagramOf (x .diagram)) f e → e .no ≢ 0 → Does b (Evaluate p f) (record { bench = b; reply = Refused (e .no) }) []
+  evaluate-file n e = on-file b p f (Evaluate p f) _ (λ o e. e) v is k n (e .refusal)
 
-  pub evaluate-done : {e : Evaluation} → l .no ≡ 0 → Evaluates (diagramOf (l .diagram)) f e → e .no ≡ 0 → Does b (Evaluate p f) (record { bench = b; reply = FirstFalse (e .first) }) []
-  evaluate-done n e m = on-done b p f (Evaluate p f) _ (λ o e. e) v found _ n (e .refusal) m (λ r q. ap abstract.firstFalse (e .first r q))
+  pub evaluate-done : {e : Evaluation} → no ≡ 0 → Evaluates (diagramOf (x .diagram)) f e → e .no ≡ 0 → Does b (Evaluate p f) (record { bench = b; reply = FirstFalse (e .first) }) []
+  evaluate-done n e m = on-done b p f (Evaluate p f) _ (λ o e. e) v is k _ n (e .refusal) m (λ r q. ap abstract.firstFalse (e .first r q))
 
 evaluate-le : (d : Diagram) (r : Record) → evaluate d r ≤ length (compile d)
 unfolding evaluate firstFailing
@@ -104,15 +105,15 @@ kept-with : (b : Bench) (p : ℕ) (reply : Reply) (list : List ℕ) → Valid b
     → (isRefusal (replyOf reply list) ≡ true → list ≡ replicate 320 0) → DoesWith b (Compile p) (record { bench = b; reply = reply; list = list })
 kept-with b p reply list v s z = record { step = s; stays = stays-all b (Compile p) (replyOf reply list); valid = v; zero = z }
 
-module _ (b : Bench) (p : ℕ) {l : Loaded} (v : Valid b) (found : Finds b p l) where
-  pub compile-place : l .no ≢ 0 → DoesWith b (Compile p) (record { bench = b; reply = Refused (l .no); list = replicate 320 0 })
+module _ (b : Bench) (p : ℕ) {x : Place} {no : ℕ} (v : Valid b) (is : x ≡ placeIn b p) (k : no ≡ placeNo p (x .loaded)) where
+  pub compile-place : no ≢ 0 → DoesWith b (Compile p) (record { bench = b; reply = Refused no; list = replicate 320 0 })
   unfolding asking compiled andThen
-  compile-place n = kept-with b p (Refused (l .no)) (replicate 320 0) v (rw (answer-refused l (found .says) n)) (λ e. refl)
+  compile-place n = kept-with b p (Refused no) (replicate 320 0) v (rw (found-refused b p is k n)) (λ e. refl)
 
-  pub compile-done : {k : Compiled} → l .no ≡ 0 → Gives (l .diagram) k → DoesWith b (Compile p) (record { bench = b; reply = Records (k .number); list = k .list })
+  pub compile-done : {l : Compiled} → no ≡ 0 → Gives (x .diagram) l → DoesWith b (Compile p) (record { bench = b; reply = Records (l .number); list = l .list })
   unfolding asking compiled andThen isRefusal
-  compile-done {k} n g =
-      kept-with b p (Records (k .number)) (k .list) v (rw (answer-accepted l (found .says) n, g .number, g .list)) (λ e. absurd (false≢true e))
+  compile-done {l} n g =
+      kept-with b p (Records (l .number)) (l .list) v (rw (found-diagram b p is k n, g .number, g .list)) (λ e. absurd (false≢true e))
 
 pub number-few : {d : StoredDiagram} {l : Compiled} → Held d → Gives d l → l .number ≤ 64
 number-few {d} {l} h g =

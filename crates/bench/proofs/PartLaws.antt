@@ -51,23 +51,13 @@ picked P p x y h k = by (eqb p 0)
     by true = h
     by false = k
 
-place-is : (b : Bench) (p : ℕ) → placeOf p (benchOf b) ≡ diagramIn (placeIn b p)
+pub place-is : (b : Bench) (p : ℕ) → placeOf p (benchOf b) ≡ diagramIn (placeIn b p)
 unfolding placeOf benchOf pick
 place-is b p = by (eqb p 0)
   where
     by : (t : Bool) → cond t (diagramIn (b .old)) (diagramIn (b .new)) ≡ diagramIn (cond t (b .old) (b .new))
     by true = refl
     by false = refl
-
-module _ (b : Bench) (p : ℕ) {x : Place} (is : x ≡ placeIn b p) where
-  here : placeOf p (benchOf b) ≡ diagramIn x
-  here = place-is b p ∙ ap diagramIn (sym is)
-
-  pub place-empty : not (x .loaded) ≡ true → placeOf p (benchOf b) ≡ none
-  place-empty n = here ∙ empty-in x n
-
-  pub place-full : not (x .loaded) ≡ false → placeOf p (benchOf b) ≡ some (diagramOf (x .diagram))
-  place-full n = here ∙ full-in x n
 
 -- ---- a valid bench
 

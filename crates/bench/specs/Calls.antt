@@ -8,13 +8,11 @@ use mathlib.Core.Path.{_≡_}
 use lib.ListN.{replicate}
 use Rattle.diagrams.specs.Held.{Held}
 use Rattle.diagrams.specs.View.{diagramOf}
-use Rattle.loading.specs.Loads.{answerOf}
-use Rattle.loading.specs.declared.Loaded.{Loaded}
 use Rattle.records.specs.Written.{Within}
 use Rattle.steps.specs.Bench as abstract
 use Rattle.steps.specs.Bench.{Call, isRefusal}
 use Rattle.steps.specs.Effect.{changes, newPlace, oldPlace, witness}
-use Rattle.steps.specs.Step.{Step, diagramAt}
+use Rattle.steps.specs.Step.{Step}
 use Rattle.bench.specs.View.{benchOf, noPlace, noWitness, pick, replyOf}
 use Rattle.bench.specs.declared.Bench.{Bench}
 use Rattle.bench.specs.declared.Listed.{Listed}
@@ -40,12 +38,6 @@ pub record Valid (b : Bench) : Type 0 where
   pub old : ValidPlace (b .old)
   pub new : ValidPlace (b .new)
   pub witness : ValidWitness (b .old) (b .new) (b .witness)
-
--- ---- what a call finds in the place that it names: its refusal, or the diagram there, which was read
-
-pub record Finds (b : Bench) (p : ℕ) (l : Loaded) : Type 0 where
-  pub says : answerOf l ≡ diagramAt (benchOf b) p
-  pub held : l .no ≡ 0 → Held (l .diagram)
 
 -- ---- what stays: each part that the call does not change, and all where it is refused
 

@@ -1,10 +1,10 @@
 -- The bench in memory: its parts, the two ways to change it, and what it stands for.
 -- Assumes nothing.
 use Prim.Native.Nat.{ℕ}
-use mathlib.Core.Bool.{cond, false}
+use mathlib.Core.Bool.{Bool, cond, false}
 use mathlib.Core.List.{List}
 use mathlib.Core.Option.{Option, none, some}
-use lib.Dec.{eqb}
+use lib.Dec.{eqb, ltb}
 use Rattle.files.specs.Diagram.{Diagram}
 use Rattle.files.specs.Record.{Record}
 use Rattle.diagrams.specs.Empty.{emptyDiagram}
@@ -37,6 +37,10 @@ pick p x y = cond (eqb p 0) x y
 
 abbrev pub placeIn : Bench → ℕ → Place
 placeIn b p = pick p (b .old) (b .new)
+
+-- the refusal of a call that needs place p, by whether that is loaded; 0 where there is none
+unfoldable pub placeNo : ℕ → Bool → ℕ
+placeNo p loaded = cond (ltb 1 p) 10 (cond loaded 0 21)
 
 -- ---- changes
 

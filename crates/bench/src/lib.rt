@@ -3,10 +3,9 @@ ghost use mathlib.Core.List.{[]};
 ghost use mathlib.Core.Path.{_≡_};
 ghost use Prim.Native.Nat.{_<_};
 ghost use Rattle.steps.specs.Bench.{Load, Clear, Judge, Compile, Evaluate, Compare, HandOut};
-ghost use Rattle.bench.specs.View.{freshIn, noPlace, noWitness, placeIn, settledIn, withWitnessIn};
-ghost use Rattle.bench.specs.Calls.{Does, DoesWith, Finds, Valid};
+ghost use Rattle.bench.specs.View.{freshIn, noPlace, noWitness, placeIn, placeNo, settledIn, withWitnessIn};
+ghost use Rattle.bench.specs.Calls.{Does, DoesWith, Valid};
 use diagrams::StoredDiagram;
-use loading::Loaded;
 use records::MemoryRecord;
 
 pub struct Place {
@@ -111,20 +110,14 @@ fn place_of(b: Bench, p: u8) -> Place
     if p == 0 { b.old } else { b.new }
 }
 
-// The diagram in place p, or the refusal of a call that needs it.
-fn diagram_at(b: Bench, p: u8) -> Loaded
-    requires { ⌜ Valid b ⌝ }
-    ensures { λ r. ⌜ Finds b p r ⌝ }
+// The refusal of a call that needs place p, by whether that is loaded, or 0.
+fn place_no(p: u8, loaded: bool) -> u8
+    ensures { λ r. ⌜ r ≡ placeNo p loaded ⌝ }
 {
-    let x = place_of(b, p);
-    let diagram = x.diagram;
     if 1 < p {
-        return Loaded { no: 10, diagram };
+        return 10;
     }
-    if !x.loaded {
-        return Loaded { no: 21, diagram };
-    }
-    Loaded { no: 0, diagram }
+    if loaded { 0 } else { 21 }
 }
 
 // ---- calls
@@ -181,11 +174,12 @@ impl Bench {
         requires { ⌜ Valid self ⌝ }
         ensures { λ r. ⌜ Does self (Judge place (now (file .entry))) r [] ⌝ }
     {
-        let x = diagram_at(self, place);
-        if x.no != 0 {
+        let x = place_of(self, place);
+        let no = place_no(place, x.loaded);
+        if no != 0 {
             return Replied {
                 bench: self,
-                reply: Reply::Refused(x.no),
+                reply: Reply::Refused(no),
             };
         }
         let j = judging::judge(x.diagram, file);
@@ -206,19 +200,21 @@ impl Bench {
         requires { ⌜ Valid self ⌝ }
         ensures { λ r. ⌜ DoesWith self (Compile place) r ⌝ }
     {
-        let x = diagram_at(self, place);
-        if x.no != 0 {
+        let x = place_of(self, place);
+        let no = place_no(place, x.loaded);
+        if no != 0 {
             return Listed {
                 bench: self,
-                reply: Reply::Refused(x.no),
+                reply: Reply::Refused(no),
                 list: [0u8; 320],
             };
         }
         let c = compiling::compile(x.diagram);
+        let number = c.number as u8;
         let list = c.list;
         Listed {
             bench: self,
-            reply: Reply::Records(c.number as u8),
+            reply: Reply::Records(number),
             list,
         }
     }
@@ -228,11 +224,12 @@ impl Bench {
         requires { ⌜ Valid self ⌝ }
         ensures { λ r. ⌜ Does self (Evaluate place (now (file .entry))) r [] ⌝ }
     {
-        let x = diagram_at(self, place);
-        if x.no != 0 {
+        let x = place_of(self, place);
+        let no = place_no(place, x.loaded);
+        if no != 0 {
             return Replied {
                 bench: self,
-                reply: Reply::Refused(x.no),
+                reply: Reply::Refused(no),
             };
         }
         let v = evaluating::evaluate(x.diagram, file);
@@ -242,9 +239,10 @@ impl Bench {
                 reply: Reply::Refused(v.no),
             };
         }
+        let first = v.first as u8;
         Replied {
             bench: self,
-            reply: Reply::FirstFalse(v.first as u8),
+            reply: Reply::FirstFalse(first),
         }
     }
 

@@ -73,6 +73,7 @@ outcomes =
     (records 3 (compiledOf (diagramFile fileP)), asking behindDifference (compiled behindDifference 0)) ∷
     (firstFalse 0, asking behindDifference (evaluated behindDifference 1 shelfOfThree)) ∷
     -- B6, B7: cleared, loaded again with the same bytes: no witness
+    (refusal 22, handed (settling behindDifference 0 (clear 0) .bench) (replicate 60000 7)) ∷
     (refusal 22, handed (settling behindDifference 1 (clear 1) .bench) (replicate 60000 7)) ∷
     (refusal 22, handed (loaded behindDifference 1 fileQ .bench) (replicate 60000 7)) ∷
     []

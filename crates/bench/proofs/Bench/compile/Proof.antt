@@ -7,11 +7,15 @@ use Rattle.bench.proofs.Bench.compile.Statement.{statement}
 use Rattle.bench.proofs.Bench.compile.Tie as tie
 use Rattle.bench.proofs.Bench.compile.Reads as reads
 use Rattle.bench.proofs.Bench.compile.Lts as lts
-use Rattle.bench.proofs.diagram_at.Reads as diagram-at-reads
+use Rattle.bench.proofs.place_no.Reads as place-no-reads
+use Rattle.bench.proofs.place_of.Reads as place-of-reads
 use Rattle.compiling.proofs.compile.Reads as compile-reads
 
-diagram-at-requires : tie.Need-diagram-at-requires
-diagram-at-requires c κs = search needs
+place-of-requires : tie.Need-place-of-requires
+place-of-requires c κs = search needs
+
+place-no-requires : tie.Need-place-no-requires
+place-no-requires c κs = search needs
 
 returns : tie.Need-returns
 returns c = search (needs, asks)
@@ -19,11 +23,11 @@ returns c = search (needs, asks)
 compile-requires : tie.Need-compile-requires
 compile-requires c κs = search (needs, found-held)
 
-cast-t9 : tie.Need-cast-t9
-cast-t9 c = let few : c .before .before .compile .result .number ≤ 64 = search (needs, number-few, found-held) in record { fits = omega arith }
+cast-number : tie.Need-cast-number
+cast-number c = let few : c .before .compile .result .number ≤ 64 = search (needs, number-few, found-held) in record { fits = omega arith }
 
 returns-2 : tie.Need-returns-2
 returns-2 c = search (needs, asks)
 
 pub compile-spec : {M : Type 1} → statement M
-compile-spec = tie.close (tie.spec diagram-at-requires returns compile-requires cast-t9 returns-2)
+compile-spec = tie.close (tie.spec place-of-requires place-no-requires returns compile-requires cast-number returns-2)
