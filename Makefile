@@ -2,7 +2,7 @@
 # make test: everything that must hold, from nothing. Its last line is 'N passed, M failed'.
 # make check: the proofs and programs again, only where something changed.
 # make library: what the Rust programs link to, target/staticlib/libreplay.a; what the prover says goes to target/library.log.
-# make soak: the proved library beside the independent comparer and a solver on ever more made-up input, for SOAK_MINUTES minutes.
+# make soak: the proved library beside the independent comparer and a solver on ever more made-up input, for SOAK_MINUTES minutes and until the pair in hand is done.
 # make bench: how long they take for the same work, side by side.
 # Both install the solver, the Debian package cadical, where it is missing; bench also valgrind.
 
