@@ -64,7 +64,7 @@ unfoldable pub needed : Option Diagram → Answer Diagram
 needed none = refused 21
 needed (some d) = accepted d
 
--- the diagram in the place that a call names
+-- the diagram in place p, which the call needs
 unfoldable pub diagramAt : Bench → ℕ → Answer Diagram
 diagramAt b p = inPlace p (needed (placeOf p b))
 
