@@ -2,7 +2,7 @@
 ghost use mathlib.Core.List.{[]};
 ghost use mathlib.Core.Path.{_≡_};
 ghost use Prim.Native.Nat.{_<_};
-ghost use Rattle.steps.specs.Bench.{Load, Clear, Judge, Compile, Evaluate, Compare, HandOut};
+ghost use Rattle.steps.specs.Bench.{Load, Clear, Judge, Compile, Evaluate, Compare, HandOut, LoadText};
 ghost use Rattle.bench.specs.View.{freshIn, noPlace, noWitness, placeIn, placeNo, settledIn, withWitnessIn};
 ghost use Rattle.bench.specs.Calls.{Does, DoesWith, Valid};
 use diagrams::StoredDiagram;
@@ -314,6 +314,35 @@ impl Bench {
         Replied {
             bench: self,
             reply: Reply::Written(n),
+        }
+    }
+
+    // The place holds the diagram of the text, and the witness is dropped.
+    pub fn load_text(self, place: u8, text: &[u8]) -> Replied
+        requires { ⌜ Valid self ⌝ }
+        ensures { λ r. ⌜ Does self (LoadText place (now (text .entry))) r [] ⌝ }
+    {
+        if 1 < place {
+            return Replied {
+                bench: self,
+                reply: Reply::Refused(10),
+            };
+        }
+        let t = text_loading::read_text(text);
+        if t.no != 0 {
+            return Replied {
+                bench: self,
+                reply: Reply::Refused(t.no),
+            };
+        }
+        let diagram = t.diagram;
+        let y = Place {
+            loaded: true,
+            diagram,
+        };
+        Replied {
+            bench: settle(self, place, y),
+            reply: Reply::Done,
         }
     }
 }

@@ -1,19 +1,20 @@
--- How a list of calls stands in bytes. A call is a code byte and its operands, in this order: a byte, a file behind its length, the length
--- of a buffer to lend. A length is four bytes, high byte first.
---   1 load      place, length, file
---   2 clear     place
---   3 judge     place, length, file
---   4 compile   place
---   5 evaluate  place, length, file
---   6 compare   bound
---   7 hand out  length of the buffer to lend
+-- How a list of calls stands in bytes. A call is a code byte and its operands, in this order: a byte, a file (or a text) behind its
+-- length, the length of a buffer to lend. A length is four bytes, high byte first.
+--   1 load       place, length, file
+--   2 clear      place
+--   3 judge      place, length, file
+--   4 compile    place
+--   5 evaluate   place, length, file
+--   6 compare    bound
+--   7 hand out   length of the buffer to lend
+--   8 load text  place, length, text
 -- Assumes nothing.
 use Prim.Native.Nat.{ℕ, _+_, _*_}
 use mathlib.Core.Bool.{_&&_, cond}
 use mathlib.Core.List.{List, [], _∷_}
 use lib.Dec.{eqb, leb, ltb}
 use lib.ListN.{drop, getD, length, take}
-use Rattle.steps.specs.Bench.{Call, Clear, Compare, Compile, Evaluate, HandOut, Judge, Load}
+use Rattle.steps.specs.Bench.{Call, Clear, Compare, Compile, Evaluate, HandOut, Judge, Load, LoadText}
 use Rattle.coding.specs.declared.Next.{Next}
 
 pub record Operands : Type 0 where
@@ -38,7 +39,8 @@ codes =
     record { bytes = 1; files = 0; buffers = 0; call = λ x. Compile (x .byte) } ∷
     record { bytes = 1; files = 1; buffers = 0; call = λ x. Evaluate (x .byte) (x .file) } ∷
     record { bytes = 1; files = 0; buffers = 0; call = λ x. Compare (x .byte) } ∷
-    record { bytes = 0; files = 0; buffers = 1; call = λ x. HandOut (x .buffer) } ∷ []
+    record { bytes = 0; files = 0; buffers = 1; call = λ x. HandOut (x .buffer) } ∷
+    record { bytes = 1; files = 1; buffers = 0; call = λ x. LoadText (x .byte) (x .file) } ∷ []
 
 abbrev pub rowAt : ℕ → Shape
 rowAt code = getD codes code (record { bytes = 0; files = 0; buffers = 0; call = λ x. Clear 0 })

@@ -33,16 +33,16 @@ struct Row {
 }
 
 // By code: 1 for each operand that the call has. No call has the code 0.
-const BYTES: [u8; 8] = [0, 1, 1, 1, 1, 1, 1, 0];
+const BYTES: [u8; 9] = [0, 1, 1, 1, 1, 1, 1, 0, 1];
 
-const FILES: [u8; 8] = [0, 1, 0, 1, 0, 1, 0, 0];
+const FILES: [u8; 9] = [0, 1, 0, 1, 0, 1, 0, 0, 1];
 
-const BUFFERS: [u8; 8] = [0, 0, 0, 0, 0, 0, 0, 1];
+const BUFFERS: [u8; 9] = [0, 0, 0, 0, 0, 0, 0, 1, 0];
 
 fn row_at(code: u8) -> Row
     ensures { λ r. ⌜ IsRow (rowAt code) r ⌝ }
 {
-    if 8 <= code {
+    if 9 <= code {
         return Row {
             bytes: 0,
             files: 0,
@@ -88,7 +88,7 @@ pub fn read_next(s: &[u8], room: usize) -> Next
     let at = from + len;
     let lend = length_at(s, r.buffers, at);
     let used = at + r.buffers * 4;
-    if (1 <= code) & (code < 8) & (used <= s.len()) & (r.buffers * 5 + lend <= room) {
+    if (1 <= code) & (code < 9) & (used <= s.len()) & (r.buffers * 5 + lend <= room) {
         return Next {
             code,
             byte: laws::byte(s, 1),

@@ -55,7 +55,7 @@ pub fn after(s: &[u8], len: usize) -> &[u8]
 // ---- names
 
 // A byte of A-Z, a-z, 0-9 or underscore.
-fn name_byte(b: u8) -> bool
+pub fn name_byte(b: u8) -> bool
     ensures { λ r. ⌜ r ≡ nameByte b ⌝ }
 {
     ((65 <= b) & (b <= 90)) | (((97 <= b) & (b <= 122)) | (((48 <= b) & (b <= 57)) | (b == 95)))

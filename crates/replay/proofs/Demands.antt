@@ -1,10 +1,10 @@
 -- The demands of the replies in bytes: of each call, the bytes tell its replies apart, so they say what the steps say.
 -- Assumes nothing.
-use Prim.Native.Nat.{_≤_, ℕ}
+use Prim.Native.Nat.{_<_, _≤_, ℕ}
 use native.Mathlib.Omega.{arith}
 use mathlib.Core.Bool.{false, true≢false}
 use mathlib.Core.List.{List, [], _++_, _∷_, append-assoc}
-use mathlib.Core.Logic.{_↔_}
+use mathlib.Core.Logic.{_↔_, ⊎-elim}
 use mathlib.Core.Option.{Option, none, some}
 use mathlib.Core.Path.{_∙_, _≡_, ap, refl, subst, sym}
 use lib.ListN.{drop, length, take}
@@ -17,16 +17,18 @@ use Rattle.files.specs.Record.{Record}
 use Rattle.files.specs.RecordFile.{readRecord}
 use Rattle.files.specs.Refusal.{Answer, accepted, refused}
 use Rattle.files.proofs.RefusalLaws.{Within, diagram-refusals}
+use Rattle.texts.specs.ReadText.{readText}
+use Rattle.texts.proofs.ReadTextLaws.{text-refused}
 use Rattle.smallest_records.specs.Difference.{Gap}
 use Rattle.smallest_records.specs.Smallest.{Chooses}
-use Rattle.steps.specs.Bench.{Bench, Compare, fresh, Evaluate, HandOut, Judge, Load, Outcome, Reply, difference, done, firstFalse, gives, isRefusal, noDifference, placeOf, rule, withWitness, written}
+use Rattle.steps.specs.Bench.{Bench, Compare, fresh, Evaluate, HandOut, Judge, Outcome, Reply, difference, done, firstFalse, gives, isRefusal, noDifference, placeOf, refusal, rule, withWitness, written}
 use Rattle.steps.specs.Effect.{effect}
 use Rattle.steps.specs.HandedOut.{HandedOut}
 use Rattle.steps.specs.Row.{Event, Row}
-use Rattle.steps.specs.Step.{Choosing, Step, differs, handedOut, saying, writing}
+use Rattle.steps.specs.Step.{Choosing, Step, differs, handedOut, placed, saying, settling, writing}
 use Rattle.steps.proofs.Demands as steps
 use Rattle.steps.proofs.RowLaws.{row-at}
-use Rattle.steps.proofs.StepLaws.{by-answer, compared-within, evaluate-accepted, judge-accepted, judge-refused, load-accepted, load-refused, replied}
+use Rattle.steps.proofs.StepLaws.{by-answer, compared-within, evaluate-accepted, judge-accepted, judge-refused, placed-accepted, placed-refused, replied}
 use Rattle.coding.specs.ReplyBytes.{bytesBy, four, headBytes, outcomeBytes, partsOf, replyBytes}
 use Rattle.replay.specs.Demands.{BytesDemandThree, BytesDemandTwo, EachReplied, HandedBytes, ReplayRuns}
 use Rattle.replay.specs.Replays.{CodesRow, rowBytes}
@@ -70,15 +72,29 @@ refused-some : (file : List ℕ) (n : ℕ) → readDiagram file ≡ refused n �
 unfolding readDiagram
 refused-some file n e = subst (Within 8) e (diagram-refusals 0 noDiagram (rows file)) .0
 
+text-some : (text : List ℕ) (n : ℕ) → readText text ≡ refused n → 1 ≤ n
+text-some text n e = ⊎-elim (λ x. omega (arith, x .0)) (λ x. omega (arith, x .3)) (text-refused text n e)
+
 -- ---- demand 2
 
 module _ (b : Bench) (p : ℕ) (h : p ≤ 1) where
-  load-bytes : (file : List ℕ) (o : Outcome) → Step b (Load p file) o → (outcomeBytes (Load p file) o ≡ 0 ∷ []) ↔ (o .reply ≡ done)
-  unfolding outcomeBytes effect replyBytes partsOf
-  load-bytes file o s = (
-    λ q. by-answer (readDiagram file)
-        (λ n e. let k : n ∷ [] ≡ 0 ∷ [] = sym (said o (replied (s ∙ load-refused b p h file n e))) ∙ q in let z : n ≡ 0 = cc in absurd (omega (arith, z, refused-some file n e)))
-        (λ d e. replied (s ∙ load-accepted b p h file d e)),
+  -- load, by what reading the file or the text gives
+  placed-bytes : (a : Answer Diagram) → ((n : ℕ) → a ≡ refused n → 1 ≤ n) → (o : Outcome) → o ≡ settling b p (placed p a)
+      → (bytesBy none o ≡ 0 ∷ []) ↔ (o .reply ≡ done)
+  unfolding replyBytes partsOf
+  placed-bytes a positive o s = (
+    λ q. by-answer a
+        (λ n e. let k : n ∷ [] ≡ 0 ∷ [] = sym (said o (replied (s ∙ placed-refused b p h a n e))) ∙ q in let z : n ≡ 0 = cc in absurd (omega (arith, z, positive n e)))
+        (λ d e. replied (s ∙ placed-accepted b p h a d e)),
+    said o,
+  )
+
+  refused-bytes : (a : Answer Diagram) (o : Outcome) → o ≡ settling b p (placed p a) → (n : ℕ) → 0 < n → (bytesBy none o ≡ n ∷ []) ↔ (o .reply ≡ refusal n)
+  unfolding replyBytes partsOf
+  refused-bytes a o s n l = (
+    λ q. by-answer a
+        (λ m e. let r = replied (s ∙ placed-refused b p h a m e) in let k : m ∷ [] ≡ n ∷ [] = sym (said o r) ∙ q in r ∙ cc)
+        (λ d e. let k : 0 ∷ [] ≡ n ∷ [] = sym (said o (replied (s ∙ placed-accepted b p h a d e))) ∙ q in let z : 0 ≡ n = cc in absurd (omega (arith, z, l))),
     said o,
   )
 
@@ -107,7 +123,9 @@ unfolding outcomeBytes effect replyBytes partsOf
 demand-two b r p h =
     let exact = steps.demand-two b r p h in
     record {
-      accepts = λ file o s. iff-trans (load-bytes b p h file o s) (exact .accepts file o s);
+      accepts = λ file o s. iff-trans (placed-bytes b p h (readDiagram file) (refused-some file) o s) (exact .accepts file o s);
+      accepts-text = λ text o s. iff-trans (placed-bytes b p h (readText text) (text-some text) o s) (exact .accepts-text text o s);
+      refuses-text = λ text o s n l. iff-trans (refused-bytes b p h (readText text) o s n l) (exact .refuses-text text o s n);
       judges = λ d is file o s n. iff-trans (judge-bytes b p h d is file o s n) (exact .judges d is file o s n);
       compiles = λ d is o s. said o (exact .compiles d is o s);
       evaluates = λ d is file o s x e. iff-trans (evaluate-bytes b p h d is file o s x e _) (exact .evaluates d is file o s x e);

@@ -2,7 +2,7 @@
 -- itself: the replies are those of a row of steps from the fresh bench (`Ran`), and a step is defined for every call. The row can be
 -- taken apart at any call, and so can the replies (`RepliedAt`); demands 2 and 3 are those of that call's step, with its reply in bytes.
 -- Assumes nothing.
-use Prim.Native.Nat.{_≤_, ℕ}
+use Prim.Native.Nat.{_<_, _≤_, ℕ}
 use mathlib.Core.Bool.{true}
 use mathlib.Core.List.{List, [], _++_, _∷_}
 use mathlib.Core.Logic.{_↔_}
@@ -14,13 +14,15 @@ use Rattle.files.specs.DiagramFile.{readDiagram}
 use Rattle.files.specs.Record.{Record, objectCount}
 use Rattle.files.specs.RecordFile.{readRecord}
 use Rattle.files.specs.Refusal.{accepted}
+use Rattle.texts.specs.Grammar.{Belongs, Tree}
+use Rattle.texts.specs.TextChecks.{textRefusal}
 use Rattle.rules.specs.Compile.{compile, compiledBytes}
 use Rattle.rules.specs.LinkRules.{rule6, rule7, rule8}
 use Rattle.rules.specs.Site.{siteOf}
 use Rattle.rules.specs.WholeRule.{rule9}
 use Rattle.smallest_records.specs.Difference.{Gap}
-use Rattle.steps.specs.Bench.{Bench, Compare, Compile, Evaluate, HandOut, Judge, Load, Outcome, fresh, placeOf}
-use Rattle.steps.specs.Demands.{LowestBroken, Smallest}
+use Rattle.steps.specs.Bench.{Bench, Compare, Compile, Evaluate, HandOut, Judge, Load, LoadText, Outcome, fresh, placeOf}
+use Rattle.steps.specs.Demands.{LowestBroken, Smallest, TextRefused}
 use Rattle.steps.specs.Row.{Event, KeepsWitness, Reached, Row, RowAt}
 use Rattle.steps.specs.Step.{Step}
 use Rattle.coding.specs.ReplyBytes.{four, outcomeBytes}
@@ -53,6 +55,11 @@ pub record ExactBytes (b : Bench) (p : ℕ) : Type 0 where
   -- the reply to load is 0 exactly when the diagram file follows 01
   pub accepts : (file : List ℕ) (o : Outcome) → Step b (Load p file) o
       → (outcomeBytes (Load p file) o ≡ 0 ∷ []) ↔ ((d : Diagram) × (readDiagram file ≡ accepted d))
+  -- the reply to loading a text is 0 exactly when it belongs to the grammar and no check refuses it, else the number of the refusal
+  pub accepts-text : (text : List ℕ) (o : Outcome) → Step b (LoadText p text) o
+      → (outcomeBytes (LoadText p text) o ≡ 0 ∷ []) ↔ ((t : Tree) × Belongs text t × (textRefusal t ≡ 0))
+  pub refuses-text : (text : List ℕ) (o : Outcome) → Step b (LoadText p text) o → (n : ℕ) → 0 < n
+      → (outcomeBytes (LoadText p text) o ≡ n ∷ []) ↔ TextRefused text n
   -- the reply to judge is 0 and n exactly when the record file follows 01 and n is 0 or the lowest rule broken
   pub judges : (d : Diagram) → placeOf p b ≡ some d → (file : List ℕ) (o : Outcome) → Step b (Judge p file) o → (n : ℕ)
       → (outcomeBytes (Judge p file) o ≡ 0 ∷ n ∷ []) ↔ ((x : Record) × (readRecord file ≡ accepted x) × LowestBroken d x n)

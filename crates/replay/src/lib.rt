@@ -49,7 +49,10 @@ fn run_call(b: Bench, code: u8, byte: u8, file: &[u8]) -> Replied
     if code < 6 {
         return b.evaluate(byte, file);
     }
-    b.compare(byte)
+    if code < 7 {
+        return b.compare(byte);
+    }
+    b.load_text(byte, file)
 }
 
 // Runs the call at the front of s.

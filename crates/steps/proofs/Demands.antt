@@ -14,7 +14,13 @@ use Rattle.files.specs.DiagramFile.{readDiagram}
 use Rattle.files.specs.Record.{Record, objectCount}
 use Rattle.files.specs.RecordBytes.{writeRecord}
 use Rattle.files.specs.RecordFile.{readRecord}
-use Rattle.files.specs.Refusal.{Answer, accepted}
+use Rattle.files.specs.Refusal.{Answer, accepted, refused}
+use Rattle.texts.specs.Declaration.{declarations}
+use Rattle.texts.specs.Declared.{declared}
+use Rattle.texts.specs.Grammar.{Belongs, Tree}
+use Rattle.texts.specs.ReadText.{readText}
+use Rattle.texts.specs.TextChecks.{textRefusal}
+use Rattle.texts.proofs.ReadTextLaws.{accepted-text, refused-text, text-accepted, text-refused}
 use Rattle.rules.specs.Compile.{compile}
 use Rattle.rules.specs.Evaluate.{evaluate}
 use Rattle.rules.specs.Judge.{judge}
@@ -24,16 +30,16 @@ use Rattle.rules.specs.WholeRule.{rule9}
 use Rattle.rules.proofs.DemandTwo.{evaluate-iff}
 use Rattle.smallest_records.specs.Difference.{Gap}
 use Rattle.smallest_records.specs.Smallest.{Chooses}
-use Rattle.steps.specs.Bench.{Bench, Evaluate, Judge, Load, Outcome, difference, done, firstFalse, gives, noDifference, placeOf, refusal, rule, withWitness}
-use Rattle.steps.specs.Demands.{DemandOne, DemandThree, DemandTwo, LowestBroken, NoneOverlooked}
+use Rattle.steps.specs.Bench.{Bench, Evaluate, Judge, LoadText, Outcome, difference, done, firstFalse, gives, noDifference, placeOf, refusal, rule, withWitness}
+use Rattle.steps.specs.Demands.{DemandOne, DemandThree, DemandTwo, LowestBroken, NoneOverlooked, TextRefused}
 use Rattle.steps.specs.Row.{Reached}
-use Rattle.steps.specs.Step.{Choosing, Step, differs, saying}
+use Rattle.steps.specs.Step.{Choosing, Step, differs, placed, saying, settling}
 use Rattle.steps.proofs.ChoiceLaws.{differs-count, none-differs, one-reply}
 use Rattle.steps.proofs.EffectLaws.{leaves}
 use Rattle.steps.proofs.HandOutLaws.{hands-out}
 use Rattle.steps.proofs.HeldLaws.{reached-wf}
 use Rattle.steps.proofs.LowestLaws.{judge-lowest, one-lowest}
-use Rattle.steps.proofs.StepLaws.{by-answer, compared-within, compile-gives, evaluate-accepted, judge-accepted, judge-refused, load-accepted, load-refused, place-settled, replied}
+use Rattle.steps.proofs.StepLaws.{by-answer, compared-within, compile-gives, evaluate-accepted, judge-accepted, judge-refused, place-settled, placed-accepted, placed-refused, replied}
 
 -- ---- demand 1
 
@@ -47,13 +53,39 @@ demand-one b c o s = record {
 -- ---- demand 2
 
 module _ (b : Bench) (r : Reached b) (p : ℕ) (h : p ≤ 1) where
-  load-exact : (file : List ℕ) (o : Outcome) → Step b (Load p file) o → (o .reply ≡ done) ↔ ((d : Diagram) × (readDiagram file ≡ accepted d))
-  load-exact file o s = (
-    λ q. by-answer (readDiagram file)
-        (λ n e. let k : refusal n ≡ done = sym (replied (s ∙ load-refused b p h file n e)) ∙ q in let z : _≡_ {A = ℕ} 0 1 = cc in absurd (omega (arith, z)))
-        (λ d e. (d, e)),
-    λ q. replied (s ∙ load-accepted b p h file (q .0) (q .1)),
-  )
+  -- load, by what reading the file or the text gives
+  module _ (a : Answer Diagram) (o : Outcome) (s : o ≡ settling b p (placed p a)) where
+    placed-exact : (o .reply ≡ done) ↔ ((d : Diagram) × (a ≡ accepted d))
+    placed-exact = (
+      λ q. by-answer a
+          (λ n e. let k : refusal n ≡ done = sym (replied (s ∙ placed-refused b p h a n e)) ∙ q in let z : _≡_ {A = ℕ} 0 1 = cc in absurd (omega (arith, z)))
+          (λ d e. (d, e)),
+      λ q. replied (s ∙ placed-accepted b p h a (q .0) (q .1)),
+    )
+
+    placed-stores : (d : Diagram) → a ≡ accepted d → placeOf p (o .bench) ≡ some d
+    placed-stores d e = ap (λ (q : Outcome). placeOf p (q .bench)) (s ∙ placed-accepted b p h a d e) ∙ place-settled p (some d) b
+
+    placed-refuses : (n : ℕ) → (o .reply ≡ refusal n) ↔ (a ≡ refused n)
+    placed-refuses n = (
+      λ q. by-answer a
+          (λ m e. let k : refusal m ≡ refusal n = sym (replied (s ∙ placed-refused b p h a m e)) ∙ q in e ∙ cc)
+          (λ d e. let k : done ≡ refusal n = sym (replied (s ∙ placed-accepted b p h a d e)) ∙ q in let z : _≡_ {A = ℕ} 0 1 = cc in absurd (omega (arith, z))),
+      λ e. replied (s ∙ placed-refused b p h a n e),
+    )
+
+  -- a text, by what its reading says of its tree
+  module _ (text : List ℕ) (o : Outcome) (s : Step b (LoadText p text) o) where
+    text-exact : (o .reply ≡ done) ↔ ((t : Tree) × Belongs text t × (textRefusal t ≡ 0))
+    text-exact =
+        let exact = placed-exact (readText text) o s in (
+          λ q. let d = exact .0 q in let t = text-accepted text (d .0) (d .1) in (t .0, t .1, t .2),
+          λ t. exact .1 (declared (declarations (t .0)), accepted-text text (t .0) (t .1) (t .2)),
+        )
+
+    text-refuses : (n : ℕ) → (o .reply ≡ refusal n) ↔ TextRefused text n
+    text-refuses n =
+        let exact = placed-refuses (readText text) o s n in ((λ q. text-refused text n (exact .0 q)), (λ x. exact .1 (refused-text text n x)))
 
   module _ (d : Diagram) (is : placeOf p b ≡ some d) where
     judge-exact : (file : List ℕ) (o : Outcome) → Step b (Judge p file) o → (n : ℕ)
@@ -78,8 +110,11 @@ module _ (b : Bench) (r : Reached b) (p : ℕ) (h : p ≤ 1) where
 
 pub demand-two : DemandTwo
 demand-two b r p h = record {
-  accepts = load-exact b r p h;
-  stores = λ file o s d e. ap (λ (q : Outcome). placeOf p (q .bench)) (s ∙ load-accepted b p h file d e) ∙ place-settled p (some d) b;
+  accepts = λ file. placed-exact b r p h (readDiagram file);
+  stores = λ file. placed-stores b r p h (readDiagram file);
+  accepts-text = text-exact b r p h;
+  stores-text = λ text o s t k e. placed-stores b r p h (readText text) o s (declared (declarations t)) (accepted-text text t k e);
+  refuses-text = text-refuses b r p h;
   judges = judge-exact b r p h;
   compiles = λ d is o s. replied (s ∙ compile-gives b p h d is);
   evaluates = evaluate-exact b r p h;

@@ -10,10 +10,10 @@ use lib.Dec.{eqb}
 use Rattle.files.specs.Diagram.{Diagram}
 use Rattle.files.specs.Record.{Record, objectCount}
 use Rattle.files.specs.Refusal.{Answer, accepted, refused}
-use Rattle.steps.specs.Bench.{Bench, Call, Clear, Compare, Compile, Evaluate, HandOut, Judge, Load, Outcome, Reply, isRefusal, settle, withWitness}
+use Rattle.steps.specs.Bench.{Bench, Call, Clear, Compare, Compile, Evaluate, HandOut, Judge, Load, LoadText, Outcome, Reply, isRefusal, settle, withWitness}
 use Rattle.steps.specs.Effect.{Effect, atPlace, atWitness, bytesOf, changes, effect, lent, newPlace, oldPlace, witness}
 use Rattle.steps.specs.Row.{Event, KeepsWitness, Row}
-use Rattle.steps.specs.Step.{Choosing, Step, asking, clear, compared, compiled, differs, evaluated, handedOut, judged, load, saying, settling, writing}
+use Rattle.steps.specs.Step.{Choosing, Step, asking, clear, compared, compiled, differs, evaluated, handedOut, judged, load, loadText, saying, settling, writing}
 
 pub record Leaves (b : Bench) (c : Call) (o : Outcome) : Type 0 where
   pub bench : isRefusal (o .reply) ≡ true → o .bench ≡ b
@@ -96,6 +96,7 @@ leaves b (Compile p) o s = subst (Leaves b (Compile p)) (sym s) (asking-leaves b
 leaves b (Evaluate p file) o s = subst (Leaves b (Evaluate p file)) (sym s) (asking-leaves b _ (evaluated b p file) refl)
 leaves b (Compare bound) o s = choosing-leaves b _ (compared b bound) _ bound differs o refl (accepts _ _ refl (λ n. refl)) s
 leaves b (HandOut buffer) o s = subst (Leaves b (HandOut buffer)) (sym s) (writing-leaves b _ buffer (handedOut (b .witness) buffer) refl)
+leaves b (LoadText p text) o s = subst (Leaves b (LoadText p text)) (sym s) (settling-leaves b _ p (loadText p text) refl)
 
 pub row-keeps : (b : Bench) (es : List Event) (c : Bench) → Row b es c → KeepsWitness es → c .witness ≡ b .witness
 row-keeps b [] c r k = ap (λ (x : Bench). x .witness) (sym r)

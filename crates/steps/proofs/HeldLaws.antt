@@ -1,4 +1,4 @@
--- Each diagram in a place of a bench that is reached from the fresh one was read from a file, so it is well formed.
+-- Each diagram in a place of a bench that is reached from the fresh one was read from a file or a text, so it is well formed.
 -- Assumes nothing.
 use Prim.Native.Nat.{ℕ}
 use mathlib.Core.Bool.{Bool, cond, false, true}
@@ -12,9 +12,11 @@ use Rattle.files.specs.Record.{Record}
 use Rattle.files.specs.Refusal.{Answer, accepted, refused}
 use Rattle.files.specs.WellFormedDiagram.{WfDiagram}
 use Rattle.files.proofs.DiagramWellFormed.{diagram-wf}
-use Rattle.steps.specs.Bench.{Bench, Call, Clear, Compare, Compile, Evaluate, HandOut, Judge, Load, Outcome, Reply, placeOf, settle, withWitness}
+use Rattle.texts.specs.ReadText.{readText}
+use Rattle.texts.proofs.ReadTextLaws.{text-wf}
+use Rattle.steps.specs.Bench.{Bench, Call, Clear, Compare, Compile, Evaluate, HandOut, Judge, Load, LoadText, Outcome, Reply, placeOf, settle, withWitness}
 use Rattle.steps.specs.Row.{Event, Reached, Row}
-use Rattle.steps.specs.Step.{Choosing, Step, andThen, asking, clear, compared, compiled, differs, evaluated, handedOut, inPlace, judged, load, settling, writing}
+use Rattle.steps.specs.Step.{Choosing, Step, andThen, asking, clear, compared, compiled, differs, evaluated, handedOut, inPlace, judged, load, loadText, placed, settling, writing}
 
 -- the diagram is well formed where there is one
 abbrev WfPlace : Option Diagram → Type 0
@@ -30,25 +32,22 @@ abbrev Accepted : {A : Type 0} → (A → Type 0) → Answer A → Type 0
 Accepted P (refused n) = Unit {0}
 Accepted P (accepted x) = P x
 
-placed : {A : Type 0} (P : A → Type 0) (p : ℕ) (a : Answer A) → Accepted P a → Accepted P (inPlace p a)
+in-place : {A : Type 0} (P : A → Type 0) (p : ℕ) (a : Answer A) → Accepted P a → Accepted P (inPlace p a)
 unfolding inPlace
-placed P p a h = by (ltb 1 p)
+in-place P p a h = by (ltb 1 p)
   where
     by : (t : Bool) → Accepted P (cond t (refused 10) a)
     by true = tt
     by false = h
 
-load-wf : (p : ℕ) (file : List ℕ) → Accepted WfPlace (load p file)
-unfolding load andThen
-load-wf p file = placed WfPlace p _ (by (readDiagram file) refl)
-  where
-    by : (r : Answer Diagram) → readDiagram file ≡ r → Accepted WfPlace (andThen r (λ d. accepted (some d)))
-    by (refused n) e = tt
-    by (accepted d) e = diagram-wf file d e
+placed-wf : (p : ℕ) (a : Answer Diagram) → ((d : Diagram) → a ≡ accepted d → WfDiagram d) → Accepted WfPlace (placed p a)
+unfolding placed andThen
+placed-wf p (refused n) h = in-place WfPlace p _ tt
+placed-wf p (accepted d) h = in-place WfPlace p _ (h d refl)
 
 clear-wf : (p : ℕ) → Accepted WfPlace (clear p)
 unfolding clear
-clear-wf p = placed WfPlace p (accepted none) tt
+clear-wf p = in-place WfPlace p (accepted none) tt
 
 -- ---- a step
 
@@ -78,13 +77,14 @@ choosing-wf b (refused n) S bound says o s v = subst (λ (q : Outcome). WfBench 
 choosing-wf b (accepted x) S bound says o s v = subst (λ (q : Outcome). WfBench (q .bench)) (sym (s .2)) (record { old = v .old; new = v .new })
 
 step-wf : (b : Bench) (c : Call) (o : Outcome) → Step b c o → WfBench b → WfBench (o .bench)
-step-wf b (Load p file) o s v = subst (λ (q : Outcome). WfBench (q .bench)) (sym s) (settling-wf b p (load p file) (load-wf p file) v)
+step-wf b (Load p file) o s v = subst (λ (q : Outcome). WfBench (q .bench)) (sym s) (settling-wf b p (load p file) (placed-wf p (readDiagram file) (diagram-wf file)) v)
 step-wf b (Clear p) o s v = subst (λ (q : Outcome). WfBench (q .bench)) (sym s) (settling-wf b p (clear p) (clear-wf p) v)
 step-wf b (Judge p file) o s v = subst (λ (q : Outcome). WfBench (q .bench)) (sym s) (asking-wf b (judged b p file) v)
 step-wf b (Compile p) o s v = subst (λ (q : Outcome). WfBench (q .bench)) (sym s) (asking-wf b (compiled b p) v)
 step-wf b (Evaluate p file) o s v = subst (λ (q : Outcome). WfBench (q .bench)) (sym s) (asking-wf b (evaluated b p file) v)
 step-wf b (Compare bound) o s v = choosing-wf b (compared b bound) _ bound differs o s v
 step-wf b (HandOut buffer) o s v = subst (λ (q : Outcome). WfBench (q .bench)) (sym s) (writing-wf b buffer (handedOut (b .witness) buffer) v)
+step-wf b (LoadText p text) o s v = subst (λ (q : Outcome). WfBench (q .bench)) (sym s) (settling-wf b p (loadText p text) (placed-wf p (readText text) (text-wf text)) v)
 
 row-wf : (b : Bench) (es : List Event) (c : Bench) → Row b es c → WfBench b → WfBench c
 row-wf b [] c r v = subst WfBench r v

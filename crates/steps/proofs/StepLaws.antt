@@ -9,7 +9,6 @@ use lib.Dec.{eqb}
 use lib.ListN.{length}
 use borrow.Author.Tests.{le-ltb}
 use Rattle.files.specs.Diagram.{Diagram}
-use Rattle.files.specs.DiagramFile.{readDiagram}
 use Rattle.files.specs.Record.{Record}
 use Rattle.files.specs.RecordFile.{readRecord}
 use Rattle.files.specs.Refusal.{Answer, accepted, refused}
@@ -17,7 +16,7 @@ use Rattle.rules.specs.Compile.{compile, compiledBytes}
 use Rattle.rules.specs.Evaluate.{evaluate}
 use Rattle.rules.specs.Judge.{judge}
 use Rattle.steps.specs.Bench.{Bench, Outcome, done, firstFalse, gives, placeOf, records, refusal, rule, settle}
-use Rattle.steps.specs.Step.{andThen, asking, compared, compiled, diagramAt, evaluated, inBound, inPlace, judged, load, needed, onRecord, settling}
+use Rattle.steps.specs.Step.{andThen, asking, compared, compiled, diagramAt, evaluated, inBound, inPlace, judged, needed, onRecord, placed, settling}
 
 -- what a file's reading gives
 pub by-answer : {A X : Type 0} (a : Answer A) → ((n : ℕ) → a ≡ refused n → X) → ((x : A) → a ≡ accepted x → X) → X
@@ -40,13 +39,14 @@ place-settled p x b = go (eqb p 0)
     go false = refl
 
 module _ (b : Bench) (p : ℕ) (h : p ≤ 1) where
-  pub load-accepted : (file : List ℕ) (d : Diagram) → readDiagram file ≡ accepted d → settling b p (load p file) ≡ gives done (settle p (some d) b)
-  unfolding settling load inPlace andThen
-  load-accepted file d e = rw (le-ltb 1 p h, e)
+  -- load, by what reading the file or the text gives
+  pub placed-accepted : (a : Answer Diagram) (d : Diagram) → a ≡ accepted d → settling b p (placed p a) ≡ gives done (settle p (some d) b)
+  unfolding settling placed inPlace andThen
+  placed-accepted a d e = rw (le-ltb 1 p h, e)
 
-  pub load-refused : (file : List ℕ) (n : ℕ) → readDiagram file ≡ refused n → settling b p (load p file) ≡ gives (refusal n) b
-  unfolding settling load inPlace andThen
-  load-refused file n e = rw (le-ltb 1 p h, e)
+  pub placed-refused : (a : Answer Diagram) (n : ℕ) → a ≡ refused n → settling b p (placed p a) ≡ gives (refusal n) b
+  unfolding settling placed inPlace andThen
+  placed-refused a n e = rw (le-ltb 1 p h, e)
 
   module _ (d : Diagram) (is : placeOf p b ≡ some d) where
     pub judge-accepted : (file : List ℕ) (r : Record) → readRecord file ≡ accepted r → asking b (judged b p file) ≡ gives (rule (judge d r)) b

@@ -28,9 +28,10 @@ pub data Call : Type 0 where
   Evaluate : ℕ → List ℕ → Call  -- place, record file
   Compare : ℕ → Call  -- bound
   HandOut : List ℕ → Call  -- what the buffer holds
+  LoadText : ℕ → List ℕ → Call  -- place, text
 
 pub data Reply : Type 0 where
-  done : Reply  -- load and clear: "accepted"
+  done : Reply  -- the two loads and clear: "accepted"
   rule : ℕ → Reply  -- judge: 0, or the lowest rule broken
   records : ℕ → List ℕ → Reply  -- compile: their number, and the list of 64 entries
   firstFalse : ℕ → Reply  -- evaluate

@@ -17,7 +17,7 @@ use Rattle.files.specs.Refusal.{Answer, accepted, refused}
 use Rattle.rules.specs.CompileCases.{compiledOf, sameBytes}
 use Rattle.rules.specs.Marked.{card, fileE, fileP, fileQ, shelfOfThree, verdict}
 use Rattle.steps.specs.Bench.{Bench, Outcome, Reply, done, firstFalse, fresh, placeOf, records, refusal, rule, settle, withWitness, written}
-use Rattle.steps.specs.Step.{andThen, asking, clear, compiled, diagramAt, evaluated, handedOut, inBuffer, inPlace, judged, load, needed, onRecord, settling, witnessing, writing}
+use Rattle.steps.specs.Step.{andThen, asking, clear, compiled, diagramAt, evaluated, handedOut, inBuffer, inPlace, judged, load, loadText, needed, onRecord, placed, settling, witnessing, writing}
 
 abbrev pub held : Answer Record → Option Record
 held (refused n) = none
@@ -58,6 +58,7 @@ outcomes =
     (refusal 21, asking fresh (evaluated fresh 1 card)) ∷
     (refusal 10, loaded fresh 2 fileE) ∷
     (refusal 10, loaded fresh 2 []) ∷
+    (refusal 10, settling fresh 2 (loadText 2 [])) ∷
     (refusal 2, loaded fresh 0 []) ∷
     -- B2, B11
     (rule 0, asking loadedP (judged loadedP 0 shelfOfThree)) ∷
@@ -79,10 +80,10 @@ outcomes =
     []
 
 pub outcomes-right : map (λ x. x .1 .reply) outcomes ≡ map (λ x. x .0) outcomes
-unfolding asking settling writing load clear onRecord compiled handedOut inPlace needed diagramAt andThen witnessing inBuffer settle withWitness placeOf over diagramFile recordFile verdict compiledOf writeRecord valueBytes linkBytes nameBytes field
+unfolding asking settling writing placed clear onRecord compiled handedOut inPlace needed diagramAt andThen witnessing inBuffer settle withWitness placeOf over diagramFile recordFile verdict compiledOf writeRecord valueBytes linkBytes nameBytes field
 outcomes-right = refl
 
 -- hand out writes the file itself at the front, and leaves the rest
 pub handed-right : sameBytes (take 73 (handed behindDifference (replicate 60000 7) .buffer)) (shelfOfThree ++ (7 ∷ 7 ∷ 7 ∷ [])) ≡ true
-unfolding settling writing load handedOut inPlace andThen witnessing inBuffer settle withWitness over diagramFile recordFile sameBytes writeRecord valueBytes linkBytes nameBytes field
+unfolding settling writing placed handedOut inPlace andThen witnessing inBuffer settle withWitness over diagramFile recordFile sameBytes writeRecord valueBytes linkBytes nameBytes field
 handed-right = refl

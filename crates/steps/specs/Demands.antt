@@ -4,7 +4,7 @@
 use Prim.Native.Nat.{_<_, _≤_, suc, ℕ}
 use mathlib.Core.Bool.{Bool, false, true}
 use mathlib.Core.List.{List, [], _∷_}
-use mathlib.Core.Logic.{_↔_}
+use mathlib.Core.Logic.{_↔_, _⊎_}
 use mathlib.Core.Option.{some}
 use mathlib.Core.Path.{_≡_}
 use lib.ListN.{getD, length}
@@ -13,6 +13,10 @@ use Rattle.files.specs.DiagramFile.{readDiagram}
 use Rattle.files.specs.Record.{Record, objectCount}
 use Rattle.files.specs.RecordFile.{readRecord}
 use Rattle.files.specs.Refusal.{accepted}
+use Rattle.texts.specs.Declaration.{declarations}
+use Rattle.texts.specs.Declared.{declared}
+use Rattle.texts.specs.Grammar.{Belongs, Tree}
+use Rattle.texts.specs.TextChecks.{textRefusal}
 use Rattle.rules.specs.Compile.{compile, compiledBytes}
 use Rattle.rules.specs.LinkRules.{rule5, rule6, rule7, rule8}
 use Rattle.rules.specs.Site.{siteOf}
@@ -20,7 +24,7 @@ use Rattle.rules.specs.TypeRules.{rule1, rule2}
 use Rattle.rules.specs.ValueRules.{rule3, rule4}
 use Rattle.rules.specs.WholeRule.{rule9}
 use Rattle.smallest_records.specs.Difference.{Gap}
-use Rattle.steps.specs.Bench.{Bench, Call, Compare, Compile, Evaluate, HandOut, Judge, Load, Outcome, difference, done, firstFalse, isRefusal, noDifference, placeOf, records, rule}
+use Rattle.steps.specs.Bench.{Bench, Call, Compare, Compile, Evaluate, HandOut, Judge, Load, LoadText, Outcome, difference, done, firstFalse, isRefusal, noDifference, placeOf, records, refusal, rule}
 use Rattle.steps.specs.Effect.{lent}
 use Rattle.steps.specs.HandedOut.{HandedOut}
 use Rattle.steps.specs.Row.{Event, KeepsWitness, Reached, Row}
@@ -38,7 +42,7 @@ pub record Defined (b : Bench) (c : Call) (o : Outcome) : Type 0 where
 abbrev pub DemandOne : Type 0
 DemandOne = (b : Bench) (c : Call) (o : Outcome) → Step b c o → Defined b c o
 
--- ---- demand 2: files, judgements and predicates are those of 01
+-- ---- demand 2: files, judgements and predicates are those of 01, texts those of 02 1/12
 
 -- the nine rules in order: at k stands rule k + 1
 abbrev pub rules : Diagram → Record → List Bool
@@ -51,11 +55,21 @@ pub record LowestBroken (d : Diagram) (r : Record) (n : ℕ) : Type 0 where
   pub broken : (k : ℕ) → n ≡ suc k → getD (rules d r) k true ≡ false
   pub lowest : (j k : ℕ) → n ≡ suc k → j < k → getD (rules d r) j true ≡ true
 
+-- 02: "23 for text outside the grammar", else n is what the checks give in their order
+abbrev pub TextRefused : List ℕ → ℕ → Type 0
+TextRefused text n = ((n ≡ 23) × ((t : Tree) → Belongs text t → ⊥)) ⊎ ((t : Tree) × Belongs text t × (textRefusal t ≡ n) × (0 < n))
+
 -- of place p, which is 0 or 1
 pub record Exact (b : Bench) (p : ℕ) : Type 0 where
   -- a diagram file is accepted exactly when it follows 01, and then the place holds its diagram
   pub accepts : (file : List ℕ) (o : Outcome) → Step b (Load p file) o → (o .reply ≡ done) ↔ ((d : Diagram) × (readDiagram file ≡ accepted d))
   pub stores : (file : List ℕ) (o : Outcome) → Step b (Load p file) o → (d : Diagram) → readDiagram file ≡ accepted d → placeOf p (o .bench) ≡ some d
+  -- 02: "Text is accepted exactly when it belongs to this grammar and none of the checks below refuses it", and then the place holds
+  -- "the diagram it declares"; else it is refused by the number of the check
+  pub accepts-text : (text : List ℕ) (o : Outcome) → Step b (LoadText p text) o → (o .reply ≡ done) ↔ ((t : Tree) × Belongs text t × (textRefusal t ≡ 0))
+  pub stores-text : (text : List ℕ) (o : Outcome) → Step b (LoadText p text) o → (t : Tree) → Belongs text t → textRefusal t ≡ 0
+      → placeOf p (o .bench) ≡ some (declared (declarations t))
+  pub refuses-text : (text : List ℕ) (o : Outcome) → Step b (LoadText p text) o → (n : ℕ) → (o .reply ≡ refusal n) ↔ TextRefused text n
   -- under a diagram d in the place, judge replies n exactly when the record file follows 01 and n is 0 or the lowest rule broken
   pub judges : (d : Diagram) → placeOf p b ≡ some d → (file : List ℕ) (o : Outcome) → Step b (Judge p file) o → (n : ℕ)
       → (o .reply ≡ rule n) ↔ ((x : Record) × (readRecord file ≡ accepted x) × LowestBroken d x n)

@@ -5,7 +5,7 @@ use mathlib.Core.Bool.{Bool, _&&_, false, not, true}
 use mathlib.Core.List.{List, []}
 use mathlib.Core.Option.{Option, none, some}
 use lib.Dec.{eqb}
-use Rattle.steps.specs.Bench.{Call, Clear, Compare, Compile, Evaluate, HandOut, Judge, Load, Reply, isRefusal}
+use Rattle.steps.specs.Bench.{Call, Clear, Compare, Compile, Evaluate, HandOut, Judge, Load, LoadText, Reply, isRefusal}
 
 -- the parts of a bench
 pub data Part : Type 0 where
@@ -42,6 +42,7 @@ effect (Compile p) = record { on = nowhere; lends = none }
 effect (Evaluate p file) = record { on = nowhere; lends = none }
 effect (Compare bound) = record { on = atWitness; lends = none }
 effect (HandOut buffer) = record { on = nowhere; lends = some buffer }
+effect (LoadText p text) = record { on = atPlace p; lends = none }
 
 -- a refusal changes nothing
 unfoldable pub changes : Call → Reply → Part → Bool

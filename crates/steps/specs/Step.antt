@@ -1,4 +1,4 @@
--- 01 "The bench": what each call gives.
+-- 01 "The bench" and 02 1/12, "A second load call": what each call gives.
 -- `Step b c o`: the call c on the bench b may give o. It is an equation for each call; only compare has a free choice in it.
 -- Assumes nothing.
 use Prim.Native.Nat.{ℕ}
@@ -15,12 +15,13 @@ use Rattle.files.specs.Record.{Record, objectCount}
 use Rattle.files.specs.RecordBytes.{writeRecord}
 use Rattle.files.specs.RecordFile.{readRecord}
 use Rattle.files.specs.Refusal.{Answer, accepted, refused}
+use Rattle.texts.specs.ReadText.{readText}
 use Rattle.rules.specs.Compile.{compile, compiledBytes}
 use Rattle.rules.specs.Evaluate.{evaluate}
 use Rattle.rules.specs.Judge.{judge}
 use Rattle.smallest_records.specs.Difference.{Gap}
 use Rattle.smallest_records.specs.Smallest.{Chooses}
-use Rattle.steps.specs.Bench.{Bench, Call, Clear, Compare, Compile, Evaluate, HandOut, Judge, Load, Outcome, Reply, difference, done, firstFalse, gives, noDifference, placeOf, records, refusal, rule, settle, withWitness, written}
+use Rattle.steps.specs.Bench.{Bench, Call, Clear, Compare, Compile, Evaluate, HandOut, Judge, Load, LoadText, Outcome, Reply, difference, done, firstFalse, gives, noDifference, placeOf, records, refusal, rule, settle, withWitness, written}
 
 -- ---- what a call gives, by what it changes; "bench and buffer stay unchanged" where it is refused
 
@@ -79,9 +80,16 @@ inBuffer least buffer a = cond (leb least (length buffer)) a (refused 20)
 
 -- ---- the calls
 
--- "accepted, the place holds the diagram and the witness is dropped"
-unfoldable pub load : ℕ → List ℕ → Answer (Option Diagram)
-load p file = inPlace p (andThen (readDiagram file) (λ d. accepted (some d)))
+-- "accepted, the place holds the diagram and the witness is dropped", of what reading a file or a text gives
+unfoldable pub placed : ℕ → Answer Diagram → Answer (Option Diagram)
+placed p a = inPlace p (andThen a (λ d. accepted (some d)))
+
+abbrev pub load : ℕ → List ℕ → Answer (Option Diagram)
+load p file = placed p (readDiagram file)
+
+-- 02: "order 10, 23, 24, then 4 .., 5 .., 8"
+abbrev pub loadText : ℕ → List ℕ → Answer (Option Diagram)
+loadText p text = placed p (readText text)
 
 -- "accepted, an empty place too; the place is empty and the witness is dropped"
 unfoldable pub clear : ℕ → Answer (Option Diagram)
@@ -128,3 +136,4 @@ Step b (Compile p) o = o ≡ asking b (compiled b p)
 Step b (Evaluate p file) o = o ≡ asking b (evaluated b p file)
 Step b (Compare bound) o = Choosing b (compared b bound) (λ d. Gap (d .0) (d .1)) bound differs o
 Step b (HandOut buffer) o = o ≡ writing b buffer (handedOut (b .witness) buffer)
+Step b (LoadText p text) o = o ≡ settling b p (loadText p text)

@@ -1,5 +1,4 @@
 pub mod WrittenLaws
-pub mod PutLaws
 pub mod PieceLaws
 pub mod StoredLaws
 pub mod NumberLaws

@@ -1,4 +1,3 @@
 pub mod Places
-pub mod Put
 pub mod Pieces
 pub mod Writes

@@ -49,14 +49,33 @@ pub fn pairs() -> Vec<Pair> {
     pairs
 }
 
-/// Every folder of `examples` with an old and a new diagram, in the order of their names.
-fn example_pairs() -> Vec<Pair> {
+/// The text of the old diagram of every folder of `examples`, in the order of their names.
+pub fn example_texts() -> Vec<(String, Vec<u8>)> {
+    let mut texts = Vec::new();
+    for folder in example_folders() {
+        let text = std::fs::read(folder.join("old.cd"));
+        if let (Ok(text), Some(name)) = (text, folder.file_name()) {
+            texts.push((format!("examples/{}", name.to_string_lossy()), text));
+        }
+    }
+    texts
+}
+
+/// Every folder of `examples`, in the order of their names.
+fn example_folders() -> Vec<PathBuf> {
     let examples = PathBuf::from(env!("CARGO_MANIFEST_DIR")).join("../../examples");
     let Ok(folders) = std::fs::read_dir(examples) else {
         return Vec::new();
     };
+    let mut folders: Vec<PathBuf> = folders.flatten().map(|entry| entry.path()).collect();
+    folders.sort();
+    folders
+}
+
+/// Every folder of `examples` with an old and a new diagram.
+fn example_pairs() -> Vec<Pair> {
     let mut pairs = Vec::new();
-    for folder in folders.flatten().map(|entry| entry.path()) {
+    for folder in example_folders() {
         let old = std::fs::read(folder.join("old.diagram"));
         let new = std::fs::read(folder.join("new.diagram"));
         if let (Ok(old), Ok(new), Some(name)) = (old, new, folder.file_name()) {
@@ -64,6 +83,5 @@ fn example_pairs() -> Vec<Pair> {
             pairs.push(Pair { name, old, new });
         }
     }
-    pairs.sort_by(|one, other| one.name.cmp(&other.name));
     pairs
 }

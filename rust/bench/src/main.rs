@@ -13,6 +13,7 @@ mod rows;
 mod solving;
 mod summary;
 mod table;
+mod texts;
 mod timing;
 
 use std::process::ExitCode;
@@ -38,6 +39,7 @@ fn beside_independent() {
     println!("Time for each call: the product, the independent comparer, and their ratio.");
     println!("A ratio below 1 says that the product was faster.");
     reading::report();
+    texts::report();
     judging::report();
     comparing::report();
 }

@@ -10,6 +10,7 @@ pub enum Call<'a> {
     Evaluate { place: u8, file: &'a [u8] },
     Compare { bound: u8 },
     HandOut { room: u32 },
+    LoadText { place: u8, text: &'a [u8] },
 }
 
 /// Entries of a compiled list as compile replies it, those past the number included.
@@ -23,7 +24,7 @@ pub(crate) const HAND_OUT_HEAD: usize = 5;
 
 /// The calls as the library reads them.
 ///
-/// Panics where a file has 4 GiB or more, since its length has no coding.
+/// Panics where a file or a text has 4 GiB or more, since its length has no coding.
 pub fn encode(calls: &[Call]) -> Vec<u8> {
     let mut coded = Vec::new();
     for call in calls {
@@ -45,12 +46,13 @@ fn encode_one(call: &Call, coded: &mut Vec<u8>) {
             coded.push(7);
             coded.extend(room.to_be_bytes());
         }
+        Call::LoadText { place, text } => with_file(8, place, text, coded),
     }
 }
 
-/// Appends a call that carries a file.
+/// Appends a call that carries a file or a text.
 fn with_file(code: u8, place: u8, file: &[u8], coded: &mut Vec<u8>) {
-    let length = u32::try_from(file.len()).expect("a file of a call is shorter than 4 GiB");
+    let length = u32::try_from(file.len()).expect("a file or text of a call is shorter than 4 GiB");
     coded.extend([code, place]);
     coded.extend(length.to_be_bytes());
     coded.extend(file);
@@ -64,7 +66,7 @@ pub fn room_for(calls: &[Call]) -> usize {
 /// The longest reply that a call may have.
 fn room_for_one(call: &Call) -> usize {
     match *call {
-        Call::Load { .. } | Call::Clear { .. } => 1,
+        Call::Load { .. } | Call::LoadText { .. } | Call::Clear { .. } => 1,
         Call::Judge { .. } | Call::Evaluate { .. } => 2,
         Call::Compile { .. } => 2 + LIST_ENTRIES * ENTRY_BYTES,
         Call::Compare { .. } => 3,
@@ -78,7 +80,7 @@ mod tests {
 
     #[test]
     fn each_call_has_its_code_and_operands() {
-        let cases: [(Call, &[u8]); 7] = [
+        let cases: [(Call, &[u8]); 8] = [
             (
                 Call::Load {
                     place: 1,
@@ -104,6 +106,13 @@ mod tests {
             ),
             (Call::Compare { bound: 8 }, &[6, 8]),
             (Call::HandOut { room: 60_000 }, &[7, 0, 0, 0xEA, 0x60]),
+            (
+                Call::LoadText {
+                    place: 1,
+                    text: b"{}",
+                },
+                &[8, 1, 0, 0, 0, 2, b'{', b'}'],
+            ),
         ];
         for (call, coded) in cases {
             assert_eq!(encode(&[call]), coded, "{call:?}");
@@ -143,9 +152,13 @@ mod tests {
             Call::Evaluate { place: 0, file },
             Call::Compare { bound: 0 },
             Call::HandOut { room: 7 },
+            Call::LoadText {
+                place: 0,
+                text: file,
+            },
         ];
         let rooms: Vec<usize> = calls.iter().map(|&call| room_for(&[call])).collect();
-        assert_eq!(rooms, [1, 1, 2, 322, 2, 3, 12]);
-        assert_eq!(room_for(&calls), 343);
+        assert_eq!(rooms, [1, 1, 2, 322, 2, 3, 12, 1]);
+        assert_eq!(room_for(&calls), 344);
     }
 }

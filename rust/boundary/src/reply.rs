@@ -5,7 +5,7 @@ use crate::call::{Call, ENTRY_BYTES, HAND_OUT_HEAD, LIST_ENTRIES};
 /// The reply to one call.
 #[derive(Clone, Debug, PartialEq, Eq)]
 pub enum Reply {
-    /// Load and clear: accepted.
+    /// Load, load of a text and clear: accepted.
     Done,
     /// Judge: 0, or the lowest rule broken.
     Rule(u8),
@@ -59,7 +59,7 @@ fn decode_one(call: &Call, rest: &mut &[u8]) -> Option<Reply> {
         return Some(Reply::Refused(status));
     }
     match call {
-        Call::Load { .. } | Call::Clear { .. } => Some(Reply::Done),
+        Call::Load { .. } | Call::LoadText { .. } | Call::Clear { .. } => Some(Reply::Done),
         Call::Judge { .. } => Some(Reply::Rule(take(rest, 1)?[0])),
         Call::Evaluate { .. } => Some(Reply::FirstFalse(take(rest, 1)?[0])),
         Call::Compile { .. } => compile_reply(rest),
@@ -135,8 +135,12 @@ mod tests {
             },
             Call::Compare { bound: 1 },
             Call::Compare { bound: 4 },
+            Call::LoadText {
+                place: 0,
+                text: FILE,
+            },
         ];
-        let replies = [0, 0, 0, 6, 0, 3, 0, 0, 0, 1, 4];
+        let replies = [0, 0, 0, 6, 0, 3, 0, 0, 0, 1, 4, 0];
         let expected = [
             Reply::Done,
             Reply::Done,
@@ -144,6 +148,7 @@ mod tests {
             Reply::FirstFalse(3),
             Reply::NoDifference,
             Reply::Difference(4),
+            Reply::Done,
         ];
         assert_eq!(decode(&calls, &replies), expected);
     }
@@ -158,11 +163,15 @@ mod tests {
             Call::Compile { place: 0 },
             Call::HandOut { room: 3 },
             Call::Compare { bound: 9 },
+            Call::LoadText {
+                place: 1,
+                text: FILE,
+            },
         ];
-        let replies = [10, 21, 22, 0, 0, 0, 0, 7, 8, 9, 9];
+        let replies = [10, 21, 22, 0, 0, 0, 0, 7, 8, 9, 9, 23];
         let decoded = decode(&calls, &replies);
         let numbers: Vec<_> = decoded.iter().map(Reply::refusal).collect();
-        assert_eq!(numbers, [Some(10), Some(21), Some(22), Some(9)]);
+        assert_eq!(numbers, [Some(10), Some(21), Some(22), Some(9), Some(23)]);
         assert_eq!(
             decoded[2],
             Reply::NotWritten {

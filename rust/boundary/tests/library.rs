@@ -68,6 +68,40 @@ fn a_row_of_all_calls() {
 }
 
 #[test]
+fn a_text_is_loaded_as_the_file_of_its_diagram() {
+    let new = b"classdiagram New { class Shelf; class Card;
+        composition [1] Shelf -> (cards) Card [0..4]; }";
+    let load_text = |place, text| Call::LoadText { place, text };
+    let calls = [
+        Call::Load {
+            place: 0,
+            file: OLD,
+        },
+        load_text(1, new),
+        Call::Compile { place: 1 },
+        Call::Compare { bound: 8 },
+        load_text(1, b"classdiagram New { class Shelf }"),
+        load_text(1, b"classdiagram New { association Shelf -> Shelf; }"),
+        load_text(2, new),
+        Call::Judge {
+            place: 1,
+            file: CARD,
+        },
+    ];
+    let expected = [
+        Reply::Done,
+        Reply::Done,
+        Reply::Records(vec![[1, 0, 0, 0, 4], [3, 0, 0, 1, 1], [6, 0, 0, 0, 0]]),
+        Reply::Difference(1),
+        Reply::Refused(23),
+        Reply::Refused(24),
+        Reply::Refused(10),
+        Reply::Rule(7),
+    ];
+    assert_eq!(run(&calls), expected);
+}
+
+#[test]
 fn bytes_behind_the_replies_stay() {
     let calls = encode(&[Call::Clear { place: 0 }, Call::Clear { place: 2 }]);
     let mut replies = [0xEE; 4];

@@ -11,6 +11,7 @@ use crate::refusal::{
     require, BOUND_ABOVE_8, BUFFER_SMALL, NO_WITNESS, PLACE_ABOVE_1, PLACE_EMPTY,
 };
 use crate::rules::judge;
+use crate::text::read_text;
 
 /// A bench; the default is the fresh one. A refused call leaves it as it was.
 #[derive(Clone, Debug, Default, PartialEq, Eq)]
@@ -23,9 +24,14 @@ impl Bench {
     /// Puts a diagram into a place and drops the witness: 10, then the file.
     pub fn load(&mut self, place: u8, file: &[u8]) -> Result<(), u8> {
         require(place <= 1, PLACE_ABOVE_1)?;
-        let diagram = read_diagram(file)?;
-        self.places[usize::from(place)] = Some(diagram);
-        self.witness = None;
+        self.store(place, read_diagram(file)?);
+        Ok(())
+    }
+
+    /// Puts the diagram of a text into a place and drops the witness: 10, then the text.
+    pub fn load_text(&mut self, place: u8, text: &[u8]) -> Result<(), u8> {
+        require(place <= 1, PLACE_ABOVE_1)?;
+        self.store(place, read_text(text)?);
         Ok(())
     }
 
@@ -71,6 +77,12 @@ impl Bench {
         let file = write_record(witness);
         buffer[..file.len()].copy_from_slice(&file);
         Ok(file.len())
+    }
+
+    /// Puts a diagram into a place that there is and drops the witness.
+    fn store(&mut self, place: u8, diagram: Diagram) {
+        self.places[usize::from(place)] = Some(diagram);
+        self.witness = None;
     }
 
     /// The diagram that a call needs: 10, then 21.

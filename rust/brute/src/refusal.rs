@@ -13,6 +13,8 @@ pub const PLACE_ABOVE_1: u8 = 10;
 pub const BUFFER_SMALL: u8 = 20;
 pub const PLACE_EMPTY: u8 = 21;
 pub const NO_WITNESS: u8 = 22;
+pub const OUTSIDE_GRAMMAR: u8 = 23;
+pub const NOT_DECLARED: u8 = 24;
 
 /// Gives the refusal unless the condition holds.
 pub fn require(condition: bool, refusal: u8) -> Result<(), u8> {

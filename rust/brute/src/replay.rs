@@ -11,6 +11,7 @@ enum Call<'a> {
     Evaluate(u8, &'a [u8]),
     Compare(u8),
     HandOut(usize),
+    LoadText(u8, &'a [u8]),
 }
 
 /// Runs the calls and gives the number of reply bytes. It stops at the first call that is cut
@@ -38,6 +39,7 @@ fn take_call<'a>(rest: &mut &'a [u8]) -> Option<Call<'a>> {
         5 => Some(Call::Evaluate(take_byte(rest)?, take_file(rest)?)),
         6 => Some(Call::Compare(take_byte(rest)?)),
         7 => Some(Call::HandOut(take_length(rest)?)),
+        8 => Some(Call::LoadText(take_byte(rest)?, take_file(rest)?)),
         _ => None,
     }
 }
@@ -78,6 +80,7 @@ fn run_call(bench: &mut Bench, call: Call, out: &mut [u8]) -> Option<usize> {
         Call::Evaluate(place, file) => bench.evaluate(place, file).map(byte),
         Call::Compare(bound) => bench.compare(bound).map(difference_bytes),
         Call::HandOut(room) => return hand_out(bench, room, out),
+        Call::LoadText(place, text) => bench.load_text(place, text).map(done),
     };
     let mut bytes = vec![reply.as_ref().err().copied().unwrap_or(0)];
     bytes.extend(reply.unwrap_or_default());

@@ -22,7 +22,7 @@ fn no_calls() {
 
 #[test]
 fn unknown_codes_end_the_list() {
-    for code in (0..=255).filter(|code| !(1..=7).contains(code)) {
+    for code in (0..=255).filter(|code| !(1..=8).contains(code)) {
         let calls = [clear(0), vec![code, 0, 0, 0, 0, 0], clear(0)].concat();
         assert_eq!(replies(&calls, 100), [0]);
     }
@@ -38,6 +38,7 @@ fn a_call_cut_off_anywhere_is_not_run() {
         evaluate(0, CARD_RECORD),
         compare(0),
         hand_out(3),
+        load_text(0, b"classdiagram d {}"),
     ];
     for call in all {
         for length in 0..call.len() {
@@ -53,6 +54,10 @@ fn a_length_beyond_the_list_is_cut_off() {
     assert!(replies(&[1, 0, 255, 255, 255, 255, 16, 0, 1, 1], 100).is_empty());
     assert!(replies(&[1, 0, 0, 0, 0, 5, 16, 0, 1, 1], 100).is_empty());
     assert_eq!(replies(&[1, 0, 0, 0, 0, 4, 16, 0, 1, 1], 100), [0]);
+    let mut text = load_text(0, b"classdiagram d {}");
+    assert_eq!(replies(&text, 100), [0]);
+    text[5] += 1;
+    assert!(replies(&text, 100).is_empty());
 }
 
 #[test]
@@ -67,6 +72,9 @@ fn lengths_have_the_high_byte_first() {
     }
     assert!(file.len() > 256);
     assert_eq!(replies(&load(0, &file), 100), [0]);
+    let blanks = [b' '; 70_000];
+    let text = [b"classdiagram d {}", &blanks[..]].concat();
+    assert_eq!(replies(&load_text(0, &text), 100), [0]);
 }
 
 #[test]
@@ -79,6 +87,9 @@ fn a_reply_without_room_is_not_written() {
         (compare(3), 2),
         (compare(4), 3),
         (clear(0), 1),
+        (load_text(0, b"classdiagram d {}"), 1),
+        (load_text(0, b""), 1),
+        (load_text(2, b""), 1),
         (judge(0, b""), 1),
         (compile(2), 1),
         (compare(9), 1),

@@ -2,12 +2,15 @@
 
 #[path = "checks/table.rs"]
 mod table;
+#[path = "checks/words.rs"]
+mod words;
 #[path = "checks/worked_files.rs"]
 mod worked_files;
 
 use boundary::{run, Call, Reply};
 use brute::{judge, read_diagram, read_record};
 use table::{cases, Case};
+use words::said;
 use worked_files::{card, e, empty, main_record, p, q, s, shelf3, z};
 
 const BUFFER: Call = Call::HandOut { room: 60_000 };
@@ -20,24 +23,6 @@ fn load(place: u8, file: &[u8]) -> Call<'_> {
 /// A judge, in short.
 fn judging(place: u8, file: &[u8]) -> Call<'_> {
     Call::Judge { place, file }
-}
-
-/// The reply in the words of the table, those on the witness left out.
-fn said(reply: &Reply) -> String {
-    match reply {
-        Reply::Done => "0".to_string(),
-        Reply::Rule(number) | Reply::FirstFalse(number) | Reply::Refused(number) => {
-            number.to_string()
-        }
-        Reply::Records(list) => {
-            let numbers = list.as_flattened().iter().map(|byte| format!(" {byte}"));
-            format!("{}{}", list.len(), numbers.collect::<String>())
-        }
-        Reply::NoDifference => "no difference".to_string(),
-        Reply::Difference(count) => format!("difference {count}"),
-        Reply::Written { record, .. } => format!("{} bytes", record.len()),
-        Reply::NotWritten { refusal, .. } => format!("refused {refusal}"),
-    }
 }
 
 #[test]

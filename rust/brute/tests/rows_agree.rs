@@ -15,7 +15,7 @@ fn rows_of_calls_agree() {
         rows_agree(seed, &mut tally);
     }
     println!("{tally:?}");
-    for status in [0, 1, 2, 3, 9, 10, 20, 21, 22] {
+    for status in [0, 1, 2, 3, 9, 10, 20, 21, 22, 23, 24] {
         assert!(
             tally.statuses[status] >= 30,
             "status {status} is too rare: {tally:?}"
@@ -35,9 +35,16 @@ fn short_row() -> Vec<CallPlan> {
         place,
         file: file.to_vec(),
     };
+    let load_text = |place, text: &[u8]| CallPlan::LoadText {
+        place,
+        text: text.to_vec(),
+    };
     let file = record;
     vec![
         CallPlan::HandOut { room: 3 },
+        load_text(1, b"classdiagram d {}"),
+        load_text(0, b"classdiagram"),
+        CallPlan::Clear { place: 1 },
         load(0, &singleton),
         CallPlan::Compile { place: 0 },
         CallPlan::Compile { place: 1 },
@@ -91,13 +98,13 @@ fn calls_are_cut_off_at_every_place() {
 #[test]
 fn a_hand_out_fits_or_does_not() {
     let mut calls = short_row();
-    calls.truncate(8);
+    calls.truncate(11);
     calls.push(CallPlan::HandOut { room: 60_000 });
     let list = coded(&calls);
     let whole = (0..=room(&calls)).rev();
     let exact = whole
-        .take_while(|space| same_replies(&calls, &list, *space) == 9)
+        .take_while(|space| same_replies(&calls, &list, *space) == 12)
         .last();
     let exact = exact.expect("all replies fit into the room for the longest");
-    assert_eq!(same_replies(&calls, &list, exact - 1), 8);
+    assert_eq!(same_replies(&calls, &list, exact - 1), 11);
 }

@@ -13,6 +13,10 @@ mod product;
 mod rows;
 #[path = "checks/solving.rs"]
 mod solving;
+#[path = "checks/text_pairs.rs"]
+mod text_pairs;
+#[path = "checks/texts.rs"]
+mod texts;
 
 use std::time::{Duration, Instant, SystemTime, UNIX_EPOCH};
 
@@ -38,14 +42,18 @@ fn every_check_on_many_seeds() {
     let mut seed = first;
     let (mut diagrams, mut records) = (files::Tally::default(), files::Tally::default());
     let (mut judged, mut compared) = (judging::Tally::default(), comparing::Tally::default());
-    let mut called = rows::Tally::new();
+    let (mut called, mut read) = (rows::Tally::new(), texts::Tally::default());
     let (mut solved, mut solving_time) = (solving::Tally::default(), Duration::ZERO);
     while seed == first || start.elapsed() < Duration::from_secs(60 * minutes) {
         files::diagrams_agree(seed, &files::diagram_files(seed), &mut diagrams);
         files::records_agree(seed, &files::record_files(seed), &mut records);
+        texts::whole_texts_agree(seed, &mut read);
+        texts::texts_agree(seed, &texts::texts_damaged_by_token(seed), &mut read);
+        texts::texts_agree(seed, &texts::texts_damaged_by_byte(seed), &mut read);
         judging::judging_agrees(seed, &mut judged);
         comparing::comparing_agrees(seed, &mut compared);
         comparing::four_objects_agree(seed, &mut compared);
+        text_pairs::compared_alike(seed);
         rows::rows_agree(seed, &mut called);
         // The solver takes far longer than the other checks: half of the time is its share.
         if solving_time * 2 <= start.elapsed() {
@@ -62,6 +70,7 @@ fn every_check_on_many_seeds() {
     println!("{} seeds without a disagreement.", seed - first);
     println!("diagram files by reply: {diagrams:?}");
     println!("record files by reply: {records:?}");
+    println!("texts by reply: {read:?}");
     println!("judging: {judged:?}");
     println!("comparing: {compared:?}");
     println!("solving: {solved:?}");

@@ -3,6 +3,7 @@
 use std::ffi::OsString;
 use std::path::PathBuf;
 
+use crate::disk::STANDARD_INPUT;
 use crate::options::{sort, Words};
 
 /// The bound where none is given: the most objects that a record has.
@@ -130,6 +131,10 @@ fn try_words(name: &str, files: &[&str], words: &Words) -> Result<(), String> {
         let extra = extra.display();
         return Err(format!("'{name}' takes {all} only; '{extra}' is too much."));
     }
+    let is_input = |file: &&PathBuf| file.as_os_str() == STANDARD_INPUT;
+    if words.files.iter().filter(is_input).count() > 1 {
+        return Err("Standard input, '-', can be read only once.".to_string());
+    }
     if name != "compare" && (words.bound.is_some() || words.out.is_some()) {
         return Err(format!(
             "'{name}' has no options --bound and --out; 'compare' has."
@@ -230,6 +235,7 @@ mod tests {
             ("compare a", "'compare' needs OLD and NEW; NEW is missing."),
             ("show", "'show' needs FILE; FILE is missing."),
             ("check a b", "'check' takes FILE only; 'b' is too much."),
+            ("compare - -", "Standard input, '-', can be read only once."),
             ("compare a b --bond 3", "There is no option '--bond'."),
             (
                 "compare a b --bound",

@@ -1,12 +1,14 @@
 //! Files on disk.
 
 use std::fs::File;
-use std::io::Read;
+use std::io::{stdin, Read};
 use std::path::{Path, PathBuf};
 
+use crate::text::{is_name, NAME_MOST};
 use crate::trouble::Trouble;
 
-/// Far above any diagram or record file; what is longer is not read to its end.
+/// Far above any diagram or record file, and any text that a person types; what is longer is not
+/// read to its end.
 const MOST_BYTES: u64 = 64 << 20;
 
 /// A file's bytes and where they came from.
@@ -21,7 +23,16 @@ impl Loaded {
         self.path.display().to_string()
     }
 
-    /// A word to call a diagram by: the file's stem where that is a word, else the one given.
+    /// A name for the diagram in a diagram file: the file's stem where a text may have it.
+    pub fn name_of_diagram(&self) -> String {
+        let stem = self.stem_or("diagram");
+        match is_name(&stem) && stem.len() <= NAME_MOST {
+            true => stem,
+            false => "diagram".to_string(),
+        }
+    }
+
+    /// A word to call a record by: the file's stem where that is a word, else the one given.
     pub fn stem_or(&self, other: &str) -> String {
         let stem = self.path.file_stem().unwrap_or_default().to_string_lossy();
         let is_word = |letter: char| letter.is_ascii_alphanumeric() || letter == '_';
@@ -32,20 +43,35 @@ impl Loaded {
     }
 }
 
-/// The whole file.
+/// The path that stands for standard input.
+pub const STANDARD_INPUT: &str = "-";
+
+/// What standard input is called.
+const STANDARD_INPUT_NAME: &str = "standard input";
+
+/// The whole file, or all of standard input.
 pub fn load(path: &Path) -> Result<Loaded, Trouble> {
+    let is_input = path == Path::new(STANDARD_INPUT);
+    let path = match is_input {
+        true => Path::new(STANDARD_INPUT_NAME),
+        false => path,
+    };
     let trouble = |why: String| Trouble::Unreadable {
         path: path.to_path_buf(),
         why,
     };
     let mut bytes = Vec::new();
-    File::open(path)
-        .and_then(|file| file.take(MOST_BYTES + 1).read_to_end(&mut bytes))
-        .map_err(|error| trouble(plain_words(&error)))?;
+    let read = match is_input {
+        true => stdin().take(MOST_BYTES + 1).read_to_end(&mut bytes),
+        false => {
+            File::open(path).and_then(|file| file.take(MOST_BYTES + 1).read_to_end(&mut bytes))
+        }
+    };
+    read.map_err(|error| trouble(plain_words(&error)))?;
     if bytes.len() as u64 > MOST_BYTES {
         let most = MOST_BYTES >> 20;
         return Err(trouble(format!(
-            "it has more than {most} MiB, and no diagram or record file is longer than 59,300 bytes"
+            "it has more than {most} MiB, which is more than this program reads"
         )));
     }
     Ok(Loaded {

@@ -56,17 +56,11 @@ impl FileKind {
     }
 }
 
-/// The kind of file that a tag belongs to.
-pub fn kind_of_tag(tag: u8) -> Option<&'static FileKind> {
-    [&DIAGRAM, &RECORD]
-        .into_iter()
-        .find(|kind| kind.rule_of(tag).is_some())
-}
-
 /// What a tag stands for, in words.
 pub fn tag_name(tag: u8) -> Option<&'static str> {
-    kind_of_tag(tag)
-        .and_then(|kind| kind.rule_of(tag))
+    let mut kinds = [&DIAGRAM, &RECORD].into_iter();
+    kinds
+        .find_map(|kind| kind.rule_of(tag))
         .map(|rule| rule.name)
 }
 

@@ -25,7 +25,9 @@ corfynnog: does a new release forbid a site that the old one allows?
   corfynnog check FILE              is this an acceptable diagram or record file
   corfynnog show FILE               a diagram or record file as text
 
-OLD, NEW and DIAGRAM are diagram files, RECORD is a record file (a site).
+OLD, NEW and DIAGRAM are diagrams: diagram text ('corfynnog check --help' shows one), or a diagram
+file, whose first byte is 0x10. RECORD is a record file (a site). One of them may be -, which stands
+for standard input.
 
 Options
   --bound N     compare sites of at most N objects, 0 to 8 (8 if not given)
@@ -40,9 +42,9 @@ Exit status
   2  a file or a bound is refused, a file cannot be read, or the command is not understood
 
 Examples
-  corfynnog compare old.diagram new.diagram
-  corfynnog compare old.diagram new.diagram --bound 4 --out site.record
-  corfynnog judge new.diagram site.record
+  corfynnog compare old.cd new.cd
+  corfynnog compare old.cd new.cd --bound 4 --out site.record
+  corfynnog judge new.cd site.record
   corfynnog show site.record
 
 JSON
@@ -50,7 +52,8 @@ JSON
   \"no difference\", \"difference\", \"legal\", \"illegal\", \"compiled\", \"all hold\", \"not all hold\",
   \"accepted\", \"shown\", \"refused\", \"unreadable\", \"misused\". The help of each command lists the rest.
   A refused file has \"refusal\", \"file\", \"kind\", \"field\" (counted from 1), \"tag\", \"field_name\",
-  \"field_start\", \"byte\" (both counted from 0), \"text\", \"rule\" and \"to_do\".
+  \"field_start\", \"byte\" (both counted from 0), \"text\", \"rule\" and \"to_do\". A refused text has \"form\"
+  (\"text\"), \"line\" and \"column\" (both counted from 1) instead of the four about fields.
 ";
 
 const COMPARE: &str = "\
@@ -67,8 +70,8 @@ With --out it is written as a record file too.
 Exit status: 0 no difference, 1 difference, 2 refused or misused.
 
 Examples
-  corfynnog compare old.diagram new.diagram
-  corfynnog compare old.diagram new.diagram --bound 4 --out site.record
+  corfynnog compare old.cd new.cd
+  corfynnog compare old.cd new.cd --bound 4 --out site.record
 
 JSON: \"old\", \"new\", \"bound\", \"result\" (\"difference\" or \"no difference\"); after a difference
 \"objects\", \"witness\" (as of 'show'), \"reason\" (as of 'judge'), and with --out \"written\" (the file,
@@ -84,7 +87,7 @@ rules that is broken, and the objects, attributes and associations where.
 Exit status: 0 legal, 1 illegal, 2 refused or misused.
 
 Example
-  corfynnog judge new.diagram site.record
+  corfynnog judge new.cd site.record
 
 JSON: \"diagram\", \"record\", \"result\" (\"legal\" or \"illegal\"); of an illegal site \"reason\": \"rule\",
 \"rule_text\", \"predicate\" (the index of the compiled predicate that is broken first, or null where
@@ -101,7 +104,7 @@ numbers (kind, association, side, low, up), and what it says. Side 0 is from lef
 Exit status: 0 compiled, 2 refused or misused.
 
 Example
-  corfynnog compile new.diagram
+  corfynnog compile new.cd
 
 JSON: \"diagram\", \"result\" (\"compiled\"), \"number\", \"predicates\" (each with \"kind\", \"name\",
 \"association\", \"side\", \"low\", \"up\", \"association_text\", \"text\").
@@ -116,7 +119,7 @@ that does not hold.
 Exit status: 0 all hold, 1 some does not hold, 2 refused or misused.
 
 Example
-  corfynnog evaluate new.diagram site.record
+  corfynnog evaluate new.cd site.record
 
 JSON: \"diagram\", \"record\", \"number\" (of predicates), \"result\" (\"all hold\" or \"not all hold\"); in the
 second case \"first_false\" (index from 0), \"predicate\" (as of 'compile'), \"places\" (as of 'judge').
@@ -125,30 +128,58 @@ second case \"first_false\" (index from 0), \"predicate\" (as of 'compile'), \"p
 const CHECK: &str = "\
 corfynnog check FILE [--json]
 
-Says whether the file is an acceptable diagram file or record file (told apart by the first byte). If
-not, it says which field is at fault, at which byte, by which rule, and what to do.
+Says whether the file is an acceptable diagram file (its first byte is 0x10), record file (0x60) or
+diagram text (any other). If not, it says where the fault is, by which rule, and what to do: of a
+file the field and the byte, of a text the line and the column, counted from 1 (a column is a byte,
+a tab too).
+
+Diagram text:
+
+  classdiagram cards {
+    enum State {spare, working;}
+    interface Powered;
+    abstract class Unit implements Powered {
+      State state;
+      Date made;
+    }
+    class Card extends Unit;
+    <<singleton>> class Exchange {}
+    composition [1] Exchange (exchange) -> (cards) Card [0..4];
+    association Card <-> (next) Card [0..1];
+  }
+
+The arrows are ->, <-, <-> and --. A cardinality is written [*], [2], [0..4] or [2..*], and is [*] where
+it is left out; a role left out is the type's name with a small first letter. Parents are declared
+before their children. An attribute type that is no enumeration is a type with one unnamed value.
+Names have up to 16 letters, digits and underscores. There are no comments.
 
 Exit status: 0 accepted, 2 refused or misused.
 
-Example
+Examples
+  corfynnog check new.cd
   corfynnog check site.record
 
-JSON: \"file\", \"kind\" (\"diagram\" or \"record\"), \"result\" (\"accepted\" or \"refused\").
+JSON: \"file\", \"kind\" (\"diagram\" or \"record\"), of a text \"form\" (\"text\"), \"result\" (\"accepted\" or
+\"refused\").
 ";
 
 const SHOW: &str = "\
 corfynnog show FILE [--json]
 
-Prints a diagram file as class diagram text, a record file as object diagram text. The value of a
-type without constants is written some_type_ and the type's name.
+Prints a diagram as diagram text, a record file as object diagram text. The value of a type without
+constants is written some_type_ and the type's name.
+
+The text of a diagram is read back as the same diagram. A diagram file can hold what a text cannot:
+attributes of interfaces, names that are words of the grammar, attributes in any order. Where it
+does, a remark on standard error says so.
 
 Exit status: 0 shown, 2 refused or misused.
 
 Examples
-  corfynnog show old.diagram
+  corfynnog show old.diagram > old.cd
   corfynnog show site.record
 
 JSON: \"file\", \"kind\", \"result\" (\"shown\"), and \"diagram\" (\"value_types\", \"types\", \"attributes\",
-\"associations\") or \"record\" (\"objects\", \"links\"). An upper limit or a constant that there is none of
-is null.
+\"associations\") and \"remarks\" (a list of sentences), or \"record\" (\"objects\", \"links\"). An upper limit
+or a constant that there is none of is null.
 ";

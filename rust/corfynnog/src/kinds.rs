@@ -1,37 +1,49 @@
 //! Which kind of file this is, told by its first byte.
 
 use crate::disk::Loaded;
-use crate::fields::{kind_of_tag, DIAGRAM};
+use crate::fields::{DIAGRAM, RECORD};
 use crate::proved;
 use crate::trouble::Trouble;
 
-/// The two kinds of file.
+/// The kinds of file.
 #[derive(Clone, Copy, Debug, PartialEq, Eq)]
 pub enum FileIs {
-    Diagram,
+    DiagramFile,
+    DiagramText,
     Record,
+}
+
+impl FileIs {
+    /// The kind that a file is taken for where any kind will do. No accepted text starts as a file.
+    fn of(file: &[u8]) -> FileIs {
+        match file.first() {
+            Some(&first) if first == DIAGRAM.first_tag() => FileIs::DiagramFile,
+            Some(&first) if first == RECORD.first_tag() => FileIs::Record,
+            _ => FileIs::DiagramText,
+        }
+    }
+
+    /// The kind in words.
+    pub fn words(self) -> &'static str {
+        match self {
+            FileIs::DiagramFile => "diagram file",
+            FileIs::DiagramText => "diagram text",
+            FileIs::Record => "record file",
+        }
+    }
+}
+
+/// A diagram is text unless it starts as a diagram file.
+pub fn is_text(diagram: &[u8]) -> bool {
+    FileIs::of(diagram) != FileIs::DiagramFile
 }
 
 /// The kind of a file that the library accepts as such, else why not.
 pub fn accepted_kind(file: &Loaded) -> Result<FileIs, Trouble> {
-    let Some(kind) = file.bytes.first().copied().and_then(kind_of_tag) else {
-        return Err(neither(file));
-    };
-    if kind.name == DIAGRAM.name {
-        return proved::check_diagram(file).map(|()| FileIs::Diagram);
+    let kind = FileIs::of(&file.bytes);
+    match kind {
+        FileIs::Record => proved::check_record(file)?,
+        FileIs::DiagramFile | FileIs::DiagramText => proved::check_diagram(file)?,
     }
-    proved::check_record(file).map(|()| FileIs::Record)
-}
-
-/// The file starts with no tag of either kind; the library refuses it as both.
-fn neither(file: &Loaded) -> Trouble {
-    let both = (proved::check_diagram(file), proved::check_record(file));
-    let (Err(Trouble::Refused(diagram)), Err(Trouble::Refused(record))) = both else {
-        return Trouble::Unexpected;
-    };
-    Trouble::Neither {
-        path: file.path.clone(),
-        first_byte: file.bytes.first().copied(),
-        refusals: [diagram.refusal, record.refusal],
-    }
+    Ok(kind)
 }

@@ -27,7 +27,10 @@ mod proved;
 mod reasons;
 mod record;
 mod record_file;
+mod text;
+mod text_trouble;
 mod trouble;
+mod unwritable;
 mod words;
 
 use std::ffi::OsString;
@@ -67,7 +70,7 @@ fn tell(outcome: &Outcome, json: bool) -> u8 {
     } else {
         print(&outcome.text);
     }
-    if !json || !outcome.text.is_empty() {
+    if !json || (outcome.status == outcome::TROUBLE && !outcome.text.is_empty()) {
         let _ = stderr().write_all(outcome.complaint.as_bytes());
     }
     outcome.status

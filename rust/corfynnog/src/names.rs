@@ -1,6 +1,7 @@
 //! Pieces of a diagram as text: limits, associations, counts.
 
 use crate::diagram::{Association, Diagram, End, Limits};
+use crate::unwritable::is_left_out;
 
 /// Limits as they stand at an association's end.
 pub fn cardinality(limits: Limits) -> String {
@@ -30,13 +31,17 @@ pub fn association_text(diagram: &Diagram, association: &Association) -> String 
         false => "association",
     };
     let type_of = |end: &End| diagram.types[end.of].name.clone();
+    let role_of = |end: &End| match is_left_out(&type_of(end), &end.role) {
+        true => String::new(),
+        false => format!("({}) ", end.role),
+    };
     format!(
-        "{form} {} {} ({}) {} ({}) {} {}",
+        "{form} {} {} {}{} {}{} {}",
         cardinality(association.left.limits),
         type_of(&association.left),
-        association.left.role,
+        role_of(&association.left),
         association.arrow.text(),
-        association.right.role,
+        role_of(&association.right),
         type_of(&association.right),
         cardinality(association.right.limits),
     )

@@ -5,11 +5,13 @@ use boundary::{run, Call, Reply, HAND_OUT_ROOM};
 use crate::diagram::Diagram;
 use crate::diagram_file::read_diagram;
 use crate::disk::Loaded;
-use crate::fault::Fault;
-use crate::fields::{FileKind, DIAGRAM, RECORD};
+use crate::fields::{DIAGRAM, RECORD};
+use crate::kinds::is_text;
 use crate::predicates::Predicate;
 use crate::record::Record;
 use crate::record_file::read_record;
+use crate::text::{read_text, NamedDiagram};
+use crate::text_trouble::RefusedText;
 use crate::trouble::{RefusedFile, Trouble};
 
 /// The smallest diagram file: a record file is refused or not whatever the diagram.
@@ -31,15 +33,20 @@ impl Judged {
     }
 }
 
-/// Accepts a diagram file, or says where it is refused.
-pub fn check_diagram(file: &Loaded) -> Result<(), Trouble> {
-    let calls = [Call::Load {
-        place: 0,
-        file: &file.bytes,
-    }];
-    match run(&calls)[..] {
+/// The call that loads a diagram, from a diagram file or from text.
+fn load_call(place: u8, diagram: &Loaded) -> Call<'_> {
+    let bytes = &diagram.bytes[..];
+    match is_text(bytes) {
+        true => Call::LoadText { place, text: bytes },
+        false => Call::Load { place, file: bytes },
+    }
+}
+
+/// Accepts a diagram, or says where it is refused.
+pub fn check_diagram(diagram: &Loaded) -> Result<(), Trouble> {
+    match run(&[load_call(0, diagram)])[..] {
         [Reply::Done] => Ok(()),
-        [Reply::Refused(refusal)] => Err(refused(file, &DIAGRAM, refusal)),
+        [Reply::Refused(refusal)] => Err(refused_diagram(diagram, refusal)),
         _ => Err(Trouble::Unexpected),
     }
 }
@@ -58,36 +65,27 @@ pub fn check_record(file: &Loaded) -> Result<(), Trouble> {
     ];
     match run(&calls)[..] {
         [Reply::Done, Reply::Rule(_)] => Ok(()),
-        [Reply::Done, Reply::Refused(refusal)] => Err(refused(file, &RECORD, refusal)),
+        [Reply::Done, Reply::Refused(refusal)] => Err(refused_record(file, refusal)),
         _ => Err(Trouble::Unexpected),
     }
 }
 
-/// The compiled predicates of a diagram file.
-pub fn compile(file: &Loaded) -> Result<Vec<Predicate>, Trouble> {
-    check_diagram(file)?;
-    let calls = [
-        Call::Load {
-            place: 0,
-            file: &file.bytes,
-        },
-        Call::Compile { place: 0 },
-    ];
+/// The compiled predicates of a diagram.
+pub fn compile(diagram: &Loaded) -> Result<Vec<Predicate>, Trouble> {
+    check_diagram(diagram)?;
+    let calls = [load_call(0, diagram), Call::Compile { place: 0 }];
     match &run(&calls)[..] {
         [Reply::Done, Reply::Records(list)] => Ok(list.iter().map(|&e| Predicate::of(e)).collect()),
         _ => Err(Trouble::Unexpected),
     }
 }
 
-/// The verdict on a record file under a diagram file.
+/// The verdict on a record file under a diagram.
 pub fn judge(diagram: &Loaded, record: &Loaded) -> Result<Judged, Trouble> {
     let predicates = compile(diagram)?;
     let file = &record.bytes[..];
     let calls = [
-        Call::Load {
-            place: 0,
-            file: &diagram.bytes,
-        },
+        load_call(0, diagram),
         Call::Judge { place: 0, file },
         Call::Evaluate { place: 0, file },
     ];
@@ -97,7 +95,7 @@ pub fn judge(diagram: &Loaded, record: &Loaded) -> Result<Judged, Trouble> {
             predicates,
             first_false: index.into(),
         }),
-        [Reply::Done, Reply::Refused(refusal), _] => Err(refused(record, &RECORD, refusal)),
+        [Reply::Done, Reply::Refused(refusal), _] => Err(refused_record(record, refusal)),
         _ => Err(Trouble::Unexpected),
     }
 }
@@ -105,22 +103,16 @@ pub fn judge(diagram: &Loaded, record: &Loaded) -> Result<Judged, Trouble> {
 /// What one level of comparing gives: the witness's object count and file, if there is a difference.
 pub fn compare(old: &Loaded, new: &Loaded, bound: u8) -> Result<Option<(u8, Vec<u8>)>, Trouble> {
     let calls = [
-        Call::Load {
-            place: 0,
-            file: &old.bytes,
-        },
-        Call::Load {
-            place: 1,
-            file: &new.bytes,
-        },
+        load_call(0, old),
+        load_call(1, new),
         Call::Compare { bound },
         Call::HandOut {
             room: HAND_OUT_ROOM,
         },
     ];
     match &run(&calls)[..] {
-        [Reply::Refused(refusal), ..] => Err(refused(old, &DIAGRAM, *refusal)),
-        [_, Reply::Refused(refusal), ..] => Err(refused(new, &DIAGRAM, *refusal)),
+        [Reply::Refused(refusal), ..] => Err(refused_diagram(old, *refusal)),
+        [_, Reply::Refused(refusal), ..] => Err(refused_diagram(new, *refusal)),
         [_, _, Reply::Refused(refusal), _] => Err(Trouble::BoundRefused {
             bound,
             refusal: *refusal,
@@ -133,25 +125,36 @@ pub fn compare(old: &Loaded, new: &Loaded, bound: u8) -> Result<Option<(u8, Vec<
     }
 }
 
-/// The refusal of a file, with its place where this program's own reading finds the same fault.
-pub fn refused(file: &Loaded, kind: &'static FileKind, refusal: u8) -> Trouble {
-    let found = match kind.name == DIAGRAM.name {
-        true => read_diagram(&file.bytes).err(),
-        false => read_record(&file.bytes).err(),
-    };
-    let same = |fault: &Fault| fault.refusal == refusal;
-    Trouble::Refused(Box::new(RefusedFile {
-        path: file.path.clone(),
-        kind,
-        refusal,
-        fault: found.filter(same),
-        first_byte: file.bytes.first().copied(),
-    }))
+/// The refusal of a diagram, with its place where this program's own reading finds the same fault.
+fn refused_diagram(diagram: &Loaded, refusal: u8) -> Trouble {
+    if is_text(&diagram.bytes) {
+        return Trouble::RefusedText(Box::new(RefusedText::of(diagram, refusal)));
+    }
+    let fault = read_diagram(&diagram.bytes).err();
+    Trouble::Refused(Box::new(RefusedFile::of(diagram, &DIAGRAM, refusal, fault)))
 }
 
-/// The names in a diagram file that was accepted.
-pub fn diagram_of(file: &Loaded) -> Result<Diagram, Trouble> {
-    read_diagram(&file.bytes).map_err(|_| Trouble::Unexpected)
+/// The refusal of a record file, likewise.
+fn refused_record(file: &Loaded, refusal: u8) -> Trouble {
+    let fault = read_record(&file.bytes).err();
+    Trouble::Refused(Box::new(RefusedFile::of(file, &RECORD, refusal, fault)))
+}
+
+/// The names in a diagram that was accepted.
+pub fn diagram_of(diagram: &Loaded) -> Result<Diagram, Trouble> {
+    named_diagram_of(diagram).map(|named| named.diagram)
+}
+
+/// The names in a diagram that was accepted, its own too; a file has none of its own.
+pub fn named_diagram_of(diagram: &Loaded) -> Result<NamedDiagram, Trouble> {
+    let read = match is_text(&diagram.bytes) {
+        true => read_text(&diagram.bytes).ok(),
+        false => read_diagram(&diagram.bytes).ok().map(|read| NamedDiagram {
+            name: diagram.name_of_diagram(),
+            diagram: read,
+        }),
+    };
+    read.ok_or(Trouble::Unexpected)
 }
 
 /// The names in a record file that was accepted.

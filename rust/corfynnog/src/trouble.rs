@@ -3,10 +3,13 @@
 use std::path::{Path, PathBuf};
 
 use crate::args::Misuse;
+use crate::disk::Loaded;
 use crate::fault::Fault;
-use crate::fields::{kind_of_tag, tag_name, FileKind};
+use crate::fields::{tag_name, FileKind, DIAGRAM, RECORD};
 use crate::json::Json;
 use crate::outcome::{Outcome, TROUBLE};
+use crate::text::starts_as_text;
+use crate::text_trouble::RefusedText;
 use crate::words::refusal_in_words;
 
 /// A run without an answer.
@@ -17,13 +20,8 @@ pub enum Trouble {
     Unreadable { path: PathBuf, why: String },
     /// The library refused a file; the fault where it could be found.
     Refused(Box<RefusedFile>),
-    /// The file starts as neither kind does, and the library refused it as both.
-    Neither {
-        path: PathBuf,
-        first_byte: Option<u8>,
-        /// The refusals as a diagram file and as a record file.
-        refusals: [u8; 2],
-    },
+    /// The library refused a text; the fault where it could be found.
+    RefusedText(Box<RefusedText>),
     /// The library refused the bound.
     BoundRefused { bound: u8, refusal: u8 },
     /// A reply that cannot come.
@@ -36,8 +34,8 @@ pub struct RefusedFile {
     pub kind: &'static FileKind,
     pub refusal: u8,
     pub fault: Option<Fault>,
-    /// The file's first byte, which may tell that it is of the other kind.
-    pub first_byte: Option<u8>,
+    /// Another kind of file that it looks like.
+    looks_like: Option<&'static str>,
 }
 
 impl Trouble {
@@ -47,11 +45,7 @@ impl Trouble {
             Trouble::Misused(misuse) => misused(misuse),
             Trouble::Unreadable { path, why } => unreadable(path, why),
             Trouble::Refused(file) => (file.words(), file.members()),
-            Trouble::Neither {
-                path,
-                first_byte,
-                refusals,
-            } => neither(path, *first_byte, *refusals),
+            Trouble::RefusedText(text) => (text.words(), text.members()),
             Trouble::BoundRefused { bound, refusal } => bound_refused(*bound, *refusal),
             Trouble::Unexpected => unexpected(),
         };
@@ -95,27 +89,6 @@ fn unreadable(path: &Path, why: &str) -> Words {
     (text, members)
 }
 
-/// A file that starts as neither kind does.
-fn neither(path: &Path, first_byte: Option<u8>, [diagram, record]: [u8; 2]) -> Words {
-    let start = match first_byte {
-        None => "it is empty".to_string(),
-        Some(byte) => format!("it starts with the byte 0x{byte:02X}"),
-    };
-    let what = format!("{start}, but a diagram file starts with 0x10 and a record file with 0x60");
-    let text = format!(
-        "{} is neither an acceptable diagram file (refusal {diagram}) nor an acceptable record file (refusal {record}): {what}. Check the file's name.",
-        path.display(),
-    );
-    let members = vec![
-        ("result", Json::text("refused")),
-        ("refusal", Json::Number(diagram.into())),
-        ("file", Json::text(path.to_string_lossy())),
-        ("kind", Json::Null),
-        ("text", Json::Text(what)),
-    ];
-    (text, members)
-}
-
 /// A bound that the library refused.
 fn bound_refused(bound: u8, refusal: u8) -> Words {
     let words = refusal_in_words(refusal);
@@ -144,7 +117,38 @@ fn unexpected() -> Words {
     (text.to_string(), members)
 }
 
+/// The kind of file that it looks like by its start.
+pub fn look_of(file: &[u8]) -> Option<&'static str> {
+    match file.first() {
+        Some(&first) if first == DIAGRAM.first_tag() => Some("diagram file"),
+        Some(&first) if first == RECORD.first_tag() => Some("record file"),
+        _ => starts_as_text(file).then_some("diagram text"),
+    }
+}
+
+/// What to do about a file of another kind.
+pub fn other_kind_advice(look: &str) -> String {
+    format!("this looks like a {look}: check the order of the arguments")
+}
+
 impl RefusedFile {
+    /// A fault that is not of the library's number is left out.
+    pub fn of(
+        file: &Loaded,
+        kind: &'static FileKind,
+        refusal: u8,
+        fault: Option<Fault>,
+    ) -> RefusedFile {
+        let own = format!("{} file", kind.name);
+        RefusedFile {
+            path: file.path.clone(),
+            kind,
+            refusal,
+            fault: fault.filter(|fault| fault.refusal == refusal),
+            looks_like: look_of(&file.bytes).filter(|look| *look != own),
+        }
+    }
+
     /// Which file, which field at which byte, the rule, and what to do.
     fn words(&self) -> String {
         let words = refusal_in_words(self.refusal);
@@ -188,14 +192,10 @@ impl RefusedFile {
         found.unwrap_or("not known more closely")
     }
 
-    /// A file of the other kind is the likeliest mistake where its first byte says so.
+    /// A file of the other kind is the likeliest mistake where its start says so.
     fn to_do(&self) -> String {
-        let kind = self.first_byte.and_then(kind_of_tag);
-        match kind.filter(|kind| kind.name != self.kind.name) {
-            Some(other) => format!(
-                "this looks like a {} file: check the order of the arguments",
-                other.name
-            ),
+        match self.looks_like {
+            Some(look) => other_kind_advice(look),
             None => refusal_in_words(self.refusal).to_do.to_string(),
         }
     }

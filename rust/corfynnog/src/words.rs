@@ -22,7 +22,27 @@ pub struct RefusalWords {
     pub to_do: &'static str,
 }
 
-/// The words of a refusal of a file.
+/// The words of a refusal of a text; the numbers that texts share with files have words of their own.
+pub fn text_refusal_in_words(number: u8) -> RefusalWords {
+    let (rule, to_do) = match number {
+        4 => (
+            "a text has at most 12 value types, 24 types, 32 attributes and 16 associations, an enumeration 8 constants, a type 4 parents",
+            "take some out, or split the diagram",
+        ),
+        5 => (
+            "classes and interfaces have different names, so do enumerations and the constants of one; a type names a parent once",
+            "rename one of the two, or take the second one out",
+        ),
+        8 => (
+            "the left end of a composition is the whole, so that its arrow is not <-",
+            "exchange the two ends and write ->",
+        ),
+        _ => return refusal_in_words(number),
+    };
+    RefusalWords { rule, to_do }
+}
+
+/// The words of a refusal of a file, or of one that only texts have.
 pub fn refusal_in_words(number: u8) -> RefusalWords {
     let (rule, to_do) = match number {
         1 => (
@@ -61,10 +81,37 @@ pub fn refusal_in_words(number: u8) -> RefusalWords {
             "the bound is 0 to 8, since a record has at most 8 objects",
             "give a bound of at most 8",
         ),
+        23 => (
+            "a text follows the grammar, its names have at most 16 bytes, its limits are 0 to 100 with the lower one first",
+            "correct the text; 'corfynnog check --help' shows how it is written",
+        ),
+        24 => (
+            "an association joins declared classes and interfaces; a parent is declared before its child, a class behind a class's extends, else an interface",
+            "declare what is missing, move the parent up, or correct the name",
+        ),
         _ => (
             "this program has no words for a refusal of that number",
             "please report the file and the number",
         ),
     };
     RefusalWords { rule, to_do }
+}
+
+#[cfg(test)]
+mod tests {
+    use super::*;
+
+    #[test]
+    fn every_refusal_of_a_text_has_words_of_its_own() {
+        let unknown = refusal_in_words(99);
+        for number in [23, 24, 4, 5, 8] {
+            let words = text_refusal_in_words(number);
+            assert_ne!(words.rule, unknown.rule, "{number}");
+            assert_ne!(words.to_do, unknown.to_do, "{number}");
+        }
+        for number in [4, 5, 8] {
+            let (text, file) = (text_refusal_in_words(number), refusal_in_words(number));
+            assert_ne!(text.rule, file.rule, "{number}");
+        }
+    }
 }

@@ -3,6 +3,7 @@
 
 mod common;
 
+use common::json::read;
 use common::{hex, sites, Folder};
 
 /// A generator of numbers, the same ones in every run.
@@ -117,6 +118,73 @@ fn damaged_diagrams() {
 fn damaged_records() {
     let (accepted, refused) = check_all("damaged_records", &records(), 250);
     assert!(accepted >= 50 && refused >= 500, "{accepted} {refused}");
+}
+
+/// A text with every construct, a blank between any two words and marks.
+const TEXT: &str = "classdiagram d { class A ; interface I ; abstract class B ; \
+    class C extends A , B implements I { V v ; E e ; } enum E { a , b ; } enum F ; \
+    << singleton >> class M { } composition [ 1 ] A ( x ) -> ( y ) C [ 0 .. 4 ] ; \
+    association A <- I [ 2 .. * ] ; association [ * ] B <-> I ; association M -- ( z ) M ; }";
+
+/// Words and marks that may stand for each other.
+const ALIKE: [&str; 6] = [
+    "A B C I M E F V",
+    "a b v e x y z",
+    "-> <- <-> --",
+    "0 1 2 4 101",
+    "extends implements",
+    "composition association",
+];
+
+/// A text with a few of its words and marks exchanged for others of their kind, or one for any.
+fn damaged_text(numbers: &mut Numbers) -> Vec<u8> {
+    let mut words: Vec<&str> = TEXT.split(' ').collect();
+    for _ in 0..numbers.below(12) {
+        let at = numbers.below(words.len());
+        let mut groups = ALIKE
+            .iter()
+            .map(|group| group.split(' ').collect::<Vec<_>>());
+        if let Some(group) = groups.find(|group| group.contains(&words[at])) {
+            words[at] = group[numbers.below(group.len())];
+        }
+    }
+    let (at, from) = (numbers.below(words.len()), numbers.below(words.len()));
+    match numbers.below(12) {
+        0 => drop(words.remove(at)),
+        1 => words.insert(at, words[from]),
+        2 => words[at] = words[from],
+        _ => (),
+    }
+    words.join(" ").into_bytes()
+}
+
+#[test]
+fn damaged_texts() {
+    let folder = Folder::of("damaged_texts");
+    let mut numbers = Numbers(3);
+    let mut counts = [0; 25];
+    for _ in 0..1000 {
+        let text = match numbers.below(4) {
+            0 => damage(TEXT.as_bytes(), &mut numbers),
+            _ => damaged_text(&mut numbers),
+        };
+        folder.put("file", &text);
+        let ran = folder.line("check file --json");
+        let shown = format!("{}: {} {}", text.escape_ascii(), ran.out, ran.err);
+        assert!(ran.status == 0 || ran.status == 2, "{shown}");
+        assert!(
+            ran.err.is_empty() && !ran.out.contains("could not find"),
+            "{shown}"
+        );
+        let number = match ran.status {
+            0 => 0,
+            _ => read(&ran.out).get("refusal").number(),
+        };
+        counts[number as usize] += 1;
+    }
+    for (number, least) in [(0, 100), (23, 200), (24, 100), (5, 5), (8, 5)] {
+        assert!(counts[number] >= least, "{number}: {counts:?}");
+    }
 }
 
 #[test]

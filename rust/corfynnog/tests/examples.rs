@@ -63,35 +63,39 @@ fn the_files_are_those_that_the_program_writes() {
 fn the_texts_are_those_of_show() {
     for (name, _, _) in pairs::pairs() {
         let readme = fs::read_to_string(example(name).join("README.md")).expect(name);
-        for file in ["old.diagram", "new.diagram"] {
-            let path = example(name).join(file);
-            let ran = Folder::of(&format!("shown_{name}")).run(&["show", &path.to_string_lossy()]);
-            assert_eq!(ran.status, 0);
-            assert!(
-                readme.contains(&ran.out),
-                "{name}: the text of {file} is\n{}",
-                ran.out
-            );
+        for release in ["old", "new"] {
+            let path = example(name).join(release);
+            let text = fs::read_to_string(path.with_extension("cd")).expect(name);
+            assert!(readme.contains(&text), "{name}: {release}.cd");
+            for suffix in ["cd", "diagram"] {
+                let path = path.with_extension(suffix);
+                let folder = Folder::of(&format!("shown_{name}"));
+                let ran = folder.run(&["show", &path.to_string_lossy()]);
+                assert_eq!((ran.status, ran.err.as_str()), (0, ""), "{name}");
+                assert_eq!(ran.out, text, "{name}: {release}.{suffix}");
+            }
         }
     }
 }
 
 #[test]
-fn line_cards_differ() {
-    let (status, answer) = compare("line_cards", "old.diagram", "new.diagram", "8");
-    assert_eq!((status, answer.get("result").text()), (1, "difference"));
-    assert_eq!(types(&answer), ["Card", "Exchange", "Shelf"]);
-    let reason = answer.get("reason");
-    assert_eq!(reason.get("rule").number(), 6);
-    assert_eq!(
-        reason.get("places").at(0).get("text").text(),
-        "Card0 has no link of role lines; allowed: 1 to 32."
-    );
+fn line_cards_differ_as_texts_and_as_files() {
+    for (old, new) in [("old.cd", "new.cd"), ("old.diagram", "new.diagram")] {
+        let (status, answer) = compare("line_cards", old, new, "8");
+        assert_eq!((status, answer.get("result").text()), (1, "difference"));
+        assert_eq!(types(&answer), ["Card", "Exchange", "Shelf"]);
+        let reason = answer.get("reason");
+        assert_eq!(reason.get("rule").number(), 6);
+        assert_eq!(
+            reason.get("places").at(0).get("text").text(),
+            "Card0 has no link of role lines; allowed: 1 to 32."
+        );
+    }
 }
 
 #[test]
 fn card_states_differ() {
-    let (status, answer) = compare("card_states", "old.diagram", "new.diagram", "8");
+    let (status, answer) = compare("card_states", "old.cd", "new.cd", "8");
     assert_eq!((status, answer.get("objects").number()), (1, 4));
     assert_eq!(answer.get("reason").get("rule").number(), 4);
     let place = answer.get("reason").get("places").at(0);
@@ -104,9 +108,9 @@ fn card_states_differ() {
 
 #[test]
 fn new_families_allow_all_that_the_old_ones_do() {
-    let (status, answer) = compare("new_families", "old.diagram", "new.diagram", "5");
+    let (status, answer) = compare("new_families", "old.cd", "new.cd", "5");
     assert_eq!((status, answer.get("result").text()), (0, "no difference"));
-    let (status, answer) = compare("new_families", "new.diagram", "old.diagram", "8");
+    let (status, answer) = compare("new_families", "new.cd", "old.cd", "8");
     assert_eq!((status, answer.get("result").text()), (1, "difference"));
     assert_eq!(answer.get("objects").number(), 3);
 }

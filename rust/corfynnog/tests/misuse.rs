@@ -69,11 +69,10 @@ fn help_has_an_example_of_each_command() {
         assert!(own.out.contains("\nJSON: "), "{command}");
         assert_eq!(folder.line(&format!("help {command}")).out, own.out);
     }
-    for text in [&ran.out, &folder.line("help compare").out] {
-        assert!(
-            text.lines().all(|line| line.len() <= 104),
-            "lines are short"
-        );
+    for line in ["help", "help compare", "help check", "help show"] {
+        let text = folder.line(line).out;
+        let is_short = |line: &str| line.len() <= 104;
+        assert!(text.lines().all(is_short), "{line}: lines are short");
     }
 }
 

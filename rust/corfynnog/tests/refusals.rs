@@ -15,7 +15,6 @@ const DIAGRAMS: &str = "\
 1 | 1 | 2 | 10 00 | ends after 2 of the field's three leading bytes
 1 | 1 | 3 | 10 00 01 | announces 1 bytes of content, but the file has only 0 more
 1 | 1 | 4 | 10 01 01 01 | announces 257 bytes
-2 | 1 | 0 | 20 00 03 01 41 00 | starts with tag 0x10, this one with 0x20
 2 | 2 | 4 | 10 00 01 01 10 00 01 01 | which comes once
 2 | 3 | 11 | CLASS_A 20 00 03 01 56 00 | tags never fall
 2 | 3 | 11 | CLASS_A 51 00 00 | no fields with tag 0x51
@@ -42,7 +41,6 @@ const DIAGRAMS: &str = "\
 /// As above.
 const RECORDS: &str = "\
 1 | 2 | 7 | 60 00 01 01 61 00 05 | announces 5 bytes
-2 | 1 | 0 | 61 00 02 01 41 | starts with tag 0x60
 2 | 2 | 4 | 60 00 01 00 60 00 01 00 | which comes once
 3 | 1 | 3 | 60 00 01 09 | the object count is 9
 3 | 3 | 13 | OBJECT_A 62 00 05 00 00 01 56 00 | the attribute's name has 0 bytes
@@ -173,36 +171,79 @@ fn the_right_file_is_named() {
 }
 
 #[test]
-fn a_file_of_the_other_kind_is_recognised() {
-    let folder = Folder::of("refused_other_kind");
+fn a_record_that_starts_otherwise() {
+    let folder = Folder::of("refused_start");
     folder.put("p.diagram", &sites::p());
-    folder.put("card.record", &sites::card());
-    let ran = folder.line("judge card.record p.diagram");
-    assert_eq!(ran.status, 2);
-    assert!(ran
-        .err
-        .contains("card.record is not an acceptable diagram file (refusal 2)"));
-    assert!(ran
-        .err
-        .contains("this looks like a record file: check the order of the arguments"));
+    folder.put("r.record", &hex("61 00 02 01 41"));
+    let ran = folder.line("judge p.diagram r.record");
+    assert_eq!((ran.status, ran.out.as_str()), (2, ""));
+    let words = "a record file starts with tag 0x60, this one with 0x61";
+    assert!(ran.err.contains(words), "{}", ran.err);
 }
 
 #[test]
-fn a_file_of_neither_kind() {
+fn a_file_of_the_other_kind_is_recognised() {
+    let folder = Folder::of("refused_other_kind");
+    folder.put("p.diagram", &sites::p());
+    folder.put("p.cd", b"\n classdiagram p {}");
+    folder.put("card.record", &sites::card());
+    for (line, file, look) in [
+        (
+            "judge card.record p.diagram",
+            "card.record is not an acceptable diagram text (refusal 23)",
+            "record file",
+        ),
+        (
+            "judge p.diagram p.diagram",
+            "p.diagram is not an acceptable record file (refusal 2)",
+            "diagram file",
+        ),
+        (
+            "judge p.cd p.cd",
+            "p.cd is not an acceptable record file (refusal 1)",
+            "diagram text",
+        ),
+    ] {
+        let ran = folder.line(line);
+        assert_eq!((ran.status, ran.out.as_str()), (2, ""), "{line}");
+        assert!(ran.err.contains(file), "{line}: {}", ran.err);
+        let advice = format!("this looks like a {look}: check the order of the arguments");
+        assert!(ran.err.contains(&advice), "{line}: {}", ran.err);
+    }
+}
+
+#[test]
+fn a_file_of_no_kind_is_refused_as_text() {
     let folder = Folder::of("refused_neither");
     folder.put("letter.txt", b"Dear all");
     folder.put("nothing", b"");
+    folder.put("picture", b"\x89PNG\r\n\x1A\n");
+    for (line, place) in [
+        (
+            "check letter.txt",
+            "letter.txt:1:1: read \"Dear\", expected \"classdiagram\"",
+        ),
+        (
+            "show nothing",
+            "nothing:1:1: the text ends, expected \"classdiagram\"",
+        ),
+        (
+            "compile picture",
+            "picture:1:1: read the byte 0x89, expected \"classdiagram\"",
+        ),
+    ] {
+        let ran = folder.line(line);
+        assert_eq!((ran.status, ran.out.as_str()), (2, ""), "{line}");
+        assert!(ran.err.contains("(refusal 23)"), "{line}: {}", ran.err);
+        assert!(
+            ran.err.lines().any(|told| told == place),
+            "{line}: {}",
+            ran.err
+        );
+    }
     let ran = folder.line("check letter.txt");
-    assert_eq!(ran.status, 2);
-    assert!(ran
-        .err
-        .contains("letter.txt is neither an acceptable diagram file (refusal 1) nor"));
-    assert!(ran.err.contains("it starts with the byte 0x44"));
-    let ran = folder.line("show nothing");
-    assert_eq!(ran.status, 2);
-    assert!(ran.err.contains(
-        "diagram file (refusal 2) nor an acceptable record file (refusal 2): it is empty"
-    ));
+    let to_do = "a diagram file with the byte 0x10, a record file with the byte 0x60";
+    assert!(ran.err.contains(to_do), "{}", ran.err);
 }
 
 #[test]

@@ -2,6 +2,7 @@
 
 mod common;
 
+use common::json::read;
 use common::{hex, sites, Folder};
 
 /// Every construct of a diagram file once.
@@ -31,7 +32,11 @@ fn a_diagram_with_every_construct() {
     let folder = Folder::of("show_diagram");
     folder.put("cards_1.diagram", &all_constructs());
     let ran = folder.line("show cards_1.diagram");
-    assert_eq!((ran.status, ran.err.as_str()), (0, ""));
+    assert_eq!(ran.status, 0);
+    assert_eq!(
+        ran.err,
+        "corfynnog: Remark: As text this diagram is refused (23), since in a text interfaces have no attributes: Wired.made.\n"
+    );
     assert_eq!(
         ran.out,
         "classdiagram cards_1 {
@@ -54,6 +59,37 @@ fn a_diagram_with_every_construct() {
 }
 "
     );
+}
+
+#[test]
+fn what_text_cannot_hold_is_remarked_for_scripts_too() {
+    let folder = Folder::of("show_remarks");
+    folder.put("d", &all_constructs());
+    folder.put("p", &sites::p());
+    let ran = folder.line("show d --json");
+    assert_eq!((ran.status, ran.err.as_str()), (0, ""));
+    let object = read(&ran.out);
+    let remarks = object.get("remarks");
+    assert_eq!(remarks.len(), 1);
+    assert!(remarks.at(0).text().contains("Wired.made"));
+    let ran = folder.line("show p --json");
+    assert_eq!(read(&ran.out).get("remarks").len(), 0);
+}
+
+#[test]
+fn the_name_is_one_that_text_may_have() {
+    let folder = Folder::of("show_name");
+    for (file, name) in [
+        ("cards_1.diagram", "cards_1"),
+        ("a234567890123456.diagram", "a234567890123456"),
+        ("a2345678901234567.diagram", "diagram"),
+        ("enum.diagram", "diagram"),
+        ("my-cards.diagram", "diagram"),
+    ] {
+        folder.put(file, &sites::e());
+        let ran = folder.run(&["show", file]);
+        assert_eq!(ran.out, format!("classdiagram {name} {{\n}}\n"), "{file}");
+    }
 }
 
 #[test]

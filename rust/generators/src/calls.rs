@@ -10,6 +10,7 @@ pub enum CallPlan {
     Evaluate { place: u8, file: Vec<u8> },
     Compare { bound: u8 },
     HandOut { room: u32 },
+    LoadText { place: u8, text: Vec<u8> },
 }
 
 impl CallPlan {
@@ -26,6 +27,7 @@ impl CallPlan {
                 list.push(7);
                 list.extend_from_slice(&room.to_be_bytes());
             }
+            CallPlan::LoadText { place, text } => put_with_file(list, 8, *place, text),
         }
     }
 
@@ -35,7 +37,7 @@ impl CallPlan {
         match self {
             CallPlan::HandOut { room } => 5 + *room as usize,
             _ if !accepted => 1,
-            CallPlan::Load { .. } | CallPlan::Clear { .. } => 1,
+            CallPlan::Load { .. } | CallPlan::LoadText { .. } | CallPlan::Clear { .. } => 1,
             CallPlan::Judge { .. } | CallPlan::Evaluate { .. } => 2,
             CallPlan::Compile { .. } => 2 + 64 * 5,
             CallPlan::Compare { .. } => 2 + usize::from(replies[1]),
@@ -52,7 +54,7 @@ impl CallPlan {
     }
 }
 
-/// Adds a call that brings a file.
+/// Adds a call that brings a file or a text.
 fn put_with_file(list: &mut Vec<u8>, code: u8, place: u8, file: &[u8]) {
     list.extend_from_slice(&[code, place]);
     list.extend_from_slice(&(file.len() as u32).to_be_bytes());

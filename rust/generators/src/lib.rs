@@ -1,9 +1,10 @@
-//! Made-up diagram files, record files and rows of calls, for tests and benchmarks.
+//! Made-up diagram files, record files, texts and rows of calls, for tests and benchmarks.
 //!
 //! Everything comes from a seed, so that a case can be made again from its number alone.
 //! Nothing here judges, refuses or compares: it only makes input. `plan` is what a file is to
 //! say, and a plan may say something that a reader has to refuse.
 
+pub mod arrangement;
 pub mod calls;
 pub mod damage;
 pub mod diagrams;
@@ -21,6 +22,9 @@ pub mod random;
 pub mod record_limits;
 pub mod records;
 pub mod rows;
+pub mod text_damage;
+pub mod text_layout;
+pub mod texts;
 pub mod upper_limits;
 
 pub use calls::CallPlan;

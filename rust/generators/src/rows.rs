@@ -7,6 +7,9 @@ use crate::edits::edited;
 use crate::plan::DiagramPlan;
 use crate::random::Random;
 use crate::records::record;
+use crate::text_damage::{damaged_bytes, damaged_tokens};
+use crate::text_layout::laid_out;
+use crate::texts::{text, TextPlan};
 
 /// Whether comparing these two diagrams up to this bound ends soon.
 pub type Affordable<'a> = &'a mut dyn FnMut(&DiagramPlan, &DiagramPlan, u8) -> bool;
@@ -46,8 +49,12 @@ pub fn row(
         affordable,
     };
     if random.chance(3, 4) {
-        row.load_whole(random, 0);
-        row.load_whole(random, 1);
+        for place in 0..2 {
+            match random.chance(1, 3) {
+                true => row.load_text(random, place),
+                false => row.load_whole(random, place),
+            }
+        }
     }
     while row.calls.len() < length {
         row.step(random);
@@ -58,7 +65,7 @@ pub fn row(
 impl Row<'_> {
     /// Adds a call or two of any kind.
     fn step(&mut self, random: &mut Random) {
-        match random.below(14) {
+        match random.below(16) {
             0 => {
                 let at = any_place(random);
                 self.load_whole(random, at);
@@ -77,6 +84,11 @@ impl Row<'_> {
                 self.calls.push(CallPlan::Evaluate { place, file });
             }
             8..=11 => self.compare(random),
+            12 => {
+                let at = any_place(random);
+                self.load_text(random, at);
+            }
+            13 => self.load_damaged_text(random),
             _ => self.calls.push(CallPlan::HandOut {
                 room: any_room(random),
             }),
@@ -88,9 +100,36 @@ impl Row<'_> {
         let plan = random.pick(&self.diagrams).clone();
         let file = plan.file();
         self.calls.push(CallPlan::Load { place, file });
-        if let Some(held) = self.held.get_mut(usize::from(place)) {
-            *held = Held::Diagram(plan);
+        self.holds(place, Held::Diagram(plan));
+    }
+
+    /// One of the diagrams as a text.
+    fn text(&self, random: &mut Random) -> TextPlan {
+        let at = random.below(self.diagrams.len());
+        text(random, &self.diagrams[at])
+    }
+
+    /// Loads the text of one of the diagrams.
+    fn load_text(&mut self, random: &mut Random, place: u8) {
+        let written = self.text(random);
+        let text = laid_out(random, &written.tokens);
+        self.calls.push(CallPlan::LoadText { place, text });
+        self.holds(place, Held::Diagram(written.plan));
+    }
+
+    /// Loads a text that may be refused or may declare another diagram.
+    fn load_damaged_text(&mut self, random: &mut Random) {
+        let mut tokens = self.text(random).tokens;
+        if random.chance(2, 3) {
+            tokens = damaged_tokens(random, &tokens);
         }
+        let mut text = laid_out(random, &tokens);
+        if random.chance(1, 3) {
+            text = damaged_bytes(random, &text);
+        }
+        let place = any_place(random);
+        self.calls.push(CallPlan::LoadText { place, text });
+        self.holds(place, Held::Unknown);
     }
 
     /// Loads a file that may be refused or may be another diagram.
@@ -99,17 +138,20 @@ impl Row<'_> {
         let place = any_place(random);
         let file = damaged(random, &fields);
         self.calls.push(CallPlan::Load { place, file });
-        if let Some(held) = self.held.get_mut(usize::from(place)) {
-            *held = Held::Unknown;
-        }
+        self.holds(place, Held::Unknown);
     }
 
     /// Clears a place.
     fn clear(&mut self, random: &mut Random) {
         let place = any_place(random);
         self.calls.push(CallPlan::Clear { place });
+        self.holds(place, Held::Nothing);
+    }
+
+    /// Notes what a place holds, if there is such a place.
+    fn holds(&mut self, place: u8, what: Held) {
         if let Some(held) = self.held.get_mut(usize::from(place)) {
-            *held = Held::Nothing;
+            *held = what;
         }
     }
 
@@ -174,7 +216,7 @@ pub fn spoiled(random: &mut Random, calls: &[CallPlan]) -> Vec<u8> {
         1 => {
             let kept = random.below(calls.len() + 1);
             let mut list = coded(&calls[..kept]);
-            list.push(*random.pick(&[0, 8, 9, 127, 255]));
+            list.push(*random.pick(&[0, 9, 10, 127, 255]));
             list.extend(coded(&calls[kept..]));
             list
         }

@@ -21,4 +21,6 @@ run-call-spec =
     (λ c κs. search needs)
     (λ c. at-code _ _ 5 (c .before .before .before .before .before .before .args .code) (omega arith) (λ buffer. c .evaluate .ensures))
     (λ c κs. search needs)
-    (λ c. at-code _ _ 6 (c .before .before .before .before .before .before .args .code) (omega arith) (λ buffer. c .compare .ensures)))
+    (λ c. at-code _ _ 6 (c .before .before .before .before .before .before .before .args .code) (omega arith) (λ buffer. c .compare .ensures))
+    (λ c κs. search needs)
+    (λ c. at-code _ _ 8 (c .before .before .before .before .before .before .before .args .code) (omega arith) (λ buffer. c .load-text .ensures)))

@@ -1,6 +1,6 @@
 //! Does a row of calls give the same bytes, call for call?
 
-use brute::{compare_within, judge, read_diagram, read_record, Diagram};
+use brute::{compare_within, judge, read_diagram, read_record, read_text, Diagram};
 use generators::calls::{room, split};
 use generators::diagrams::TINY;
 use generators::fillings::searched_soon;
@@ -14,7 +14,7 @@ const BUDGET: u64 = 50_000;
 /// How often each status byte came, how many witnesses were checked and how many rows ended early.
 #[derive(Debug)]
 pub struct Tally {
-    pub statuses: [usize; 23],
+    pub statuses: [usize; 25],
     pub witnesses: usize,
     pub stopped: usize,
 }
@@ -23,7 +23,7 @@ impl Tally {
     /// Nothing counted yet.
     pub fn new() -> Self {
         Tally {
-            statuses: [0; 23],
+            statuses: [0; 25],
             witnesses: 0,
             stopped: 0,
         }
@@ -111,6 +111,9 @@ fn note(call: &CallPlan, reply: &[u8], places: &mut [Option<Diagram>; 2], count:
         CallPlan::Load { place, file } if reply[0] == 0 => {
             places[usize::from(*place)] = read_diagram(file).ok();
         }
+        CallPlan::LoadText { place, text } if reply[0] == 0 => {
+            places[usize::from(*place)] = read_text(text).ok();
+        }
         CallPlan::Compare { .. } if reply.len() == 3 => *count = reply[2],
         _ => {}
     }
@@ -148,6 +151,7 @@ fn witness(shown: &str, got: &[u8], before: &[u8], count: u8, places: &[Option<D
 fn name(call: &CallPlan) -> String {
     match call {
         CallPlan::Load { place, .. } => format!("load into {place}"),
+        CallPlan::LoadText { place, .. } => format!("load text into {place}"),
         CallPlan::Judge { place, .. } => format!("judge by {place}"),
         CallPlan::Evaluate { place, .. } => format!("evaluate by {place}"),
         other => format!("{other:?}"),

@@ -83,3 +83,7 @@ pub fn hand_out(room: u32) -> Vec<u8> {
     call.extend(room.to_be_bytes());
     call
 }
+
+pub fn load_text(place: u8, text: &[u8]) -> Vec<u8> {
+    with_file(8, place, text)
+}

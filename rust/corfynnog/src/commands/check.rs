@@ -1,4 +1,4 @@
-//! `check FILE`: is this an acceptable diagram or record file?
+//! `check FILE`: is this an acceptable diagram file, diagram text or record file?
 
 use std::path::Path;
 
@@ -16,8 +16,9 @@ type Counts = Vec<(&'static str, &'static str, usize)>;
 /// Checks one file as what its first byte says it is.
 pub fn run(path: &Path) -> Result<Outcome, Trouble> {
     let file = load(path)?;
-    let (kind, counts) = match accepted_kind(&file)? {
-        FileIs::Diagram => {
+    let is = accepted_kind(&file)?;
+    let (kind, counts) = match is {
+        FileIs::DiagramFile | FileIs::DiagramText => {
             let diagram = diagram_of(&file)?;
             let counts: Counts = vec![
                 ("value type", "value types", diagram.value_types.len()),
@@ -42,15 +43,19 @@ pub fn run(path: &Path) -> Result<Outcome, Trouble> {
         .map(|(one, more, n)| count_of(*n, one, more))
         .collect();
     let text = format!(
-        "Accepted: {} is a {kind} file with {}.\n",
+        "Accepted: {} is a {} with {}.\n",
         file.name(),
+        is.words(),
         words.join(", ")
     );
-    let members = vec![
+    let mut members = vec![
         ("command", Json::text("check")),
         ("file", Json::Text(file.name())),
         ("kind", Json::text(kind)),
         ("result", Json::text("accepted")),
     ];
+    if is == FileIs::DiagramText {
+        members.insert(3, ("form", Json::text("text")));
+    }
     Ok(Outcome::answer(FINE, text, members))
 }

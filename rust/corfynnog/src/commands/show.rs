@@ -1,4 +1,4 @@
-//! `show FILE`: a diagram as class diagram text, a record as object diagram text.
+//! `show FILE`: a diagram as diagram text, a record as object diagram text.
 
 use std::path::Path;
 
@@ -9,16 +9,20 @@ use crate::json::Json;
 use crate::kinds::{accepted_kind, FileIs};
 use crate::object_diagram::object_diagram;
 use crate::outcome::{Outcome, FINE};
-use crate::proved::{diagram_of, record_of};
+use crate::proved::{named_diagram_of, record_of};
+use crate::text::NamedDiagram;
 use crate::trouble::Trouble;
+use crate::unwritable::unwritable;
 
 /// Shows one file as what its first byte says it is.
 pub fn run(path: &Path) -> Result<Outcome, Trouble> {
     let file = load(path)?;
+    let mut remarks = Vec::new();
     let (kind, text, content) = match accepted_kind(&file)? {
-        FileIs::Diagram => {
-            let diagram = diagram_of(&file)?;
-            let text = diagram_text(&file.stem_or("diagram"), &diagram);
+        FileIs::DiagramFile | FileIs::DiagramText => {
+            let NamedDiagram { name, diagram } = named_diagram_of(&file)?;
+            remarks = unwritable(&diagram);
+            let text = diagram_text(&name, &diagram);
             ("diagram", text, diagram_json(&diagram))
         }
         FileIs::Record => {
@@ -27,12 +31,18 @@ pub fn run(path: &Path) -> Result<Outcome, Trouble> {
             ("record", text, record_json(&record))
         }
     };
-    let members = vec![
+    let mut members = vec![
         ("command", Json::text("show")),
         ("file", Json::Text(file.name())),
         ("kind", Json::text(kind)),
         ("result", Json::text("shown")),
         (kind, content),
     ];
-    Ok(Outcome::answer(FINE, text, members))
+    if kind == "diagram" {
+        members.push(("remarks", Json::list(&remarks, |r| Json::text(r.as_str()))));
+    }
+    let mut outcome = Outcome::answer(FINE, text, members);
+    let remark = |remark: &String| format!("corfynnog: Remark: {remark}\n");
+    outcome.complaint = remarks.iter().map(remark).collect();
+    Ok(outcome)
 }

@@ -41,10 +41,14 @@ impl Folder {
 
     /// Runs the program there. Neither of its outputs is a terminal.
     pub fn run(&self, words: &[&str]) -> Ran {
+        self.start(words, Stdio::null())
+    }
+
+    fn start(&self, words: &[&str], input: Stdio) -> Ran {
         let done = Command::new(env!("CARGO_BIN_EXE_corfynnog"))
             .args(words)
             .current_dir(&self.path)
-            .stdin(Stdio::null())
+            .stdin(input)
             .output()
             .expect("the program starts");
         Ran {
@@ -52,6 +56,13 @@ impl Folder {
             out: String::from_utf8(done.stdout).expect("text"),
             err: String::from_utf8(done.stderr).expect("text"),
         }
+    }
+
+    /// Runs a line of words with these bytes as standard input.
+    pub fn line_with_input(&self, line: &str, input: &[u8]) -> Ran {
+        self.put("input", input);
+        let input = fs::File::open(self.path.join("input")).expect("the input");
+        self.start(&line.split_whitespace().collect::<Vec<_>>(), input.into())
     }
 
     /// Runs a line of words.

@@ -1,0 +1,11 @@
+pub mod WalkLaws
+pub mod NoneYetLaws
+pub mod KindLaws
+pub mod LookedLaws
+pub mod UnknownLaws
+pub mod CountedLaws
+pub mod CollectedLaws
+pub mod WithNamesLaws
+pub mod TakenLaws
+pub mod ValueNamesLaws
+pub mod OverfullLaws

@@ -1,0 +1,3 @@
+pub mod Kinds
+pub mod Overlong
+pub mod ValueNames

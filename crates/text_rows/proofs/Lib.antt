@@ -1,0 +1,9 @@
+pub mod BlankLaws
+pub mod StartsLaws
+pub mod MarkLaws
+pub mod WordLaws
+pub mod TokenLaws
+pub mod FrontLaws
+pub mod TableLaws
+pub mod RowLaws
+pub mod EndLaws

@@ -1,0 +1,11 @@
+pub mod KindTestLaws
+pub mod PlaceLaws
+pub mod ByNamesLaws
+pub mod CountingLaws
+pub mod PuttingLaws
+pub mod ReadyLaws
+pub mod PlainLaws
+pub mod RowsOfLists
+pub mod FileLaws
+pub mod FilePartsLaws
+pub mod StageLaws

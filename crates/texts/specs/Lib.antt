@@ -1,0 +1,9 @@
+pub mod Token
+pub mod Grammar
+pub mod Declaration
+pub mod Declared
+pub mod TextChecks
+pub mod Fits
+pub mod Table
+pub mod ReadText
+pub mod TextCases

@@ -1,0 +1,1 @@
+// Definitions and theorems only: diagrams typed as text.

@@ -1,0 +1,53 @@
+//! A name that may have been meant.
+
+/// The nearest of these names, where it differs in capitals, or in one or two places.
+pub fn similar<'a>(name: &str, known: impl Iterator<Item = &'a str>) -> Option<&'a str> {
+    let ranked = known.map(|other| (steps(name, other), other));
+    let (least, nearest) = ranked.min_by_key(|(steps, _)| *steps)?;
+    // Of a short name nearly everything is near.
+    let most = match name.len() {
+        0..=2 => 0,
+        3 => 1,
+        _ => 2,
+    };
+    (least <= most).then_some(nearest)
+}
+
+/// How many letters are put in, taken out or changed; none where only capitals differ.
+fn steps(one: &str, other: &str) -> usize {
+    let one = one.to_ascii_lowercase();
+    let other = other.to_ascii_lowercase();
+    let mut row: Vec<usize> = (0..=other.len()).collect();
+    for (i, a) in one.bytes().enumerate() {
+        let mut corner = row[0];
+        row[0] = i + 1;
+        for (j, b) in other.bytes().enumerate() {
+            let changed = corner + usize::from(a != b);
+            corner = row[j + 1];
+            row[j + 1] = changed.min(row[j] + 1).min(corner + 1);
+        }
+    }
+    row[other.len()]
+}
+
+#[cfg(test)]
+mod tests {
+    use super::*;
+
+    #[test]
+    fn the_nearest_name() {
+        let known = ["Shelf", "Card", "LineCard"];
+        for (name, meant) in [
+            ("Shelv", Some("Shelf")),
+            ("CARD", Some("Card")),
+            ("LnieCard", Some("LineCard")),
+            ("Crad", Some("Card")),
+            ("Rack", None),
+            ("X", None),
+            ("", None),
+        ] {
+            assert_eq!(similar(name, known.into_iter()), meant, "{name}");
+        }
+        assert_eq!(similar("Card", std::iter::empty()), None);
+    }
+}
