@@ -11,7 +11,12 @@ pub mod SizeLaws
 pub mod BytesLaws
 pub mod DiagramUnique
 pub mod DiagramWellFormed
+pub mod TwiceLaws
+pub mod LaidDiagram
 pub mod DiagramContents
+pub mod FieldRowLaws
+pub mod DiagramFieldLaws
+pub mod DiagramReadLaws
 pub mod DiagramRoundTrip
 pub mod DiagramSize
 pub mod AcceptedBytes

@@ -2,7 +2,7 @@
 -- Assumes nothing.
 use Prim.Native.Nat.{_<_, ℕ}
 use mathlib.Core.Bool.{Bool, true}
-use mathlib.Core.Path.{_≡_, ap, ap₂, refl}
+use mathlib.Core.Path.{_≡_, ap, refl}
 use lib.Dec.{eqb}
 use lib.ListN.{length}
 use borrow.Author.Tests.{eq-eqb, eqb-true}
@@ -34,13 +34,6 @@ module _ (r : Record) where
   link-alike o v w p e =
       any-ext _ _ (length (r .links)) (λ i l.
       ap (λ (b : Bool). both (eqb (linkAt r i .from) o) (both b (eqb (linkAt r i .to) p))) (same-right (linkAt r i .role) v w e))
-
-  pub valued-alike : (v w : Value) → AlikeValue v w → isValued r v ≡ isValued r w
-  unfolding isValued sameValue
-  valued-alike v w e =
-      any-ext _ _ (length (r .values)) (λ i l.
-      ap₂ both (ap (eqb (valueAt r i .object)) (e .0))
-      (ap₂ both (same-right (valueAt r i .attribute) _ _ (e .1)) (ap₂ both (same-right (valueAt r i .valueType) _ _ (e .2)) (same-right (valueAt r i .constant) _ _ (e .3)))))
 
 -- ---- what a record has is one of its own
 

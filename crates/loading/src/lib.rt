@@ -2,7 +2,7 @@
 ghost use Rattle.loading.specs.WithField.{FieldPasses, WithField};
 ghost use Rattle.loading.specs.Loads.{Loads};
 
-mod storing; // storing.rt: a diagram in memory with one field more
+pub mod storing; // storing.rt: a diagram in memory with one field more
 
 use diagrams::StoredDiagram;
 

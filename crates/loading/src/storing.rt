@@ -24,7 +24,7 @@ fn narrow(n: usize) -> u8
 }
 
 // The name w into slot i.
-fn store_name(names: &mut [u8], i: usize, w: &[u8])
+pub fn store_name(names: &mut [u8], i: usize, w: &[u8])
     requires { ⌜ (i * 17 + 17 ≤ length (now names)) × (length (now w) ≤ 16) ⌝ }
     ensures { λ _. ⌜ NameStored (now (names .entry)) i (now (w .entry)) (now (names .exit)) ⌝ }
 {

@@ -1,11 +1,10 @@
 // A list of at most 24 names in memory, in slots of 17 bytes.
 ghost use mathlib.Core.Path.{_≡_};
 ghost use mathlib.Core.List.{_++_, _∷_, []};
-ghost use Prim.Native.Nat.{_*_, _+_, _<_, _≤_};
+ghost use Prim.Native.Nat.{_+_, _<_, _≤_};
 ghost use lib.ListN.{length, getD};
 ghost use Rattle.laws.specs.Bounded.{first};
 ghost use Rattle.files.specs.Name.{sameName};
-ghost use Rattle.loading.specs.Stored.{NameStored};
 ghost use Rattle.name_lists.specs.Names.{namesIn};
 
 pub struct Names {
@@ -22,24 +21,6 @@ pub fn no_names() -> Names
     }
 }
 
-// A number below 256 as a byte.
-fn narrow(n: usize) -> u8
-    requires { ⌜ n < 256 ⌝ }
-    ensures { λ r. ⌜ r ≡ n ⌝ }
-{
-    n as u8
-}
-
-// The name w into slot i.
-fn store_name(names: &mut [u8], i: usize, w: &[u8])
-    requires { ⌜ (i * 17 + 17 ≤ length (now names)) × (length (now w) ≤ 16) ⌝ }
-    ensures { λ _. ⌜ NameStored (now (names .entry)) i (now (w .entry)) (now (names .exit)) ⌝ }
-{
-    let at = i * 17;
-    names[at] = narrow(w.len());
-    let n = bytes::copy(w, &mut names[at + 1..]);
-}
-
 // One name more.
 pub fn push_name(n: Names, w: &[u8]) -> Names
     requires { ⌜ (n .count < 24) × (length (now w) ≤ 16) ⌝ }
@@ -47,7 +28,7 @@ pub fn push_name(n: Names, w: &[u8]) -> Names
 {
     let i = n.count;
     let mut names = n.names;
-    store_name(&mut names, i, w);
+    loading::storing::store_name(&mut names, i, w);
     Names {
         count: i + 1,
         names,
@@ -59,10 +40,9 @@ pub fn find_name(n: Names, w: &[u8]) -> usize
     requires { ⌜ n .count ≤ 24 ⌝ }
     ensures { λ r. ⌜ (r ≡ first (λ i. sameName (getD (namesIn n) i []) (now (w .entry))) (n .count)) × (r ≤ n .count) ⌝ }
 {
-    let names = n.names;
     let mut i = 0;
     while i < n.count {
-        if fields::same_name(fields::slot_name(&names, i as u8), w) {
+        if fields::same_name(fields::slot_name(&n.names, i as u8), w) {
             return i;
         }
         i += 1;

@@ -1,9 +1,10 @@
-pub mod WalkLaws
-pub mod NoneYetLaws
 pub mod KindLaws
+pub mod ReachedLaws
+pub mod OutlineLaws
 pub mod LookedLaws
-pub mod UnknownLaws
 pub mod CountedLaws
+pub mod UnknownLaws
+pub mod OverlongLaws
 pub mod CollectedLaws
 pub mod WithNamesLaws
 pub mod TakenLaws

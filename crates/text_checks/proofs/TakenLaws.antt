@@ -1,4 +1,4 @@
--- The names of the value types, collected: the attribute types of one declaration, and the walk over all.
+-- The names of the value types, collected: the attribute types of one declaration, and the loop over all.
 -- Assumes nothing.
 use mathlib.Core.Path.{_≡_, ap, ap₂, refl, subst, sym, _∙_}
 use mathlib.Core.Bool.{Bool, not}
@@ -20,17 +20,19 @@ use Rattle.laws.proofs.FirstLaws.{first-below, first-none}
 use Rattle.laws.proofs.JoinedLaws.{joined-more}
 use Rattle.laws.proofs.PickedLaws.{member-any}
 use Rattle.files.specs.Name.{Name, sameName}
-use Rattle.texts.specs.Declaration.{Declaration, isEnumeration}
+use Rattle.texts.specs.Declaration.{Declaration, declarationAt, isEnumeration}
 use Rattle.texts.specs.Declared.{usedTypes}
+use Rattle.texts.specs.WellFormedDeclaration.{ShortNames}
 use Rattle.texts.specs.TextChecks.{namesOfKind}
-use Rattle.text_rows.specs.RowAt.{RowEnd, declarationBy, declarationsBy}
+use Rattle.text_rows.specs.RowAt.{declarationsBy}
+use Rattle.text_outlines.specs.Outline.{Outlines}
 use Rattle.name_lists.specs.declared.Names.{Names}
 use Rattle.name_lists.specs.Names.{namesIn}
 use Rattle.name_lists.proofs.NamesLaws.{names-length}
 use Rattle.text_checks.specs.Kinds.{ofKind}
 use Rattle.text_checks.specs.ValueNames.{valueNames, withName, withNames}
 use Rattle.text_checks.proofs.CountedLaws.{typesAt}
-use Rattle.text_checks.proofs.WalkLaws.{Seen, seen-begin, seen-done, seen-next}
+use Rattle.text_checks.proofs.OutlineLaws.{outline-end}
 use Rattle.text_checks.proofs.WithNamesLaws.{front-kept, front-with, has, with-append, with-name-is}
 
 -- ---- the attribute types of one declaration
@@ -88,30 +90,35 @@ module _ {ws : List Name} {n : ℕ} {r₀ : Names} {i : ℕ} {r : Names} (t : Ta
       let past : length ws ≤ i = omega arith in
       sym (take-all 13 (namesIn r) a) ∙ ap (take 13) (sym (t .same ∙ ap (withNames (namesIn r)) (drop-of-length-le ws past)))
 
--- ---- the walk
+-- ---- all declarations
+
+-- what stands where the outline leads to has as many attributes as the outline tells, and short types
+pub types-counted : (body : List ℕ) (k : ℕ) (d : Declaration) {a : ℕ} → d ≡ declarationAt (declarationsBy body) k
+    → a ≡ length (declarationAt (declarationsBy body) k .attributeTypes) → a ≡ length (d .attributeTypes)
+types-counted body k d e f = f ∙ ap (λ (x : Declaration). length (x .attributeTypes)) (sym e)
+
+pub types-short : (body : List ℕ) (k : ℕ) (d : Declaration) → ShortNames (declarationsBy body) → d ≡ declarationAt (declarationsBy body) k
+    → (i : ℕ) → length (getD (d .attributeTypes) i []) ≤ 16
+types-short body k d f e i = subst (λ (x : Declaration). length (getD (x .attributeTypes) i []) ≤ 16) (sym e) (f .each k .attributeTypes i)
 
 -- the names with the attribute types of the first k declarations
 abbrev pub valuesTo : List ℕ → ℕ → List Name
 valuesTo body k = withNames (namesOfKind isEnumeration (declarationsBy body)) (joined (typesAt body) k)
 
-abbrev pub Valued : List ℕ → List ℕ → ℕ → List Name → Type 0
-Valued body rest n ns = Seen (λ k. ns ≡ take 13 (valuesTo body k)) body rest n
+module _ (body : List ℕ) where
+  pub valued-begin : {ns : List Name} → ns ≡ take 13 (namesOfKind (ofKind 3) (declarationsBy body)) → ns ≡ take 13 (valuesTo body 0)
+  unfolding withNames joined ofKind
+  valued-begin q = q
 
-pub valued-begin : (body : List ℕ) {n : ℕ} {ns : List Name} → RowEnd 3 body n → ns ≡ take 13 (namesOfKind (ofKind 4) (declarationsBy body)) → Valued body body n ns
-unfolding withNames joined ofKind
-valued-begin body {ns = ns} e q = seen-begin (λ k. ns ≡ take 13 (valuesTo body k)) body e q
+  module _ (k : ℕ) {ns : List Name} (e : ns ≡ take 13 (valuesTo body k)) where
+    pub valued-next : (d : Declaration) {ms : List Name} → d ≡ declarationAt (declarationsBy body) k → ms ≡ take 13 (withNames ns (d .attributeTypes))
+        → ms ≡ take 13 (valuesTo body (k + 1))
+    valued-next d i q =
+        let types : d .attributeTypes ≡ typesAt body k = ap (λ (x : Declaration). x .attributeTypes) i in
+        let enums : List Name = namesOfKind isEnumeration (declarationsBy body) in
+        q ∙ ap₂ (λ (xs ws : List Name). take 13 (withNames xs ws)) e types ∙ front-with 13 (valuesTo body k) (typesAt body k)
+        ∙ ap (take 13) (sym (with-append enums (joined (typesAt body) k) (typesAt body k)) ∙ ap (withNames enums) (sym (joined-more (typesAt body) k)))
 
-module _ (body rest : List ℕ) {n : ℕ} {ns : List Name} (s : Valued body rest n ns) where
-  pub valued-next : {ms : List Name} {next : List ℕ} {m : ℕ} → 0 < n → ms ≡ take 13 (withNames ns (declarationBy rest .attributeTypes)) → next ≡ drop n rest
-      → RowEnd 3 next m → Valued body next m ms
-  valued-next {ms} h q d e =
-      seen-next (λ k. ns ≡ take 13 (valuesTo body k)) (λ k. ms ≡ take 13 (valuesTo body k)) s h d e
-      (λ k l i a.
-      let types : declarationBy rest .attributeTypes ≡ typesAt body k = ap (λ (x : Declaration). x .attributeTypes) i in
-      let enums : List Name = namesOfKind isEnumeration (declarationsBy body) in
-      q ∙ ap₂ (λ (xs ws : List Name). take 13 (withNames xs ws)) a types ∙ front-with 13 (valuesTo body k) (typesAt body k)
-      ∙ ap (take 13) (sym (with-append enums (joined (typesAt body) k) (typesAt body k)) ∙ ap (withNames enums) (sym (joined-more (typesAt body) k))))
-
-  pub valued-done : n ≤ 0 → ns ≡ take 13 (valueNames (declarationsBy body))
-  unfolding valueNames usedTypes
-  valued-done h = seen-done (λ k. ns ≡ take 13 (valuesTo body k)) s h
+    pub valued-done : {o : List ℕ} {n : ℕ} → Outlines body o n → k ≤ n → n ≤ k → ns ≡ take 13 (valueNames (declarationsBy body))
+    unfolding valueNames usedTypes
+    valued-done t h l = e ∙ ap (λ (i : ℕ). take 13 (valuesTo body i)) (outline-end t h l)

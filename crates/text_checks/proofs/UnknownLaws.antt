@@ -5,7 +5,7 @@ use mathlib.Core.Bool.{Bool, false, not, true, _||_}
 use mathlib.Core.List.{List, []}
 use Prim.Native.Nat.{ℕ, _+_, _<_, _≤_}
 use native.Mathlib.Omega.{arith}
-use lib.ListN.{drop, getD, length}
+use lib.ListN.{getD, length}
 use Rattle.laws.specs.Bounded.{any}
 use Rattle.laws.specs.Connective.{both, either}
 use Rattle.laws.proofs.ConnectiveLaws.{or-is-either}
@@ -13,9 +13,10 @@ use Rattle.laws.proofs.LoopLaws.{any-begin, any-done, any-found, any-next}
 use Rattle.files.specs.Name.{Name}
 use Rattle.texts.specs.Declaration.{Declaration, declarationAt, isType}
 use Rattle.texts.specs.TextChecks.{hasUnknown, hasUnknownEnd, hasUnknownParent, isDeclared}
-use Rattle.text_rows.specs.RowAt.{RowEnd, declarationBy, declarationsBy}
+use Rattle.text_rows.specs.RowAt.{declarationsBy}
+use Rattle.text_outlines.specs.Outline.{Outlines}
 use Rattle.text_checks.specs.Kinds.{ofKind, unknownIn}
-use Rattle.text_checks.proofs.WalkLaws.{Walk, walk-begin, walk-done, walk-is, walk-next}
+use Rattle.text_checks.proofs.OutlineLaws.{outline-below, outline-end}
 
 -- ---- parents
 
@@ -62,17 +63,17 @@ parents-unknown ds k d {p} {q} e f g =
 
 -- ---- ends
 
-module _ (ds : List Declaration) (k : ℕ) (d : Declaration) {b : Bool} (e : d ≡ declarationAt ds k) (s : b ≡ ofKind 3 d) where
+module _ (ds : List Declaration) (k : ℕ) (d : Declaration) {b : Bool} (e : d ≡ declarationAt ds k) (s : b ≡ ofKind 4 d) where
   pub no-end : b ≡ false → false ≡ hasUnknownEnd ds k
   unfolding hasUnknownEnd ofKind both
   no-end t =
-      sym (ap (λ (x : Bool). both x (either (not (isDeclared isType ds (length ds) (declarationAt ds k .leftEnd .type))) (not (isDeclared isType ds (length ds) (declarationAt ds k .rightEnd .type))))) (sym (ap (ofKind 3) e) ∙ sym s ∙ t))
+      sym (ap (λ (x : Bool). both x (either (not (isDeclared isType ds (length ds) (declarationAt ds k .leftEnd .type))) (not (isDeclared isType ds (length ds) (declarationAt ds k .rightEnd .type))))) (sym (ap (ofKind 4) e) ∙ sym s ∙ t))
 
   pub ends-unknown : {n : ℕ} {v w : Name} {p q : Bool} → n ≡ length ds → b ≡ true → v ≡ d .leftEnd .type → p ≡ isDeclared (ofKind 2) ds n v
       → w ≡ d .rightEnd .type → q ≡ isDeclared (ofKind 2) ds n w → (not p || not q) ≡ hasUnknownEnd ds k
   unfolding hasUnknownEnd ofKind both isDeclared
   ends-unknown {n} {v} {w} {p} {q} m t f g h i =
-      let is : ofKind 3 (declarationAt ds k) ≡ true = sym (ap (ofKind 3) e) ∙ sym s ∙ t in
+      let is : ofKind 4 (declarationAt ds k) ≡ true = sym (ap (ofKind 4) e) ∙ sym s ∙ t in
       let left : p ≡ isDeclared isType ds (length ds) (declarationAt ds k .leftEnd .type) =
       g ∙ ap₂ (λ (x : ℕ) (y : Name). isDeclared (ofKind 2) ds x y) m (f ∙ ap (λ (x : Declaration). x .leftEnd .type) e) in
       let right : q ≡ isDeclared isType ds (length ds) (declarationAt ds k .rightEnd .type) =
@@ -80,33 +81,25 @@ module _ (ds : List Declaration) (k : ℕ) (d : Declaration) {b : Bool} (e : d �
       or-is-either (not p) (not q) ∙ ap₂ (λ (x y : Bool). either (not x) (not y)) left right
       ∙ sym (ap (λ (x : Bool). both x (either (not (isDeclared isType ds (length ds) (declarationAt ds k .leftEnd .type))) (not (isDeclared isType ds (length ds) (declarationAt ds k .rightEnd .type))))) is)
 
--- ---- the walk over all
+-- ---- all declarations
 
 abbrev pub unknown : List Declaration → ℕ → Bool
 unknown ds k = either (hasUnknownParent ds k) (hasUnknownEnd ds k)
 
-pub record AllKnown (body rest : List ℕ) (n k : ℕ) : Type 0 where
-  pub walk : Walk body rest n k
-  pub none : any (unknown (declarationsBy body)) k ≡ false
-
-pub all-known-begin : (body : List ℕ) {n : ℕ} → RowEnd 3 body n → AllKnown body body n 0
-all-known-begin body e = record { walk = walk-begin body e; none = any-begin (unknown (declarationsBy body)) }
-
-module _ {body rest : List ℕ} {n k : ℕ} (l : AllKnown body rest n k) where
-  pub all-known-is : 0 < n → declarationBy rest ≡ declarationAt (declarationsBy body) k
-  all-known-is h = walk-is (l .walk) h .1
-
-  pub all-known-done : n ≤ 0 → false ≡ hasUnknown (declarationsBy body)
-  unfolding hasUnknown
-  all-known-done h = sym (l .none) ∙ ap (any (unknown (declarationsBy body))) (walk-done (l .walk) h)
-
-  module _ {p q : Bool} (h : 0 < n) (f : p ≡ hasUnknownParent (declarationsBy body) k) (g : q ≡ hasUnknownEnd (declarationsBy body) k) where
+-- a loop over the declarations leaves at the first with one that is unknown: none before k has one
+module _ (body : List ℕ) (k : ℕ) where
+  module _ {p q : Bool} (f : p ≡ hasUnknownParent (declarationsBy body) k) (g : q ≡ hasUnknownEnd (declarationsBy body) k) where
     asked : (p || q) ≡ unknown (declarationsBy body) k
     asked = or-is-either p q ∙ ap₂ (λ (x y : Bool). either x y) f g
 
-    pub all-known-not : (p || q) ≡ true → true ≡ hasUnknown (declarationsBy body)
+    pub unknown-found : {o : List ℕ} {n : ℕ} → Outlines body o n → k < n → (p || q) ≡ true → true ≡ hasUnknown (declarationsBy body)
     unfolding hasUnknown
-    all-known-not t = any-found (unknown (declarationsBy body)) (length (declarationsBy body)) k (walk-is (l .walk) h .0) asked t
+    unknown-found t h u =
+        any-found (unknown (declarationsBy body)) (length (declarationsBy body)) k (outline-below t h) asked u
 
-    pub all-known-next : {next : List ℕ} {m : ℕ} → (p || q) ≡ false → next ≡ drop n rest → RowEnd 3 next m → AllKnown body next m (k + 1)
-    all-known-next t d r = record { walk = walk-next (l .walk) h d r; none = any-next (unknown (declarationsBy body)) k (l .none) asked t }
+    pub unknown-next : any (unknown (declarationsBy body)) k ≡ false → (p || q) ≡ false → any (unknown (declarationsBy body)) (k + 1) ≡ false
+    unknown-next e u = any-next (unknown (declarationsBy body)) k e asked u
+
+  pub unknown-none : {o : List ℕ} {n : ℕ} → Outlines body o n → k ≤ n → n ≤ k → any (unknown (declarationsBy body)) k ≡ false → false ≡ hasUnknown (declarationsBy body)
+  unfolding hasUnknown
+  unknown-none t h l e = sym e ∙ ap (any (unknown (declarationsBy body))) (outline-end t h l)

@@ -6,4 +6,3 @@ pub mod RoleLaws
 pub mod EndLaws
 pub mod PlaceLaws
 pub mod ParentLaws
-pub mod ConstantLaws

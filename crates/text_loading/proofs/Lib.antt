@@ -1,1 +1,3 @@
+pub mod ManyLaws
 pub mod ReadLaws
+pub mod ReplyLaws

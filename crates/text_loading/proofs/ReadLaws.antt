@@ -2,58 +2,42 @@
 -- Assumes nothing.
 use Prim.Native.Nat.{_<_, suc, zero, ℕ}
 use native.Mathlib.Omega.{arith}
-use mathlib.Core.Bool.{Bool, cond, false, not, true}
+use mathlib.Core.Bool.{Bool, false, not, true}
 use mathlib.Core.List.{List, map}
 use mathlib.Core.Logic.{_⊎_, inl, inr, ⊎-elim}
-use mathlib.Core.Path.{_∙_, _≡_, ap, ap₂, refl, subst, sym}
-use lib.Dec.{eqb}
-use lib.ListN.{drop, length, take}
-use lib.Seq.{take-append-seam}
+use mathlib.Core.Path.{_∙_, _≡_, ap, refl, subst, sym}
+use lib.ListN.{drop, length}
 use Rattle.laws.specs.Connective.{both, either, refuse}
-use Rattle.laws.specs.Lists.{over}
 use Rattle.laws.proofs.BoundedLaws.{any-no}
 use Rattle.laws.proofs.ConnectiveLaws.{both-left, both-right, either-neither, true-false}
 use Rattle.files.specs.DiagramBytes.{writeDiagram}
 use Rattle.files.specs.DiagramFile.{readDiagram}
 use Rattle.files.specs.Refusal.{accepted, orRefused, refused}
-use Rattle.field_writers.specs.Put.{Put}
 use Rattle.texts.specs.Declaration.{declarationAt, declarations}
 use Rattle.texts.specs.Declared.{declared}
-use Rattle.texts.specs.Fits.{Fits, ShortNames}
+use Rattle.texts.specs.WellFormedDeclaration.{ShortNames, WfDeclarations}
 use Rattle.texts.specs.Grammar.{Belongs, Tree}
 use Rattle.texts.specs.ReadText.{declarationsIn, readText, tokensRefusal}
 use Rattle.texts.specs.Table.{Symbol, accepts, declarationIn, hasLongFrom, rowsFrom}
-use Rattle.texts.specs.TextChecks.{declaredRefusal, endsForbidden, hasForbidden, hasLongName, hasTwice, hasUnknown, hasWholeRight, isOverfull, limitsForbidden, textRefusal}
+use Rattle.texts.specs.TextChecks.{declaredRefusal, endsForbidden, hasForbidden, hasTwice, hasUnknown, hasWholeRight, isOverfull, limitsForbidden, textRefusal}
 use Rattle.texts.specs.Token.{tokens}
 use Rattle.texts.proofs.ConverseLaws.{accepts-tree}
 use Rattle.texts.proofs.DeclaredCountLaws.{few}
-use Rattle.texts.proofs.FitsLaws.{belongs-fits}
+use Rattle.texts.proofs.DeclarationWellFormed.{belongs-wf}
 use Rattle.texts.proofs.GrammarLaws.{tree-declares, tree-headed, tree-long}
 use Rattle.texts.proofs.MarkLaws.{tokens-below}
 use Rattle.texts.proofs.ReadTextLaws.{read-tree}
 use Rattle.texts.proofs.ShortNameLaws.{short-names}
 use Rattle.texts.proofs.TextFileLaws.{text-file}
-use Rattle.diagrams.specs.View.{diagramOf}
-use Rattle.diagrams.specs.declared.StoredDiagram.{StoredDiagram}
-use Rattle.loading.specs.Loads.{Loads, answerOf}
-use Rattle.loading.specs.declared.Loaded.{Loaded}
-use Rattle.text_loading.specs.LoadsText.{LoadsText}
+use Rattle.text_loading.specs.Read.{Read}
 use Rattle.text_rows.specs.RowAt.{RowEnd, declarationsBy}
-use Rattle.text_checks.specs.ValueNames.{Short}
 use Rattle.text_writing.specs.Pieces.{Writable}
 
 -- the table accepts the text, and no name is too long
 abbrev pub Taken : List ℕ → Bool → Type 0
 Taken s b = both (accepts 0 (tokens s)) (not (hasLongFrom 0 (tokens s))) ≡ b
 
--- what is known of a text that is taken, and of its body
-pub record Read (s body : List ℕ) : Type 0 where
-  pub tree : Tree
-  pub belongs : Belongs s tree
-  pub short : hasLongName tree ≡ false
-  pub declares : declarationsBy body ≡ declarations tree
-
-not-true : (b : Bool) → not b ≡ true → b ≡ false
+pub not-true : (b : Bool) → not b ≡ true → b ≡ false
 not-true true e = sym e
 not-true false e = refl
 
@@ -109,14 +93,11 @@ module _ {s body : List ℕ} (r : Read s body) where
   unfolding declaredRefusal refuse orRefused
   read-overfull e f g = by-checks ∙ rw (e, f, g)
 
-  fits : hasForbidden (declarationsBy body) ≡ false → Fits (declarationsBy body)
-  fits e = subst Fits (sym (r .declares)) (belongs-fits s (r .tree) (r .belongs) (r .short) (sym (ap hasForbidden (r .declares)) ∙ e))
+  fits : hasForbidden (declarationsBy body) ≡ false → WfDeclarations (declarationsBy body)
+  fits e = subst WfDeclarations (sym (r .declares)) (belongs-wf s (r .tree) (r .belongs) (r .short) (sym (ap hasForbidden (r .declares)) ∙ e))
 
-  all-short : ShortNames (declarationsBy body)
-  all-short = subst ShortNames (sym (r .declares)) (short-names (r .tree) (r .short))
-
-  pub short : Short (declarationsBy body)
-  short = record { names = λ k. all-short .each k .name; types = λ k i. all-short .each k .attributeTypes i }
+  pub short : ShortNames (declarationsBy body)
+  short = subst ShortNames (sym (r .declares)) (short-names (r .tree) (r .short))
 
   allowed : hasForbidden (declarationsBy body) ≡ false → (k : ℕ) → k < length (declarationsBy body)
       → either (limitsForbidden (declarationAt (declarationsBy body) k .leftEnd .limits)) (limitsForbidden (declarationAt (declarationsBy body) k .rightEnd .limits)) ≡ false
@@ -131,7 +112,7 @@ module _ {s body : List ℕ} (r : Read s body) where
         few = f;
         short = short;
         roomy = λ k l.
-            let a = all-short .each k in
+            let a = short .each k in
             let b = either-neither _ _ (allowed e k l) in
             record {
               name = a .name;
@@ -150,49 +131,3 @@ module _ {s body : List ℕ} (r : Read s body) where
       → readText s ≡ readDiagram (writeDiagram (declared (declarationsBy body)))
   unfolding declaredRefusal refuse
   read-file e f g = by-checks ∙ (let q : orRefused (refuse (hasForbidden (declarationsBy body)) 23 (declaredRefusal (declarationsBy body))) (accepted (declared (declarationsBy body))) ≡ orRefused (refuse (hasTwice (declarationsBy body)) 5 (refuse (hasWholeRight (declarationsBy body)) 8 0)) (accepted (declared (declarationsBy body))) = rw (e, f, g) in q) ∙ sym (text-file (declarationsBy body) (fits e) f g)
-
--- what was put is what is read
-pub put-front : {xs d d′ : List ℕ} {n : ℕ} → Put xs d n d′ → take n d′ ≡ xs
-unfolding over
-put-front {xs} {d} {d′} {n} p = ap₂ take (p .length-is) (p .bytes) ∙ take-append-seam xs (drop (length xs) d)
-
--- ---- the replies
-
-says-refused : {s : List ℕ} {d : StoredDiagram} (n : ℕ) → eqb n 0 ≡ false → readText s ≡ refused n → LoadsText s (record { no = n; diagram = d })
-unfolding answerOf
-says-refused {s} {d} n e f =
-    record { says = ap (λ (b : Bool). cond b (accepted (diagramOf d)) (refused n)) e ∙ sym f; held = λ z. absurd (true-false (ap (λ (k : ℕ). eqb k 0) z) e) }
-
-not-not : (b : Bool) → not b ≡ false → b ≡ true
-not-not true e = refl
-not-not false e = absurd (true-false refl e)
-
-pub says-untaken : {s : List ℕ} {d : StoredDiagram} {r : Bool} → r ≡ both (accepts 0 (tokens s)) (not (hasLongFrom 0 (tokens s))) → not r ≡ true → LoadsText s (record { no = 23; diagram = d })
-says-untaken {s} {d} {r} e f = says-refused 23 refl (untaken s (sym e ∙ not-true r f))
-
-pub read-of : {s body : List ℕ} {n : ℕ} {r : Bool} → r ≡ both (accepts 0 (tokens s)) (not (hasLongFrom 0 (tokens s))) → not r ≡ false → RowEnd 0 s n → body ≡ drop n s → Read s body
-read-of {s} {body} {n} {r} e f h q = subst (λ (x : List ℕ). Read s x) (sym q) (taken-read h (sym e ∙ not-not r f))
-
-module _ {s body : List ℕ} {a : Bool} (r : Read s body) (ea : a ≡ hasForbidden (declarationsBy body)) where
-  pub says-forbidden : {d : StoredDiagram} → a ≡ true → LoadsText s (record { no = 23; diagram = d })
-  says-forbidden h = says-refused 23 refl (read-forbidden r (sym ea ∙ h))
-
-  pub says-unknown : {d : StoredDiagram} {b : Bool} → a ≡ false → b ≡ hasUnknown (declarationsBy body) → b ≡ true → LoadsText s (record { no = 24; diagram = d })
-  says-unknown f e h = says-refused 24 refl (read-unknown r (sym ea ∙ f) (sym e ∙ h))
-
-  pub says-overfull : {d : StoredDiagram} {b g : Bool} → a ≡ false → b ≡ hasUnknown (declarationsBy body) → b ≡ false → g ≡ isOverfull (declarationsBy body) → g ≡ true → LoadsText s (record { no = 4; diagram = d })
-  says-overfull f e h i j = says-refused 4 refl (read-overfull r (sym ea ∙ f) (sym e ∙ h) (sym i ∙ j))
-
-pub says-read : {s body file : List ℕ} {l : Loaded} → Read s body → hasForbidden (declarationsBy body) ≡ false → hasUnknown (declarationsBy body) ≡ false
-    → isOverfull (declarationsBy body) ≡ false → file ≡ writeDiagram (declared (declarationsBy body)) → Loads file l → LoadsText s l
-says-read r f h i q m = record { says = m .says ∙ ap readDiagram q ∙ sym (read-file r f h i); held = m .held }
-
--- a test that a function answered
-pub told-no : {a b : Bool} → a ≡ b → a ≡ false → b ≡ false
-told-no e f = sym e ∙ f
-
-pub ruleset replies = (says-untaken, read-of, says-forbidden, says-unknown, says-overfull)
-
--- as many bytes are read as were put
-pub put-count : {xs d d′ : List ℕ} {n : ℕ} → Put xs d n d′ → n ≡ length (take n d′)
-put-count p = p .length-is ∙ sym (ap length (put-front p))

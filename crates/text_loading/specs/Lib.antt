@@ -1,1 +1,2 @@
 pub mod LoadsText
+pub mod Read

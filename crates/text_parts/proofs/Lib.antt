@@ -3,3 +3,4 @@ pub mod ForbiddenLaws
 pub mod ParentLaws
 pub mod ValueLaws
 pub mod WhatLaws
+pub mod CountLaws

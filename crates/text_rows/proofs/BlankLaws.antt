@@ -3,10 +3,14 @@
 -- Assumes nothing.
 use Prim.Native.Nat.{ℕ, _+_, _<_, _≤_}
 use native.Mathlib.Omega.{arith}
-use mathlib.Core.Bool.{Bool, cond, false, true}
+use mathlib.Core.Bool.{Bool, _&&_, _||_, cond, false, true}
 use mathlib.Core.List.{List, [], _∷_}
+use mathlib.Core.Logic.{⊎-elim}
 use mathlib.Core.Path.{_≡_, _∙_, ap, refl, sym}
+use lib.Dec.{eqb, leb}
 use lib.ListN.{drop, drop-of-length-le, getD, length, take}
+use Rattle.laws.specs.Connective.{both, either}
+use Rattle.laws.proofs.ConnectiveLaws.{and-is-both, either-left, either-right, or-cases}
 use Rattle.laws.proofs.ListLaws.{from-next}
 use Rattle.files.specs.Name.{nameByte}
 use Rattle.texts.specs.Token.{isBlank, run}
@@ -60,6 +64,18 @@ unblank-none x s = go (isBlank x)
 
 -- ---- runs
 
+-- a letter, as the code tells it, is a name byte
+pub name-letter : (b : ℕ) → leb 65 b && leb b 90 || leb 97 b && leb b 122 ≡ true → true ≡ nameByte b
+unfolding nameByte
+name-letter b t =
+    let u = both (leb 65 b) (leb b 90) in
+    let l = both (leb 97 b) (leb b 122) in
+    let r = either (both (leb 48 b) (leb b 57)) (eqb b 95) in
+    sym
+    (⊎-elim (λ e. either-left u (either l r) (sym (and-is-both (leb 65 b) (leb b 90)) ∙ e))
+    (λ e. either-right u (either l r) (either-left l r (sym (and-is-both (leb 97 b) (leb b 122)) ∙ e)))
+    (or-cases (leb 65 b && leb b 90) (leb 97 b && leb b 122) t))
+
 pub run-begin : (s : List ℕ) → length (run s) ≡ 0 + length (run (drop 0 s))
 run-begin s = omega arith
 
@@ -92,3 +108,22 @@ pub run-some : (s : List ℕ) → 0 < length s → nameByte (getD s 0 0) ≡ tru
 unfolding run
 run-some [] h e = absurd (omega arith)
 run-some (x ∷ s) h e = rw e (omega arith)
+
+-- what its length tells of the first byte
+pub run-begun : (s : List ℕ) → 0 < length (run s) → nameByte (getD s 0 0) ≡ true
+unfolding run
+run-begun [] h = absurd (omega arith)
+run-begun (x ∷ s) h = go (nameByte x) h
+  where
+    go : (b : Bool) → 0 < length (cond b (x ∷ run s) []) → b ≡ true
+    go true l = refl
+    go false l = absurd (omega arith)
+
+pub run-none : (s : List ℕ) → 0 < length s → length (run s) ≤ 0 → nameByte (getD s 0 0) ≡ false
+unfolding run
+run-none [] l h = absurd (omega arith)
+run-none (x ∷ s) l h = go (nameByte x) h
+  where
+    go : (b : Bool) → length (cond b (x ∷ run s) []) ≤ 0 → b ≡ false
+    go true k = absurd (omega arith)
+    go false k = refl

@@ -1,7 +1,7 @@
 -- Where the row of a text ends: the unread rest is the text behind so many bytes, and the rows from the text's own state continue
 -- with those from the rest's.
 -- Assumes nothing.
-use Prim.Native.Nat.{ℕ, suc, _+_, _-_, _<_, _≤_}
+use Prim.Native.Nat.{ℕ, suc, _+_, _-_, _≤_}
 use native.Mathlib.Omega.{arith}
 use mathlib.Core.Bool.{Bool, cond, false, true}
 use mathlib.Core.List.{List, [], _∷_}
@@ -13,11 +13,11 @@ use lib.Seq.{drop-drop}
 use borrow.Author.Tests.{eq-eqb, leb-false, leb-true, ne-eqb}
 use Rattle.laws.proofs.ConnectiveLaws.{known}
 use Rattle.texts.specs.Token.{isBlank, tokenAt, tokens}
-use Rattle.texts.specs.Table.{Symbol, next, onto, rowFrom, rowsFrom, symbol}
+use Rattle.texts.specs.Table.{Symbol, onto, rowFrom, rowsFrom, symbol}
 use Rattle.text_rows.specs.declared.tokens.Front.{Front}
-use Rattle.text_rows.specs.Front.{Fronts, unblank}
+use Rattle.text_rows.specs.Front.{unblank}
 use Rattle.text_rows.specs.RowAt.{RowEnd}
-use Rattle.text_rows.proofs.RowLaws.{rest-tokens, row-on, to-next, tokens-on}
+use Rattle.text_rows.proofs.RowLaws.{Step, rest-tokens, row-on, to-next, tokens-on}
 use Rattle.text_rows.proofs.TokenLaws.{size-least, tokens-end, tokens-unblank}
 
 -- ---- t is s behind some of its first bytes
@@ -77,35 +77,35 @@ continues-self q s t e =
     let k : tokens t ≡ tokens s = ap tokens e ∙ tokens-unblank s in
     record { none = λ h. ap (rowsFrom q) (sym k) ∙ h; more = λ rs h. rw (sym k) h }
 
-module _ (q₀ : ℕ) (s r : List ℕ) (f : Front) (q n : ℕ) (some : 0 < length r) (bare : unblank r ≡ r) (is : Fronts r f) (to : n ≡ next q (f .class))
-    (c : Continues q₀ s q r) (p : List ℕ) (past : p ≡ drop (f .size) r) where
+module _ {q₀ : ℕ} {s r : List ℕ} {f : Front} {q n : ℕ} (h : Step r f q n) (c : Continues q₀ s q r) {p : List ℕ} (past : p ≡ drop (f .size) r) where
   rows-on : rowsFrom q (tokens r)
       ≡ cond (eqb n 3) ((symbol n (tokenAt r) ∷ []) ∷ rowsFrom n (tokens (drop (f .size) r))) (onto (symbol n (tokenAt r)) (rowsFrom n (tokens (drop (f .size) r))))
   unfolding rowsFrom
-  rows-on = rw (tokens-on r f q n some bare is to, to-next r f q n some bare is to)
+  rows-on = rw (tokens-on h, to-next h)
 
   -- the row goes on
-  pub continues-next : (n ≡ 3 → ⊥) → (t : List ℕ) → t ≡ unblank p → Continues q₀ s n t
-  continues-next u t on =
-      let k = rest-tokens r p t f some is past on in
+  pub continues-next : (n ≡ 3 → ⊥) → {t : List ℕ} → t ≡ unblank p → Continues q₀ s n t
+  continues-next u {t} on =
+      let k = rest-tokens h past on in
       let a : rowsFrom q (tokens r) ≡ onto (symbol n (tokenAt r)) (rowsFrom n (tokens t)) = rows-on ∙ rw (ne-eqb n 3 u, k) in
-      let b : rowFrom q (tokens r) ≡ symbol n (tokenAt r) ∷ rowFrom n (tokens t) = row-on r f q n some bare is to ∙ rw (ne-eqb n 3 u, k) in
+      let b : rowFrom q (tokens r) ≡ symbol n (tokenAt r) ∷ rowFrom n (tokens t) = row-on h ∙ rw (ne-eqb n 3 u, k) in
       record {
-        none = λ h. c .none (a ∙ ap (onto (symbol n (tokenAt r))) h);
-        more = λ rs h. c .more rs (a ∙ ap (onto (symbol n (tokenAt r))) h ∙ ap (λ (x : List Symbol). x ∷ rs) (sym b));
+        none = λ e. c .none (a ∙ ap (onto (symbol n (tokenAt r))) e);
+        more = λ rs e. c .more rs (a ∙ ap (onto (symbol n (tokenAt r))) e ∙ ap (λ (x : List Symbol). x ∷ rs) (sym b));
       }
 
   -- the row ends behind the token
   pub row-ends : n ≡ 3 → Behind s r → RowEnd q₀ s (length s - length p)
-  row-ends t h =
-      let b = behind-is s r h in
-      let d = behind-is s p (behind-drop s r p (f .size) h past) in
+  row-ends t g =
+      let b = behind-is s r g in
+      let d = behind-is s p (behind-drop s r p (f .size) g past) in
       let l : length p ≡ length r - f .size = ap (λ (x : List ℕ). length x) past ∙ length-drop (f .size) r in
+      let some = h .some in
       let m = size-least r some in
-      let z = is .size-is in
+      let z = h .is .size-is in
       let v = b .0 in
       let w = d .0 in
-      let e : rowFrom q (tokens r) ≡ symbol n (tokenAt r) ∷ [] = row-on r f q n some bare is to ∙ rw (eq-eqb n 3 t) in
+      let e : rowFrom q (tokens r) ≡ symbol n (tokenAt r) ∷ [] = row-on h ∙ rw (eq-eqb n 3 t) in
       let a : rowsFrom q (tokens r) ≡ (symbol n (tokenAt r) ∷ []) ∷ rowsFrom 3 (tokens p) = rows-on ∙ rw (eq-eqb n 3 t, t, past) in
       record {
         within = omega arith;

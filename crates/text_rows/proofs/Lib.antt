@@ -1,9 +1,16 @@
+pub mod AmongLaws
 pub mod BlankLaws
 pub mod StartsLaws
 pub mod MarkLaws
+pub mod CandidateLaws
 pub mod WordLaws
 pub mod TokenLaws
 pub mod FrontLaws
 pub mod TableLaws
 pub mod RowLaws
 pub mod EndLaws
+pub mod BoundLaws
+pub mod NotedLaws
+pub mod EntryLaws
+pub mod ScanLaws
+pub mod ReadLaws

@@ -15,6 +15,7 @@ use Rattle.texts.specs.Token.{Token, classOf, isBlank, mark, markAt, marks, run
 use Rattle.texts.specs.Table.{isNameState, longAt, wordIf}
 use Rattle.texts.specs.TextChecks.{isLong}
 use Rattle.text_rows.specs.Front.{unblank}
+use Rattle.text_rows.specs.Noted.{isWordClass}
 use Rattle.text_rows.proofs.BlankLaws.{run-front, run-some, unblank-none}
 use Rattle.text_rows.proofs.MarkLaws.{mark-least, mark-most}
 use Rattle.text_rows.proofs.WordLaws.{class-least, class-most}
@@ -77,10 +78,6 @@ long-front q s =
     let m = mark-most i l in
     let k : length (getD marks i []) ≤ 16 = omega arith in
     sym (ap (λ (b : Bool). both (isNameState q) b) (le-ltb 16 (length (getD marks i [])) k) ∙ both-false (isNameState q))) (λ b. sym (both-false (isNameState q)))
-
--- a word: class 16 to 27
-abbrev pub isWordClass : ℕ → Bool
-isWordClass c = both (leb 16 c) (leb c 27)
 
 -- where the test says so, a word is taken, and it is the front of the list
 pub word-taken : (b : Bool) (s : List ℕ) (ws : List Name) → both b (isWordClass (classOf (tokenAt s))) ≡ true

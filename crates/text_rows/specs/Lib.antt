@@ -1,3 +1,4 @@
 pub mod Front
-pub mod StateOf
 pub mod RowAt
+pub mod Scan
+pub mod Noted

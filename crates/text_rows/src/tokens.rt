@@ -1,10 +1,14 @@
 // The word or mark at the front of the unread rest of a text.
 ghost use mathlib.Core.Path.{_≡_};
+ghost use mathlib.Core.Bool.{cond};
 ghost use mathlib.Core.List.{[]};
 ghost use Prim.Native.Nat.{_≤_, _<_};
+ghost use lib.Dec.{eqb, ltb};
 ghost use lib.ListN.{length, getD};
-ghost use Rattle.texts.specs.Token.{isBlank, isDigit, isInteger, markAt, marks, quotedAt, run, sameWord, starts, wordClass};
-ghost use Rattle.text_rows.specs.Front.{Fronts, knownWords, unblank};
+ghost use Rattle.laws.specs.Connective.{both};
+ghost use Rattle.files.specs.Name.{nameByte};
+ghost use Rattle.texts.specs.Token.{isBlank, isDigit, isInteger, markAt, marks, run, sameWord, wordClass};
+ghost use Rattle.text_rows.specs.Front.{Fronts, NoOther, knownWords, unblank};
 
 // Its class, and of how many bytes it is.
 pub(crate) struct Front {
@@ -12,27 +16,12 @@ pub(crate) struct Front {
     pub size: usize,
 }
 
-// The marks, longest first, each with its length.
-const MARKS: [[u8; 3]; 16] = [
-    [0x3C, 0x2D, 0x3E],
-    [0x2D, 0x3E, 0],
-    [0x3C, 0x2D, 0],
-    [0x2D, 0x2D, 0],
-    [0x3C, 0x3C, 0],
-    [0x3E, 0x3E, 0],
-    [0x2E, 0x2E, 0],
-    [0x7B, 0, 0],
-    [0x7D, 0, 0],
-    [0x3B, 0, 0],
-    [0x2C, 0, 0],
-    [0x28, 0, 0],
-    [0x29, 0, 0],
-    [0x5B, 0, 0],
-    [0x5D, 0, 0],
-    [0x2A, 0, 0],
-];
-
-const MARK_SIZES: [usize; 16] = [3, 2, 2, 2, 2, 2, 2, 1, 1, 1, 1, 1, 1, 1, 1, 1];
+// One number where byte i is b, another where it is not.
+fn by_byte(s: &[u8], i: usize, b: u8, yes: u8, no: u8) -> u8
+    ensures { λ r. ⌜ r ≡ cond (eqb b (getD (now (s .entry)) i 0)) yes no ⌝ }
+{
+    if b == laws::byte(s, i) { yes } else { no }
+}
 
 fn is_blank(b: u8) -> bool
     ensures { λ r. ⌜ r ≡ isBlank b ⌝ }
@@ -55,13 +44,23 @@ pub(crate) fn unblanked(s: &[u8]) -> &[u8]
     laws::past(s, i)
 }
 
+// A byte of a name. Most are letters, and these are told first.
+fn is_name_byte(b: u8) -> bool
+    ensures { λ r. ⌜ r ≡ nameByte b ⌝ }
+{
+    if ((65 <= b) & (b <= 90)) | ((97 <= b) & (b <= 122)) {
+        return true;
+    }
+    fields::name_byte(b)
+}
+
 // The length of the longest run of name bytes at the front.
 fn run_size(s: &[u8]) -> usize
     ensures { λ r. ⌜ r ≡ length (run (now (s .entry))) ⌝ }
 {
     let mut i = 0;
     while i < s.len() {
-        if fields::name_byte(s[i]) {
+        if is_name_byte(s[i]) {
             i += 1;
         } else {
             return i;
@@ -72,112 +71,41 @@ fn run_size(s: &[u8]) -> usize
 
 // ---- words
 
-// The quoted words and, last, "singleton", with their lengths.
-const WORDS: [[u8; 12]; 10] = [
-    [
-        0x63,
-        0x6C,
-        0x61,
-        0x73,
-        0x73,
-        0x64,
-        0x69,
-        0x61,
-        0x67,
-        0x72,
-        0x61,
-        0x6D,
-    ],
-    [0x63, 0x6C, 0x61, 0x73, 0x73, 0, 0, 0, 0, 0, 0, 0],
-    [0x65, 0x78, 0x74, 0x65, 0x6E, 0x64, 0x73, 0, 0, 0, 0, 0],
-    [
-        0x69,
-        0x6D,
-        0x70,
-        0x6C,
-        0x65,
-        0x6D,
-        0x65,
-        0x6E,
-        0x74,
-        0x73,
-        0,
-        0,
-    ],
-    [
-        0x69,
-        0x6E,
-        0x74,
-        0x65,
-        0x72,
-        0x66,
-        0x61,
-        0x63,
-        0x65,
-        0,
-        0,
-        0,
-    ],
-    [0x65, 0x6E, 0x75, 0x6D, 0, 0, 0, 0, 0, 0, 0, 0],
-    [
-        0x61,
-        0x73,
-        0x73,
-        0x6F,
-        0x63,
-        0x69,
-        0x61,
-        0x74,
-        0x69,
-        0x6F,
-        0x6E,
-        0,
-    ],
-    [
-        0x63,
-        0x6F,
-        0x6D,
-        0x70,
-        0x6F,
-        0x73,
-        0x69,
-        0x74,
-        0x69,
-        0x6F,
-        0x6E,
-        0,
-    ],
-    [0x61, 0x62, 0x73, 0x74, 0x72, 0x61, 0x63, 0x74, 0, 0, 0, 0],
-    [
-        0x73,
-        0x69,
-        0x6E,
-        0x67,
-        0x6C,
-        0x65,
-        0x74,
-        0x6F,
-        0x6E,
-        0,
-        0,
-        0,
-    ],
-];
-
-const WORD_SIZES: [usize; 10] = [12, 5, 7, 10, 9, 4, 11, 11, 8, 9];
-
-// w is word i of these.
-fn is_word(i: u8, w: &[u8]) -> bool
-    requires { ⌜ i < 10 ⌝ }
-    ensures { λ r. ⌜ r ≡ sameWord (getD knownWords i []) (now (w .entry)) ⌝ }
+// The only known word that w can be, by its length and, where two have that length, its first byte: its place among them, or 10.
+fn candidate(w: &[u8]) -> u8
+    ensures { λ r. ⌜ NoOther (now (w .entry)) r ⌝ }
 {
-    let k = laws::wide(i);
-    let n = WORD_SIZES[k];
-    if w.len() != n {
-        return false;
+    match w.len() {
+        4 => 5,
+        5 => 1,
+        7 => 2,
+        8 => 8,
+        9 => by_byte(w, 0, b'i', 4, 9),
+        10 => 3,
+        11 => by_byte(w, 0, b'a', 6, 7),
+        12 => 0,
+        _ => 10,
     }
-    let bytes = WORDS[k];
-    laws::is_equal(laws::compare(laws::front(&bytes[..], n), w))
+}
+
+// w is known word k.
+fn is_word(k: u8, w: &[u8]) -> bool
+    requires { ⌜ k ≤ 10 ⌝ }
+    ensures { λ r. ⌜ r ≡ both (ltb k 10) (sameWord (getD knownWords k []) (now (w .entry))) ⌝ }
+{
+    match k {
+        0 => fields::same_name(b"classdiagram", w),
+        1 => fields::same_name(b"class", w),
+        2 => fields::same_name(b"extends", w),
+        3 => fields::same_name(b"implements", w),
+        4 => fields::same_name(b"interface", w),
+        5 => fields::same_name(b"enum", w),
+        6 => fields::same_name(b"association", w),
+        7 => fields::same_name(b"composition", w),
+        8 => fields::same_name(b"abstract", w),
+        9 => fields::same_name(b"singleton", w),
+        _ => false,
+    }
 }
 
 fn is_digit(b: u8) -> bool
@@ -200,29 +128,12 @@ fn is_integer(w: &[u8]) -> bool
     true
 }
 
-// The place of w among the quoted words, or 9.
-fn quoted_at(w: &[u8]) -> u8
-    ensures { λ r. ⌜ (r ≡ quotedAt (now (w .entry))) × (r ≤ 9) ⌝ }
-{
-    let mut i: u8 = 0;
-    while i < 9 {
-        if is_word(i, w) {
-            return i;
-        }
-        i += 1;
-    }
-    9
-}
-
 fn word_class(w: &[u8]) -> u8
     ensures { λ r. ⌜ (r ≡ wordClass (now (w .entry))) × (r ≤ 27) ⌝ }
 {
-    let k = quoted_at(w);
-    if k < 9 {
+    let k = candidate(w);
+    if is_word(k, w) {
         return 16 + k;
-    }
-    if is_word(9, w) {
-        return 25;
     }
     if is_integer(w) {
         return 26;
@@ -232,33 +143,47 @@ fn word_class(w: &[u8]) -> u8
 
 // ---- marks
 
-// Mark i stands at the front.
-fn starts_with(s: &[u8], i: u8) -> bool
-    requires { ⌜ (i < 16) × (0 < length (now s)) ⌝ }
-    ensures { λ r. ⌜ r ≡ starts (getD marks i []) (now (s .entry)) ⌝ }
-{
-    let k = laws::wide(i);
-    let bytes = MARKS[k];
-    if bytes[0] != s[0] {
-        return false;
-    }
-    let n = MARK_SIZES[k];
-    laws::is_equal(laws::compare(laws::front(&bytes[..], n), laws::front(s, n)))
-}
-
-// The first of the marks that stands at the front, or 16.
+// The first of the marks that stands at the front, or 16: by the first byte, and where that begins more than one mark, by the next.
 fn mark_at(s: &[u8]) -> u8
     requires { ⌜ 0 < length (now s) ⌝ }
     ensures { λ r. ⌜ (r ≡ markAt (now (s .entry))) × (r ≤ 16) ⌝ }
 {
-    let mut i: u8 = 0;
-    while i < 16 {
-        if starts_with(s, i) {
-            return i;
-        }
-        i += 1;
+    match s[0] {
+        b'<' => by_byte(
+            s,
+            1,
+            b'-',
+            by_byte(s, 2, b'>', 0, 2),
+            by_byte(s, 1, b'<', 4, 16),
+        ),
+        b'-' => by_byte(s, 1, b'>', 1, by_byte(s, 1, b'-', 3, 16)),
+        b'>' => by_byte(s, 1, b'>', 5, 16),
+        b'.' => by_byte(s, 1, b'.', 6, 16),
+        b'{' => 7,
+        b'}' => 8,
+        b';' => 9,
+        b',' => 10,
+        b'(' => 11,
+        b')' => 12,
+        b'[' => 13,
+        b']' => 14,
+        b'*' => 15,
+        _ => 16,
     }
-    16
+}
+
+// The length of mark i.
+fn mark_size(i: u8) -> usize
+    requires { ⌜ i < 16 ⌝ }
+    ensures { λ r. ⌜ r ≡ length (getD marks i []) ⌝ }
+{
+    if i < 1 {
+        return 3;
+    }
+    if i < 7 {
+        return 2;
+    }
+    1
 }
 
 // The token at the front, where no blank stands there.
@@ -266,8 +191,8 @@ pub(crate) fn token_at(s: &[u8]) -> Front
     requires { ⌜ 0 < length (now s) ⌝ }
     ensures { λ r. ⌜ Fronts (now (s .entry)) r ⌝ }
 {
-    if fields::name_byte(s[0]) {
-        let n = run_size(s);
+    let n = run_size(s);
+    if 0 < n {
         let class = word_class(laws::front(s, n));
         return Front { class, size: n };
     }
@@ -275,7 +200,7 @@ pub(crate) fn token_at(s: &[u8]) -> Front
     if m < 16 {
         return Front {
             class: m,
-            size: MARK_SIZES[laws::wide(m)],
+            size: mark_size(m),
         };
     }
     Front { class: 28, size: 1 }

@@ -18,7 +18,7 @@ use Rattle.texts.specs.Declared.{associationOf, attributeOf, attributesIn, decl
 use Rattle.text_checks.specs.ValueNames.{valueNames}
 use Rattle.text_checks.proofs.ValueNamesLaws.{value-names, value-names-length}
 use Rattle.text_fields.specs.Fields.{enumerationOf, plainOf}
-use Rattle.text_writing.specs.Pieces.{associationPiece, attributesAndAssociationsPart, attributesPiece, enumerationCount, enumerationPiece, plainPiece, typePiece, valueTypesPart}
+use Rattle.text_writing.specs.Pieces.{associationPiece, attributesAndAssociationsPart, attributesPiece, declaredPart, enumerationCount, enumerationPiece, plainPiece, typePiece, typesToAssociationsPart, valueTypesPart}
 use Rattle.text_writing.proofs.RowsOfLists.{rows-append, rows-joined, rows-listed, rowsOf}
 
 abbrev noType : ValueType
@@ -112,9 +112,8 @@ module _ (ds : List Declaration) where
 
   -- ---- the file
 
-  pub file-pieces : writeDiagram (declared ds)
-      ≡ field 0x10 (1 ∷ []) ++ (valueTypesPart ds ++ (joined (typePiece ds) (length ds) ++ attributesAndAssociationsPart ds))
-  unfolding writeDiagram attributesAndAssociationsPart
+  pub file-pieces : writeDiagram (declared ds) ≡ field 0x10 (1 ∷ []) ++ declaredPart ds
+  unfolding writeDiagram declaredPart typesToAssociationsPart attributesAndAssociationsPart
   file-pieces =
       ap₂ (λ (v r : List ℕ). field 0x10 (1 ∷ []) ++ (v ++ r)) value-types
       (ap₂ (λ (t r : List ℕ). t ++ r) type-pieces (ap₂ (λ (a s : List ℕ). a ++ s) attribute-pieces association-pieces))

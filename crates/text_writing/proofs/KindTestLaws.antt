@@ -1,15 +1,12 @@
--- The kind of a declaration as the code asks for it, and a writer that puts its bytes where a test holds, else nothing.
+-- The kind of a declaration as the code asks for it.
 -- Assumes nothing.
 use Prim.Native.Nat.{_<_, _≤_, ℕ}
-use mathlib.Core.Bool.{Bool, _||_, cond, false, true}
-use mathlib.Core.List.{List, []}
+use mathlib.Core.Bool.{Bool, _||_, false, true}
 use mathlib.Core.Path.{_∙_, _≡_, ap, subst, sym}
 use lib.Dec.{eqb}
 use borrow.Author.Tests.{eq-eqb, le-leb, lt-leb, ne-eqb}
 use Rattle.laws.specs.Bounded.{one}
 use Rattle.laws.proofs.ConnectiveLaws.{or-is-either}
-use Rattle.field_writers.specs.Put.{Put}
-use Rattle.field_writers.proofs.PutLaws.{put-as, put-nothing}
 use Rattle.texts.specs.Declaration.{Declaration, isAssociation, isEnumeration, isType}
 
 module _ (d : Declaration) {what : ℕ} (e : what ≡ d .what) where
@@ -33,6 +30,10 @@ module _ (d : Declaration) {what : ℕ} (e : what ≡ d .what) where
   unfolding isAssociation
   association-test h = sym (or-is-either (eqb (d .what) 5) (eqb (d .what) 6)) ∙ ap (λ (n : ℕ). eqb n 5 || eqb n 6) (sym e) ∙ h
 
+  -- a declaration that is d
+  pub association-is : {x : Declaration} → x ≡ d → (eqb what 5 || eqb what 6) ≡ true → isAssociation x ≡ true
+  association-is i h = ap isAssociation i ∙ association-test h
+
   -- ---- 1 or 0
 
   pub one-type-yes : what ≤ 3 → 1 ≡ one (isType d)
@@ -46,11 +47,3 @@ module _ (d : Declaration) {what : ℕ} (e : what ≡ d .what) where
 
   pub one-enumeration-no : (what ≡ 4 → ⊥) → 0 ≡ one (isEnumeration d)
   one-enumeration-no h = ap one (sym (enumeration-no h))
-
--- ---- writers
-
-pub put-where : {xs d d′ : List ℕ} {n : ℕ} (b : Bool) → b ≡ true → Put xs d n d′ → Put (cond b xs []) d n d′
-put-where {xs} b e p = put-as p (cond b xs []) (ap (λ (a : Bool). cond a xs []) (sym e))
-
-pub put-elsewhere : (xs d : List ℕ) (b : Bool) → b ≡ false → Put (cond b xs []) d 0 d
-put-elsewhere xs d b e = put-as (put-nothing d) (cond b xs []) (ap (λ (a : Bool). cond a xs []) (sym e))

@@ -7,5 +7,5 @@ pub mod ReadyLaws
 pub mod PlainLaws
 pub mod RowsOfLists
 pub mod FileLaws
+pub mod TwoWritersLaws
 pub mod FilePartsLaws
-pub mod StageLaws

@@ -13,13 +13,13 @@ use Rattle.laws.specs.Lists.{picked}
 use Rattle.laws.proofs.BoundedLaws.{any-at, any-ext, any-none}
 use Rattle.laws.proofs.ConnectiveLaws.{and-is-both, both-left, both-no-right, both-right, known}
 use Rattle.laws.proofs.FirstLaws.{first-below, first-ext, first-hit, first-holds, first-least, first-none}
-use Rattle.laws.proofs.PickedLaws.{any-picked, length-picked}
+use Rattle.laws.proofs.CountLaws.{counted, tally-below}
+use Rattle.laws.proofs.PickedLaws.{any-picked, length-picked, picked-at}
 use Rattle.files.specs.Diagram.{ValueType}
 use Rattle.files.specs.Name.{Name, sameName}
 use Rattle.texts.specs.Declaration.{Declaration, declarationAt, isType}
 use Rattle.texts.specs.Declared.{typeFirst, typeIndex, typesBefore, valueTypeIndex, valueTypesOf}
 use Rattle.texts.specs.TextChecks.{namesOfKind}
-use Rattle.texts.proofs.PickedIndexLaws.{counted, picked-at, tally-below}
 use Rattle.text_checks.specs.ValueNames.{valueNames}
 use Rattle.text_checks.proofs.ValueNamesLaws.{value-names}
 use Rattle.text_fields.specs.Fields.{placeIn}

@@ -1,22 +1,12 @@
 -- A row for each element of a list: of two lists one behind the other, of a list of rows, and of a list by index.
 -- Assumes nothing.
-use Prim.Native.Nat.{ℕ, suc, zero, _+_}
-use native.Mathlib.Nat.{add-zero}
-use native.Mathlib.Omega.{arith}
-use mathlib.Core.List.{List, _++_, append-assoc, append-nil}
-use mathlib.Core.Path.{_≡_, refl, sym, ap, ap₂, _∙_}
+use Prim.Native.Nat.{ℕ, suc, zero}
+use mathlib.Core.List.{List, _++_}
+use mathlib.Core.Path.{_≡_, refl, ap, ap₂, _∙_}
 use lib.ListN.{List·getD-append, getD, length, length-append}
 use lib.Seq.{getD-append-add}
 use Rattle.laws.specs.Lists.{joined, listed}
-use Rattle.laws.proofs.JoinedLaws.{getD-each, joined-ext, length-each}
-
--- the rows from number k on behind the first k
-pub joined-plus {ℓ} : {A : Type ℓ} (g : ℕ → List A) (k m : ℕ) → joined g (k + m) ≡ joined g k ++ joined (λ i. g (k + i)) m
-unfolding joined
-joined-plus g k zero = ap (joined g) (add-zero k) ∙ sym (append-nil (joined g k))
-joined-plus {A = A} g k (suc m) =
-    let e : k + suc m ≡ suc (k + m) = omega arith in
-    ap (joined g) e ∙ ap (λ (xs : List A). xs ++ g (k + m)) (joined-plus g k m) ∙ append-assoc (joined g k) (joined (λ i. g (k + i)) m) (g (k + m))
+use Rattle.laws.proofs.JoinedLaws.{getD-each, joined-ext, joined-plus, length-each}
 
 module _ {ℓ ℓ′} {A : Type ℓ} {B : Type ℓ′} (h : A → List B) (d : A) where
   -- the rows of a list's elements

@@ -1,6 +1,6 @@
 -- The fields that each declaration of a text adds to the file of the diagram, by tag: nothing where it is of another kind.
 -- Assumes nothing.
-use Prim.Native.Nat.{_+_, _-_, _<_, ℕ}
+use Prim.Native.Nat.{_+_, _-_, _<_, _≤_, ℕ}
 use mathlib.Core.Bool.{cond, false}
 use mathlib.Core.List.{List, [], _++_}
 use mathlib.Core.Path.{_≡_}
@@ -12,9 +12,11 @@ use Rattle.files.specs.Field.{field}
 use Rattle.files.specs.Name.{Name}
 use Rattle.texts.specs.Declaration.{Declaration, declarationAt, isAssociation, isEnumeration, isType}
 use Rattle.texts.specs.Declared.{associationOf, attributeOf, typeDefOf}
-use Rattle.texts.specs.Fits.{Fits}
+use Rattle.texts.specs.WellFormedDeclaration.{ShortNames, WfDeclarations}
 use Rattle.texts.specs.TextChecks.{isOverfull}
-use Rattle.text_checks.specs.ValueNames.{Short, valueNames}
+use Rattle.text_rows.specs.RowAt.{declarationsBy}
+use Rattle.text_outlines.specs.Outline.{Outlines}
+use Rattle.text_checks.specs.ValueNames.{valueNames}
 use Rattle.text_fields.specs.Fields.{Roomy, enumerationOf, plainOf}
 
 -- 0x20
@@ -52,9 +54,23 @@ valueTypesPart ds =
 unfoldable pub attributesAndAssociationsPart : List Declaration → List ℕ
 attributesAndAssociationsPart ds = joined (attributesPiece ds) (length ds) ++ joined (associationPiece ds) (length ds)
 
+-- 0x30 to 0x50
+unfoldable pub typesToAssociationsPart : List Declaration → List ℕ
+typesToAssociationsPart ds = joined (typePiece ds) (length ds) ++ attributesAndAssociationsPart ds
+
+-- 0x20 to 0x50
+unfoldable pub declaredPart : List Declaration → List ℕ
+declaredPart ds = valueTypesPart ds ++ typesToAssociationsPart ds
+
 -- Declarations whose diagram has a file: they pass the checks 23 and 4.
 pub record Writable (ds : List Declaration) : Type 0 where
-  pub fits : Fits ds
+  pub fits : WfDeclarations ds
   pub few : isOverfull ds ≡ false
-  pub short : Short ds
+  pub short : ShortNames ds
   pub roomy : (k : ℕ) → k < length ds → Roomy (declarationAt ds k)
+
+-- A body with such declarations and its outline, which tells of all of them.
+pub record WritableBody (s o : List ℕ) (n : ℕ) : Type 0 where
+  pub writable : Writable (declarationsBy s)
+  pub outlines : Outlines s o n
+  pub few : n ≤ 52

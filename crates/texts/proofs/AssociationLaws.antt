@@ -14,15 +14,15 @@ use borrow.Author.Tests.{eq-eqb, eqb-true, ltb-false, not-false}
 use Rattle.laws.specs.Bounded.{any}
 use Rattle.laws.specs.Connective.{both}
 use Rattle.files.specs.Diagram.{Upper, associationAt, atMost, isComposition, noLimit}
-use Rattle.files.specs.WellFormedDiagram.{WfEnd, WfUpper}
+use Rattle.files.specs.WellFormedDiagram.{WfUpper}
 use Rattle.texts.specs.Declaration.{Declaration, DeclaredEnd, declarationAt, isAssociation, isType}
 use Rattle.texts.specs.Declared.{associationOf, declared, endIn, typeIndex}
-use Rattle.texts.specs.Fits.{Fits, FitsEnd}
 use Rattle.texts.specs.TextChecks.{hasUnknownEnd, hasWholeRight, limitsForbidden, upperForbidden}
+use Rattle.texts.specs.WellFormedDeclaration.{WfDeclarations, WfDeclaredEnd}
 use Rattle.laws.proofs.BoundedLaws.{any-ext}
 use Rattle.laws.proofs.ConnectiveLaws.{both-no-right, either-cases, either-neither, either-right, known, same-test}
 use Rattle.laws.proofs.PickedLaws.{any-picked, picked-each}
-use Rattle.texts.proofs.AssociationFieldLaws.{FitsAssociation}
+use Rattle.files.proofs.LaidDiagram.{KnownEnds, LaidAssociation, LaidEnd}
 use Rattle.texts.proofs.DeclaredCountLaws.{types-counted}
 use Rattle.texts.proofs.TypeIndexLaws.{Known, known-declared, type-index-below}
 
@@ -52,16 +52,28 @@ under true false c f = refl
 under false false c f = refl
 
 module _ (ds : List Declaration) where
-  end-fits : (e : DeclaredEnd) → FitsEnd e → Known ds (e .type) (length ds) → WfEnd (declared ds) (endIn ds e)
+  end-laid : (e : DeclaredEnd) → WfDeclaredEnd e → LaidEnd (endIn ds e)
   unfolding endIn limitsForbidden
-  end-fits e f k =
+  end-laid e f =
       let a = either-neither _ _ (f .limits-allowed) in
+      record { low-small = ltb-false 100 _ (a .0); up-fits = upper-allowed _ _ (a .1); role-named = f .role-named }
+
+  pub association-laid : WfDeclarations ds → (i : ℕ) → i < length (declared ds .associations) → LaidAssociation (associationAt (declared ds) i)
+  unfolding declared
+  association-laid f =
+      picked-each LaidAssociation (λ k. isAssociation (declarationAt ds k)) (associationOf ds) _ (length ds) (λ k l a.
+      let g = f .each k l in
       record {
-        type-known = subst (λ (n : ℕ). typeIndex ds (e .type) < n) (sym (types-counted ds)) (type-index-below ds (e .type) (length ds) k);
-        low-small = ltb-false 100 _ (a .0);
-        up-fits = upper-allowed _ _ (a .1);
-        role-named = f .role-named;
-      }
+        form-known = association-what (declarationAt ds k) a;
+        arrow-first = g .arrow-first a;
+        arrow-last = g .arrow-last a;
+        left-laid = end-laid _ (g .left-fits a);
+        right-laid = end-laid _ (g .right-fits a);
+      })
+
+  end-known : (e : DeclaredEnd) → Known ds (e .type) (length ds) → endIn ds e .type < length (declared ds .types)
+  unfolding endIn
+  end-known e k = subst (λ (n : ℕ). typeIndex ds (e .type) < n) (sym (types-counted ds)) (type-index-below ds (e .type) (length ds) k)
 
   ends-known : (k : ℕ) → hasUnknownEnd ds k ≡ false → isAssociation (declarationAt ds k) ≡ true
       → Known ds (declarationAt ds k .leftEnd .type) (length ds) × Known ds (declarationAt ds k .rightEnd .type) (length ds)
@@ -72,20 +84,12 @@ module _ (ds : List Declaration) where
         known-declared ds isType (λ d t. t) (length ds) (le-refl _) _ (not-false _ (b .1)),
       )
 
-  pub association-fits : Fits ds → ((k : ℕ) → k < length ds → hasUnknownEnd ds k ≡ false)
-      → (i : ℕ) → i < length (declared ds .associations) → FitsAssociation (declared ds) (associationAt (declared ds) i)
+  pub association-known : ((k : ℕ) → k < length ds → hasUnknownEnd ds k ≡ false)
+      → (i : ℕ) → i < length (declared ds .associations) → KnownEnds (declared ds) (associationAt (declared ds) i)
   unfolding declared
-  association-fits f known =
-      picked-each (FitsAssociation (declared ds)) (λ k. isAssociation (declarationAt ds k)) (associationOf ds) _ (length ds) (λ k l a.
-      let g = f .each k l in
-      let e = ends-known k (known k l) a in
-      record {
-        form-known = association-what (declarationAt ds k) a;
-        arrow-first = g .arrow-first a;
-        arrow-last = g .arrow-last a;
-        left-fits = end-fits _ (g .left-fits a) (e .0);
-        right-fits = end-fits _ (g .right-fits a) (e .1);
-      })
+  association-known known =
+      picked-each (KnownEnds (declared ds)) (λ k. isAssociation (declarationAt ds k)) (associationOf ds) _ (length ds) (λ k l a.
+      let e = ends-known k (known k l) a in record { left-known = end-known _ (e .0); right-known = end-known _ (e .1) })
 
   pub whole-right : any (λ i. both (isComposition (associationAt (declared ds) i)) (eqb (associationAt (declared ds) i .arrow) 2)) (length (declared ds .associations))
       ≡ hasWholeRight ds

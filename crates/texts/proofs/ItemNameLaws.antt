@@ -6,7 +6,7 @@ use mathlib.Core.Option.{Option, none, some}
 use Rattle.files.specs.Name.{Name}
 use Rattle.texts.specs.Declaration.{DeclaredEnd, attributesOf, endOf, lowered, roleOf}
 use Rattle.texts.specs.Grammar.{Arrow, Form, Modifier, TextAttribute, TextEnd, associationItem, attributeNames, bodyNames, classItem, itemNames, optional}
-use Rattle.texts.proofs.EachLaws.{Each, each-back, each-front}
+use Rattle.laws.proofs.EachLaws.{Each, each-back, each-front}
 
 module _ (P : Name → Type 0) where
   -- ---- attributes

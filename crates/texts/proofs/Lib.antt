@@ -1,10 +1,3 @@
-pub mod PickedIndexLaws
-pub mod RowElementLaws
-pub mod SortedLaws
-pub mod TwiceLaws
-pub mod FieldRowLaws
-pub mod ValueTypeFieldLaws
-pub mod AssociationFieldLaws
 pub mod DeclaredCountLaws
 pub mod TypeIndexLaws
 pub mod ParentLaws
@@ -12,7 +5,7 @@ pub mod TypeLaws
 pub mod ValueTypeLaws
 pub mod AttributeLaws
 pub mod AssociationLaws
-pub mod TextFieldLaws
+pub mod DeclaredLaidLaws
 pub mod TextFileLaws
 pub mod TextSizeLaws
 pub mod TokenClassLaws
@@ -29,11 +22,10 @@ pub mod ItemParts
 pub mod MarkLaws
 pub mod TableEdges
 pub mod ConverseLaws
-pub mod EachLaws
 pub mod SpellingLaws
 pub mod NameSpellingLaws
 pub mod ItemNameLaws
 pub mod ShortNameLaws
 pub mod ValidNameLaws
-pub mod FitsLaws
+pub mod DeclarationWellFormed
 pub mod ReadTextLaws

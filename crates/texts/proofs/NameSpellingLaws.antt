@@ -7,7 +7,7 @@ use mathlib.Core.Path.{subst}
 use Rattle.files.specs.Name.{Name}
 use Rattle.texts.specs.Grammar.{Belongs, Item, TextAttribute, Tree, arrowToken, associationItem, attributeNames, attributeTokens, bodyNames, bodyTokens, cardinalityTokens, classItem, clause, closeBrace, constantTokens, enumItem, further, interfaceItem, itemNames, itemTokens, itemsTokens, modifierTokens, optional, quoted, roleTokens, semicolon, tokensOf}
 use Rattle.texts.specs.Token.{Token, word}
-use Rattle.texts.proofs.EachLaws.{Each, each-back, each-front, each-join}
+use Rattle.laws.proofs.EachLaws.{Each, each-back, each-front, each-join}
 use Rattle.texts.proofs.SpellingLaws.{Spelled, SpelledToken, words-spelled}
 
 abbrev Tokens : List Token → Type 0

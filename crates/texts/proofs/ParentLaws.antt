@@ -17,10 +17,10 @@ use Rattle.texts.specs.Declared.{parentNames, parentsOf, typeFirst, type
 use Rattle.texts.specs.TextChecks.{hasUnknownParent, isDeclared}
 use Rattle.laws.proofs.BoundedLaws.{any-at, any-ext, any-no}
 use Rattle.laws.proofs.ConnectiveLaws.{both-left, both-right, either-neither, true-false}
+use Rattle.laws.proofs.RowElementLaws.{append-all}
+use Rattle.laws.proofs.SortedLaws.{sorted-each, sorted-most, sorted-once}
 use Rattle.files.proofs.NameLaws.{key-same, same-key}
-use Rattle.texts.proofs.RowElementLaws.{append-all}
-use Rattle.texts.proofs.SortedLaws.{sorted-each, sorted-most, sorted-once}
-use Rattle.texts.proofs.TwiceLaws.{not-differ}
+use Rattle.files.proofs.TwiceLaws.{not-differ}
 use Rattle.texts.proofs.TypeIndexLaws.{Known, class-is-type, interface-is-type, known-by, known-declared, type-index-below, type-index-same}
 
 pub parents-few : (ds : List Declaration) (k : ℕ) → length (parentsOf ds k) ≤ length (parentNames (declarationAt ds k))
@@ -55,7 +55,7 @@ module _ (ds : List Declaration) (k : ℕ) (l : k < length ds) (known : hasUnkno
   parents-below = parents-each (λ x. x < typesBefore ds k) (λ i h. type-index-below ds _ k (parent-known i h))
 
   pub parents-rise : not (rising (parentsOf ds k)) ≡ not (differ (parentNames d))
-  unfolding parentsOf
+  unfolding parentsOf rising
   parents-rise =
       let n = length (parentNames d) in
       sorted-once (λ i. typeIndex ds (getD (parentNames d) i [])) n (typesBefore ds k) (λ i h. type-index-below ds _ k (parent-known i h))

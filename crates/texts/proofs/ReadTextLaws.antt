@@ -21,7 +21,7 @@ use Rattle.texts.specs.Token.{tokens}
 use Rattle.laws.proofs.ConnectiveLaws.{either-neither, known, refuse-passed, true-false}
 use Rattle.files.proofs.AnswerLaws.{accepted-is, refused-not}
 use Rattle.texts.proofs.ConverseLaws.{accepts-tree}
-use Rattle.texts.proofs.FitsLaws.{belongs-fits}
+use Rattle.texts.proofs.DeclarationWellFormed.{belongs-wf}
 use Rattle.texts.proofs.GrammarLaws.{tree-accepts, tree-declares, tree-long, tree-unique}
 use Rattle.texts.proofs.MarkLaws.{tokens-below}
 use Rattle.texts.proofs.TextFileLaws.{declared-wf}
@@ -132,4 +132,4 @@ pub text-wf : (s : List ℕ) (d : Diagram) → readText s ≡ accepted d → WfD
 text-wf s d e =
     let w = text-accepted s d e in
     let p = passed (w .0) (w .2) in
-    subst WfDiagram (sym (w .3)) (declared-wf (declarations (w .0)) (belongs-fits s (w .0) (w .1) (p .short) (p .allowed)) (p .known) (p .few) (p .once) (p .whole-left))
+    subst WfDiagram (sym (w .3)) (declared-wf (declarations (w .0)) (belongs-wf s (w .0) (w .1) (p .short) (p .allowed)) (p .known) (p .few) (p .once) (p .whole-left))

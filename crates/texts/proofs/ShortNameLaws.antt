@@ -1,24 +1,21 @@
 -- Where no name of a tree is over 16 bytes, none of its declarations has such a name, and a name in its place is as short: a role left
 -- out is as long as its type's name, and what stands for none is empty.
 -- Assumes nothing.
-use Prim.Native.Nat.{_<_, _≤_, ℕ}
-use native.Mathlib.Decide.{decLt}
+use Prim.Native.Nat.{_≤_, ℕ}
 use native.Mathlib.Omega.{arith}
-use mathlib.Core.Bool.{false, true}
+use mathlib.Core.Bool.{false}
 use mathlib.Core.List.{List, [], _∷_, map}
-use mathlib.Core.Logic.{⊎-elim}
-use mathlib.Core.Path.{_≡_, ap}
-use lib.ListN.{List·getD-eq-default, getD, length}
-use borrow.Author.Tests.{leb-true, ltb-false}
-use Rattle.laws.specs.Connective.{either}
+use mathlib.Core.Path.{_≡_}
+use lib.ListN.{getD, length}
+use borrow.Author.Tests.{ltb-false}
 use Rattle.laws.specs.Lists.{member}
-use Rattle.files.specs.Name.{Name, validName}
-use Rattle.texts.specs.Declaration.{Declaration, DeclaredEnd, declarationAt, declarationOf, declarations, isEnumeration, isType, lowered, nothing, nowhere}
-use Rattle.texts.specs.Fits.{Fits, ShortDeclaration, ShortEnd, ShortNames}
-use Rattle.texts.specs.Grammar.{Belongs, Item, Tree, associationItem, classItem, enumItem, interfaceItem, itemNames}
+use Rattle.files.specs.Name.{Name}
+use Rattle.texts.specs.Declaration.{DeclaredEnd, declarationOf, declarations, lowered, nothing, nowhere}
+use Rattle.texts.specs.Grammar.{Item, Tree, associationItem, classItem, enumItem, interfaceItem, itemNames}
 use Rattle.texts.specs.TextChecks.{hasLongName, isLong, longItems}
-use Rattle.laws.proofs.ConnectiveLaws.{both-left, both-right, either-cases, either-neither}
-use Rattle.texts.proofs.EachLaws.{Each, each-map, each-not, each-or, each-then}
+use Rattle.texts.specs.WellFormedDeclaration.{ShortDeclaration, ShortEnd, ShortNames}
+use Rattle.laws.proofs.ConnectiveLaws.{either-neither}
+use Rattle.laws.proofs.EachLaws.{Each, each-map, each-not, each-or-none, each-then}
 use Rattle.texts.proofs.ItemNameLaws.{EndNames, association-names, class-names}
 
 abbrev pub Short : Name → Type 0
@@ -52,7 +49,7 @@ tree-short t e = short-items (t .items) (either-neither (isLong (t .name)) (long
 -- ---- those of its declarations
 
 at-any : (ws : List Name) → Each Short ws → (i : ℕ) → Short (getD ws i [])
-at-any = each-or Short [] no-bytes
+at-any = each-or-none Short [] no-bytes
 
 none-long : (i : ℕ) → Short (getD {A = Name} [] i [])
 none-long i = no-bytes
@@ -131,30 +128,7 @@ pub short-names : (t : Tree) → hasLongName t ≡ false → ShortNames (declara
 unfolding declarations
 short-names t e = record {
   each =
-      each-or ShortDeclaration nothing nothing-short (map declarationOf (t .items))
+      each-or-none ShortDeclaration nothing nothing-short (map declarationOf (t .items))
       (each-map ShortDeclaration declarationOf (t .items)
       (each-then (λ i. Each Short (itemNames i)) (λ i. ShortDeclaration (declarationOf i)) declaration-short (t .items) (tree-short t e)));
 }
-
-pub belongs-short : (s : List ℕ) (t : Tree) → Belongs s t → hasLongName t ≡ false → ShortNames (declarations t)
-belongs-short s t b e = short-names t e
-
--- ---- of declarations that fit
-
-pub valid-short : (w : Name) → validName w ≡ true → length w ≤ 16
-unfolding validName
-valid-short w e = leb-true (length w) 16 (both-right _ _ (both-left _ _ e))
-
--- a type's name, and an enumeration's
-pub fits-short-names : (ds : List Declaration) → Fits ds → (k : ℕ) → either (isType (declarationAt ds k)) (isEnumeration (declarationAt ds k)) ≡ true
-    → length (declarationAt ds k .name) ≤ 16
-fits-short-names ds f k e = go (decLt k (length ds))
-  where
-    go : Dec (k < length ds) → length (declarationAt ds k .name) ≤ 16
-    go (yes l) =
-        let g = f .each k l in
-        valid-short (declarationAt ds k .name) (⊎-elim (g .type-named) (g .enumeration-named) (either-cases _ _ e))
-    go (no l) =
-        let past : length ds ≤ k = omega arith in
-        let none : length (declarationAt ds k .name) ≡ 0 = ap (λ (d : Declaration). length (d .name)) (List·getD-eq-default ds nothing past) in
-        omega arith

@@ -12,7 +12,7 @@ use Rattle.files.specs.Name.{Name, nameByte, validName}
 use Rattle.texts.specs.Token.{Token, isBlank, mark, markAt, run, size, stray, tokenAt, tokens, tokensAfter, word}
 use Rattle.laws.proofs.BoundedLaws.{all-of}
 use Rattle.laws.proofs.ConnectiveLaws.{both-of}
-use Rattle.texts.proofs.EachLaws.{Each, each-at, each-cond}
+use Rattle.laws.proofs.EachLaws.{Each, each-at, each-cond}
 
 abbrev NameByte : ℕ → Type 0
 NameByte b = nameByte b ≡ true

@@ -19,9 +19,9 @@ use Rattle.texts.specs.Declared.{typeFirst, typeIndex, typesBefore}
 use Rattle.texts.specs.TextChecks.{isDeclared}
 use Rattle.laws.proofs.BoundedLaws.{any-at}
 use Rattle.laws.proofs.ConnectiveLaws.{both-left, both-of, both-right, either-cases, same-test, true-false}
+use Rattle.laws.proofs.CountLaws.{tally-below, tally-once}
 use Rattle.laws.proofs.FirstLaws.{first-below, first-ext, first-holds, first-least}
 use Rattle.files.proofs.NameLaws.{key-same, same-key, same-right}
-use Rattle.texts.proofs.PickedIndexLaws.{tally-below, tally-once}
 
 -- ---- classes and interfaces are types
 

@@ -14,15 +14,15 @@ use Rattle.files.specs.DiagramFile.{rising}
 use Rattle.files.specs.Name.{Name, differ, sameName}
 use Rattle.texts.specs.Declaration.{Declaration, declarationAt, isType}
 use Rattle.texts.specs.Declared.{declared, parentNames, parentsOf, typeDefOf, typesBefore}
-use Rattle.texts.specs.Fits.{Fits}
 use Rattle.texts.specs.TextChecks.{hasUnknownParent, namesOfKind}
+use Rattle.texts.specs.WellFormedDeclaration.{WfDeclarations}
 use Rattle.laws.proofs.BoundedLaws.{any-ext, any-no}
 use Rattle.laws.proofs.ConnectiveLaws.{known}
-use Rattle.laws.proofs.PickedLaws.{any-picked, length-picked}
+use Rattle.laws.proofs.CountLaws.{counted, tally-below}
+use Rattle.laws.proofs.PickedLaws.{any-picked, length-picked, picked-at, picked-part}
+use Rattle.files.proofs.TwiceLaws.{earlier, earlier-ext, not-differ, nothing-twice}
 use Rattle.texts.proofs.DeclaredCountLaws.{types-counted}
 use Rattle.texts.proofs.ParentLaws.{BeforeDiffer, parents-rise}
-use Rattle.texts.proofs.PickedIndexLaws.{counted, picked-at, picked-part, tally-below}
-use Rattle.texts.proofs.TwiceLaws.{earlier, earlier-ext, not-differ, nothing-twice}
 
 abbrev noType : TypeDef
 noType = record { kind = 0; name = []; parents = [] }
@@ -76,12 +76,12 @@ module _ (ds : List Declaration) where
       ap₂ (λ (x y : TypeDef). sameName (x .name) (y .name)) (sym (type-is i (lt-trans m q) s)) (sym (type-is j q t))
       ∙ any-no _ (tally isTypeAt j) (any-no _ (tally isTypeAt k) e (tally isTypeAt j) b) (tally isTypeAt i) a
 
-  no-parent : Fits ds → (k : ℕ) → k < length ds → isTypeAt k ≡ false → not (differ (parentNames (declarationAt ds k))) ≡ false
+  no-parent : WfDeclarations ds → (k : ℕ) → k < length ds → isTypeAt k ≡ false → not (differ (parentNames (declarationAt ds k))) ≡ false
   no-parent f k l e =
       let g = f .each k l in
       ap₂ (λ (v w : List Name). not (differ (v ++ w))) (g .no-superclasses e) (g .no-interfaces e) ∙ nothing-twice
 
-  pub parents-twice : Fits ds → ((k : ℕ) → k < length ds → hasUnknownParent ds k ≡ false)
+  pub parents-twice : WfDeclarations ds → ((k : ℕ) → k < length ds → hasUnknownParent ds k ≡ false)
       → any (λ i. not (rising (typeAt (declared ds) i .parents))) (length (declared ds .types)) ≡ any (λ k. not (differ (parentNames (declarationAt ds k)))) (length ds)
   unfolding declared
   parents-twice f h =

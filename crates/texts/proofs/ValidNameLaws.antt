@@ -15,7 +15,7 @@ use Rattle.texts.specs.Grammar.{Belongs, Item, Tree, itemNames}
 use Rattle.texts.specs.TextChecks.{hasLongName}
 use Rattle.laws.proofs.BoundedLaws.{all-at, all-of}
 use Rattle.laws.proofs.ConnectiveLaws.{both-left, both-of, both-right, either-left, either-right}
-use Rattle.texts.proofs.EachLaws.{Each, each-both, each-then}
+use Rattle.laws.proofs.EachLaws.{Each, each-both, each-then}
 use Rattle.texts.proofs.NameSpellingLaws.{names-spelled}
 use Rattle.texts.proofs.ShortNameLaws.{Short, tree-short}
 use Rattle.texts.proofs.SpellingLaws.{Spelled, spelled-valid}

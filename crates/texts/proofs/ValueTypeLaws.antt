@@ -18,18 +18,18 @@ use Rattle.files.specs.Diagram.{ValueType}
 use Rattle.files.specs.Name.{Name, differ, key, sameName, validName}
 use Rattle.texts.specs.Declaration.{Declaration, declarationAt, isEnumeration}
 use Rattle.texts.specs.Declared.{enumerations, isEnumerationName, isPlainUse, plainTypes, usedTypes, valueTypeIndex, valueTypesOf}
-use Rattle.texts.specs.Fits.{Fits}
 use Rattle.texts.specs.TextChecks.{namesOfKind}
-use Rattle.laws.proofs.BoundedLaws.{any-at, any-ext, any-no, any-none, any-of}
+use Rattle.texts.specs.WellFormedDeclaration.{WfDeclarations}
+use Rattle.laws.proofs.BoundedLaws.{any-at, any-ext, any-no, any-none, any-of, any-plus}
 use Rattle.laws.proofs.ConnectiveLaws.{and-both, both-left, both-no-right, both-of, both-right, known, or-left, or-right}
+use Rattle.laws.proofs.CountLaws.{counted, tally-before}
 use Rattle.laws.proofs.FirstLaws.{first-below, first-holds, first-least}
-use Rattle.laws.proofs.PickedLaws.{length-picked, member-any, member-append, member-picked, picked-each}
+use Rattle.laws.proofs.PickedLaws.{length-picked, member-any, member-append, member-picked, picked-at, picked-each, picked-part}
+use Rattle.laws.proofs.RowElementLaws.{append-all, joined-all, joined-has}
+use Rattle.files.proofs.LaidDiagram.{LaidValueType}
 use Rattle.files.proofs.NameLaws.{key-same, same-key, same-right}
+use Rattle.files.proofs.TwiceLaws.{earlier, earlier-ext, not-differ, nothing-twice}
 use Rattle.texts.proofs.DeclaredCountLaws.{Few}
-use Rattle.texts.proofs.PickedIndexLaws.{any-plus, counted, picked-at, picked-part, tally-before}
-use Rattle.texts.proofs.RowElementLaws.{append-all, joined-all, joined-has}
-use Rattle.texts.proofs.TwiceLaws.{earlier, earlier-ext, not-differ, nothing-twice}
-use Rattle.texts.proofs.ValueTypeFieldLaws.{FitsValueType}
 
 abbrev noValueType : ValueType
 noValueType = record { name = []; constants = [] }
@@ -142,7 +142,7 @@ module _ (ds : List Declaration) where
       member-any t noValueType (enumerations ds ++ plainTypes ds) ∙ member-append t (enumerations ds) (plainTypes ds)
       ∙ ap₂ (λ (a b : Bool). a || b) (member-picked t isEnum enumAt (length ds)) (member-picked t (isPlainUse ds) plainAt (length (usedTypes ds)))
 
-  no-constant : Fits ds → (k : ℕ) → k < length ds → isEnum k && not (differ (declarationAt ds k .constants)) ≡ not (differ (declarationAt ds k .constants))
+  no-constant : WfDeclarations ds → (k : ℕ) → k < length ds → isEnum k && not (differ (declarationAt ds k .constants)) ≡ not (differ (declarationAt ds k .constants))
   no-constant f k l =
       ⊎-elim (λ e. ap (λ (b : Bool). b && not (differ (declarationAt ds k .constants))) e)
       (λ e.
@@ -150,7 +150,7 @@ module _ (ds : List Declaration) where
       ap (λ (ws : List Name). not (differ ws)) (f .each k l .no-constants e) ∙ nothing-twice in
       ap (λ (b : Bool). isEnum k && b) n ∙ and-false (isEnum k) ∙ sym n) (known (isEnum k))
 
-  pub constants-twice : Fits ds → any (λ i. not (differ (getD (valueTypesOf ds) i noValueType .constants))) (length (valueTypesOf ds))
+  pub constants-twice : WfDeclarations ds → any (λ i. not (differ (getD (valueTypesOf ds) i noValueType .constants))) (length (valueTypesOf ds))
       ≡ any (λ k. not (differ (declarationAt ds k .constants))) (length ds)
   constants-twice f =
       some-value-type (λ v. not (differ (v .constants)))
@@ -197,13 +197,13 @@ module _ (ds : List Declaration) where
 
   -- ---- names and counts
 
-  pub value-type-fits : Fits ds → Few ds → (i : ℕ) → i < length (valueTypesOf ds) → FitsValueType (getD (valueTypesOf ds) i noValueType)
+  pub value-type-laid : WfDeclarations ds → Few ds → (i : ℕ) → i < length (valueTypesOf ds) → LaidValueType (getD (valueTypesOf ds) i noValueType)
   unfolding valueTypesOf enumerations plainTypes usedTypes
-  value-type-fits f g =
-      append-all FitsValueType noValueType (enumerations ds) (plainTypes ds)
-      (picked-each FitsValueType isEnum enumAt noValueType (length ds) (λ k l e.
+  value-type-laid f g =
+      append-all LaidValueType noValueType (enumerations ds) (plainTypes ds)
+      (picked-each LaidValueType isEnum enumAt noValueType (length ds) (λ k l e.
       let h = f .each k l in record { named = h .enumeration-named e; few-constants = g .constants k l; constants-named = h .constants-named .each }))
-      (picked-each FitsValueType (isPlainUse ds) plainAt noValueType (length (usedTypes ds)) (λ i l e. record {
+      (picked-each LaidValueType (isPlainUse ds) plainAt noValueType (length (usedTypes ds)) (λ i l e. record {
         named = joined-all (λ w. validName w ≡ true) [] (λ k. declarationAt ds k .attributeTypes) (length ds) (λ k m. f .each k m .used-named .each) i l;
         few-constants = omega arith;
         constants-named = λ j m. absurd (not-suc-le-zero m);

@@ -1,6 +1,6 @@
 -- 02 1/12: the diagram that a text declares, of the declarations in the order in which they stand.
 -- Assumes nothing.
-use Prim.Native.Nat.{_+_, _-_, ℕ}
+use Prim.Native.Nat.{_-_, ℕ}
 use mathlib.Core.Bool.{Bool, not}
 use mathlib.Core.List.{List, [], _++_, _∷_}
 use lib.Dec.{eqb}

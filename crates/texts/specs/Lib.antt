@@ -3,7 +3,7 @@ pub mod Grammar
 pub mod Declaration
 pub mod Declared
 pub mod TextChecks
-pub mod Fits
+pub mod WellFormedDeclaration
 pub mod Table
 pub mod ReadText
 pub mod TextCases

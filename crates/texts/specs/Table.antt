@@ -1,6 +1,7 @@
 -- 02 1/12: the grammar as a table: the rows of tokens that it has are those of a finite automaton, and the state that a word leads
 -- to says what the word is for.
--- That these are the rows of Grammar.antt is a theorem (proofs/GrammarLaws).
+-- These are the rows of Grammar.antt: each tree's row is accepted (proofs/GrammarLaws, `tree-accepts`), and each accepted row has a tree
+-- (proofs/ConverseLaws, `accepts-tree`).
 -- Assumes nothing.
 use Prim.Native.Nat.{ℕ}
 use mathlib.Core.Bool.{Bool, cond, false, true}

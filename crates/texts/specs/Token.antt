@@ -91,6 +91,7 @@ sameWord v w = isEqual (order v w)
 unfoldable pub quotedAt : Name → ℕ
 quotedAt w = first (λ i. sameWord (getD quotedWords i []) w) 9
 
+-- `isName` and `isInteger` hold of the empty word too, which no text has (proofs/SpellingLaws, `words-spelled`)
 unfoldable pub isName : Name → Bool
 isName w = eqb (quotedAt w) 9
 

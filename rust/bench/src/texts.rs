@@ -58,7 +58,7 @@ fn text(name: &str, text: &[u8]) {
 
 /// The product's time for one of many such loads.
 fn loads(call: &Call) -> std::time::Duration {
-    let calls: Vec<Call> = (0..CALLS).map(|_| call.clone()).collect();
+    let calls = vec![*call; CALLS];
     let coded = encode(&calls);
     let mut replies = vec![0; CALLS];
     timing::for_each_call(CALLS, || {

@@ -5,30 +5,18 @@ mod common;
 
 use brute::{read_diagram, read_record, write_record, Link, Record, Value};
 use common::*;
-
-/// Numbers by a fixed rule (splitmix64), so that every run damages alike.
-struct Numbers(u64);
-
-impl Numbers {
-    fn below(&mut self, limit: usize) -> usize {
-        self.0 = self.0.wrapping_add(0x9E37_79B9_7F4A_7C15);
-        let mut z = self.0;
-        z = (z ^ (z >> 30)).wrapping_mul(0xBF58_476D_1CE4_E5B9);
-        z = (z ^ (z >> 27)).wrapping_mul(0x94D0_49BB_1331_11EB);
-        ((z ^ (z >> 31)) % limit as u64) as usize
-    }
-}
+use generators::Random;
 
 /// Changes, drops or adds a byte, one to three times; mostly by small steps, which stay closer
 /// to what is accepted.
-fn damaged(numbers: &mut Numbers, file: &[u8]) -> Vec<u8> {
+fn damaged(random: &mut Random, file: &[u8]) -> Vec<u8> {
     let mut file = file.to_vec();
-    for _ in 0..=numbers.below(3) {
-        let at = numbers.below(file.len());
-        match numbers.below(6) {
+    for _ in 0..=random.below(3) {
+        let at = random.below(file.len());
+        match random.below(6) {
             0 => file.truncate(at.max(1)),
-            1 => file.insert(at, numbers.below(256) as u8),
-            2 => file[at] = numbers.below(256) as u8,
+            1 => file.insert(at, random.below(256) as u8),
+            2 => file[at] = random.below(256) as u8,
             3 => file[at] = file[at].wrapping_sub(1),
             _ => file[at] = file[at].wrapping_add(1),
         }
@@ -65,11 +53,11 @@ fn a_record_written_and_read_is_itself() {
 
 #[test]
 fn damaged_record_files() {
-    let mut numbers = Numbers(1);
+    let mut random = Random::new(1);
     let whole = write_record(&record());
     let mut seen = [0; 7];
     for _ in 0..50_000 {
-        let file = damaged(&mut numbers, &whole);
+        let file = damaged(&mut random, &whole);
         match read_record(&file) {
             Ok(read) => {
                 assert_eq!(write_record(&read), file);
@@ -83,14 +71,14 @@ fn damaged_record_files() {
 
 #[test]
 fn damaged_diagram_files() {
-    let mut numbers = Numbers(2);
+    let mut random = Random::new(2);
     let mut whole = b"\x10\x00\x01\x01\x20\x00\x07\x01C\x02\x01r\x01g".to_vec();
     whole.extend(b"\x30\x00\x04\x02\x01I\x00\x30\x00\x05\x00\x01J\x01\x00");
     whole.extend(b"\x30\x00\x05\x02\x01K\x01\x00\x40\x00\x04\x01\x01a\x00");
     whole.extend(b"\x50\x00\x0C\x01\x01\x01\x01\x01\x01l\x02\x00\xFF\x01r");
     let mut seen = [0; 9];
     for _ in 0..50_000 {
-        let file = damaged(&mut numbers, &whole);
+        let file = damaged(&mut random, &whole);
         let refusal = read_diagram(&file).err().unwrap_or(0);
         seen[usize::from(refusal)] += 1;
     }

@@ -4,6 +4,8 @@
 mod judging;
 #[path = "checks/product.rs"]
 mod product;
+#[path = "checks/questions.rs"]
+mod questions;
 
 use judging::{judging_agrees, Tally};
 

@@ -72,27 +72,27 @@ fn same_replies(calls: &[CallPlan], list: &[u8], space: usize) -> usize {
     replies_agree(calls, &both, &shown, &mut Tally::new())
 }
 
-#[test]
-fn room_runs_out_at_every_place() {
-    let calls = short_row();
-    let mut numbers: Vec<usize> = (0..=room(&calls))
-        .map(|space| same_replies(&calls, &coded(&calls), space))
-        .collect();
+/// The numbers of replies rise from none to all of the calls, and none is passed over.
+fn rise_one_by_one(numbers: impl Iterator<Item = usize>, calls: &[CallPlan]) {
+    let mut numbers: Vec<usize> = numbers.collect();
     assert!(numbers.is_sorted());
     numbers.dedup();
     assert_eq!(numbers, (0..=calls.len()).collect::<Vec<_>>());
 }
 
 #[test]
+fn room_runs_out_at_every_place() {
+    let calls = short_row();
+    let replies = |space| same_replies(&calls, &coded(&calls), space);
+    rise_one_by_one((0..=room(&calls)).map(replies), &calls);
+}
+
+#[test]
 fn calls_are_cut_off_at_every_place() {
     let calls = short_row();
     let list = coded(&calls);
-    let mut numbers: Vec<usize> = (0..=list.len())
-        .map(|end| same_replies(&calls, &list[..end], room(&calls)))
-        .collect();
-    assert!(numbers.is_sorted());
-    numbers.dedup();
-    assert_eq!(numbers, (0..=calls.len()).collect::<Vec<_>>());
+    let replies = |end| same_replies(&calls, &list[..end], room(&calls));
+    rise_one_by_one((0..=list.len()).map(replies), &calls);
 }
 
 #[test]

@@ -9,6 +9,8 @@ mod files;
 mod judging;
 #[path = "checks/product.rs"]
 mod product;
+#[path = "checks/questions.rs"]
+mod questions;
 #[path = "checks/rows.rs"]
 mod rows;
 #[path = "checks/solving.rs"]

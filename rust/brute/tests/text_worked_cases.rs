@@ -1,56 +1,17 @@
 //! The worked texts: the refusal of each, or the file of the diagram that it declares.
 
-#[path = "checks/counted_texts.rs"]
-mod counted_texts;
 #[path = "checks/product.rs"]
 mod product;
-#[path = "checks/refused_texts.rs"]
-mod refused_texts;
-#[path = "checks/worked_texts.rs"]
-mod worked_texts;
 
 use brute::{read_diagram, read_text, write_diagram};
-use counted_texts::{counted, Reply};
+use generators::worked_texts::{accepted, counted, refused, Reply};
 use generators::CallPlan;
-use refused_texts::{Refused, BACKWARDS, BAD_ASSOCIATIONS, BAD_DECLARATIONS, BAD_WORDS};
-use refused_texts::{NOT_DECLARED, ORDER, TWICE};
-use worked_texts::{Accepted, ASSOCIATIONS, EVERY_PART, PARENTS, VALUE_TYPES, WORDS_AND_CLASSES};
-
-/// The texts that are accepted, with their files.
-fn accepted() -> Vec<Accepted> {
-    let groups: [&[Accepted]; 5] = [
-        &WORDS_AND_CLASSES,
-        &VALUE_TYPES,
-        &PARENTS,
-        &ASSOCIATIONS,
-        &[EVERY_PART],
-    ];
-    groups.concat()
-}
-
-/// The texts that are refused, with their numbers.
-fn refused() -> Vec<(u8, Refused)> {
-    let groups: [(u8, &[Refused]); 6] = [
-        (23, &BAD_WORDS),
-        (23, &BAD_DECLARATIONS),
-        (23, &BAD_ASSOCIATIONS),
-        (24, &NOT_DECLARED),
-        (5, &TWICE),
-        (8, &BACKWARDS),
-    ];
-    let numbered = |(number, cases): (u8, &[Refused])| -> Vec<(u8, Refused)> {
-        cases.iter().map(|case| (number, *case)).collect()
-    };
-    let mut all: Vec<_> = groups.into_iter().flat_map(numbered).collect();
-    all.extend(ORDER);
-    all
-}
 
 #[test]
 fn there_are_all_cases() {
     assert_eq!(
         (accepted().len(), refused().len(), counted().len()),
-        (35, 106, 28)
+        (35, 106, 30)
     );
 }
 
@@ -66,7 +27,7 @@ fn accepted_texts_declare_the_diagrams_of_their_files() {
 
 #[test]
 fn refused_texts_have_their_numbers() {
-    for (number, (name, text)) in refused() {
+    for (name, text, number) in refused() {
         assert_eq!(read_text(text).err(), Some(number), "{name}");
     }
 }
@@ -91,7 +52,7 @@ fn product_replies(text: &[u8], calls: &[CallPlan]) -> Vec<Vec<u8>> {
 
 #[test]
 fn the_product_refuses_the_same_texts() {
-    for (number, (name, text)) in refused() {
+    for (name, text, number) in refused() {
         assert_eq!(product_replies(text, &[]), [[number]], "{name}");
     }
     for (name, text, reply) in counted() {

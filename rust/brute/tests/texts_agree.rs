@@ -3,6 +3,8 @@
 
 #[path = "checks/product.rs"]
 mod product;
+#[path = "checks/questions.rs"]
+mod questions;
 #[path = "checks/text_pairs.rs"]
 mod text_pairs;
 #[path = "checks/texts.rs"]

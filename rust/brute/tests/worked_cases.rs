@@ -2,6 +2,7 @@
 //! what the reply is. Here the independent comparer has to give the same replies.
 
 use brute::{compare, compile, evaluate, judge, read_diagram, read_record, write_record, Diagram};
+use generators::hex::bytes;
 use std::path::PathBuf;
 
 /// One line of the table: a letter for what is asked, the case's name, and the files.
@@ -19,20 +20,13 @@ fn table(file: &str) -> Vec<String> {
 }
 
 fn parse_case(line: &str) -> Case {
-    let (head, bytes) = line.split_once(':').expect("a name and a colon");
+    let (head, files) = line.split_once(':').expect("a name and a colon");
     let (letter, name) = head.split_once(' ').expect("a letter and a name");
     Case {
         letter: letter.parse().expect("one letter"),
         name: name.to_string(),
-        files: bytes.split('/').map(parse_bytes).collect(),
+        files: files.split('/').map(bytes).collect(),
     }
-}
-
-fn parse_bytes(text: &str) -> Vec<u8> {
-    let pairs = text.split_whitespace();
-    pairs
-        .map(|pair| u8::from_str_radix(pair, 16).expect("two hexadecimal digits"))
-        .collect()
 }
 
 fn diagram(file: &[u8]) -> Diagram {

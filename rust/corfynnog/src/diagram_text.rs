@@ -123,29 +123,25 @@ mod tests {
         );
     }
 
-    #[test]
-    fn attributes_of_an_interface_are_refused_as_text() {
-        let file = b"\x10\0\x01\x01\x20\0\x03\x01V\0\x30\0\x04\x02\x01I\0\x40\0\x04\0\x01a\0";
+    /// As text the diagram is refused with 23, and one remark, with this end, says why.
+    fn expect_remark(file: &[u8], end: &str) {
         let (_, remarks, read) = told(file);
         assert_eq!(read, Err(23));
         assert_eq!(remarks.len(), 1);
-        assert!(
-            remarks[0].ends_with("interfaces have no attributes: I.a."),
-            "{remarks:?}"
-        );
+        assert!(remarks[0].ends_with(end), "{remarks:?}");
+    }
+
+    #[test]
+    fn attributes_of_an_interface_are_refused_as_text() {
+        let file = b"\x10\0\x01\x01\x20\0\x03\x01V\0\x30\0\x04\x02\x01I\0\x40\0\x04\0\x01a\0";
+        expect_remark(file, "interfaces have no attributes: I.a.");
     }
 
     #[test]
     fn quoted_words_as_names_are_refused_as_text() {
         let file = b"\x10\0\x01\x01\x20\0\x08\x01V\x01\x04enum\x30\0\x08\0\x05class\0\
             \x50\0\x18\0\x01\0\0\xFF\x07extends\0\0\xFF\x07class_A";
-        let (_, remarks, read) = told(file);
-        assert_eq!(read, Err(23));
-        assert_eq!(remarks.len(), 1);
-        assert!(
-            remarks[0].ends_with("grammar: class, enum, extends."),
-            "{remarks:?}"
-        );
+        expect_remark(file, "grammar: class, enum, extends.");
     }
 
     #[test]

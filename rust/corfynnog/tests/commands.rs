@@ -2,30 +2,18 @@
 
 mod common;
 
-use common::{sites, Folder};
+use common::sites::{self, folder};
 
-/// A folder with the diagrams and records of these tests.
-fn folder(test: &str) -> Folder {
-    let folder = Folder::of(test);
-    folder.put("p.diagram", &sites::p());
-    folder.put("q.diagram", &sites::q());
-    folder.put("s.diagram", &sites::s());
-    folder.put("e.diagram", &sites::e());
-    folder.put("z.diagram", &sites::z());
-    folder.put("shelf3.record", &sites::shelf_with(3));
-    folder.put("card.record", &sites::card());
-    folder.put("empty.record", &sites::empty_site());
-    folder
-}
+/// A card without a shelf, where each needs one.
+const NO_SHELF: &str = "  Card0 is the target of no Shelf by role cards; allowed: exactly 1.\n";
 
 #[test]
 fn compare_finds_a_difference() {
-    let ran = folder("compare_difference").line("compare p.diagram q.diagram --bound 4");
-    assert_eq!((ran.status, ran.err.as_str()), (1, ""));
-    assert!(ran.out.starts_with(
+    let answer = folder("compare_difference").answer(1, "compare p.diagram q.diagram --bound 4");
+    assert!(answer.starts_with(
         "Difference: p.diagram allows this site of 4 objects, and q.diagram forbids it."
     ));
-    let body = ran.out.split("\n\n").nth(1).expect("an object diagram");
+    let body = answer.split("\n\n").nth(1).expect("an object diagram");
     let mut lines: Vec<&str> = body.lines().collect();
     assert_eq!(lines[0], "objectdiagram witness {");
     lines.sort();
@@ -43,8 +31,8 @@ fn compare_finds_a_difference() {
             "}",
         ]
     );
-    assert!(ran.out.contains("Why q.diagram forbids it:\n  Rule 6: "));
-    assert!(ran.out.contains(
+    assert!(answer.contains("Why q.diagram forbids it:\n  Rule 6: "));
+    assert!(answer.contains(
         "  Shelf0 has 3 links of role cards; allowed: at most 2.\n    composition [1] Shelf (shelf) -> (cards) Card [0..2]\n"
     ));
 }
@@ -57,51 +45,35 @@ fn compare_finds_no_difference() {
         ("compare q.diagram p.diagram --bound 1", "at most 1 object"),
         ("compare z.diagram e.diagram --bound 0", "no objects"),
     ] {
-        let ran = folder.line(line);
-        assert_eq!((ran.status, ran.err.as_str()), (0, ""), "{line}");
-        assert!(ran
-            .out
-            .starts_with(&format!("No difference: every site of {sites} that ")));
+        let first = format!("No difference: every site of {sites} that ");
+        assert!(folder.answer(0, line).starts_with(&first), "{line}");
     }
 }
 
 #[test]
 fn compare_tells_the_least_site() {
     let folder = folder("compare_least");
-    let ran = folder.line("compare s.diagram p.diagram");
-    assert_eq!(ran.status, 1);
-    assert!(ran
-        .out
-        .contains("objectdiagram witness {\n  Card0:Card {}\n}\n"));
-    assert!(ran
-        .out
-        .contains("  Card0 is the target of no Shelf by role cards; allowed: exactly 1.\n"));
-    let ran = folder.line("compare e.diagram z.diagram");
-    assert_eq!(ran.status, 1);
-    assert!(ran.out.contains("objectdiagram witness {\n}\n"));
-    assert!(ran
-        .out
-        .contains("  No object is of the singleton class Main.\n"));
-    let ran = folder.line("compare z.diagram e.diagram");
-    assert!(ran
-        .out
-        .contains("  Main0 is of type Main, which the diagram does not have.\n"));
+    let answer = folder.answer(1, "compare s.diagram p.diagram");
+    assert!(answer.contains("objectdiagram witness {\n  Card0:Card {}\n}\n"));
+    assert!(answer.contains(NO_SHELF));
+    let answer = folder.answer(1, "compare e.diagram z.diagram");
+    assert!(answer.contains("objectdiagram witness {\n}\n"));
+    assert!(answer.contains("  No object is of the singleton class Main.\n"));
+    let answer = folder.answer(1, "compare z.diagram e.diagram");
+    assert!(answer.contains("  Main0 is of type Main, which the diagram does not have.\n"));
 }
 
 #[test]
 fn compare_writes_the_site() {
     let folder = folder("compare_out");
-    let ran = folder.line("compare s.diagram p.diagram --out site.record");
-    assert_eq!(ran.status, 1);
-    assert!(ran
-        .out
-        .ends_with("The site as a record file: site.record (12 bytes)\n"));
+    let answer = folder.answer(1, "compare s.diagram p.diagram --out site.record");
+    assert!(answer.ends_with("The site as a record file: site.record (12 bytes)\n"));
     assert_eq!(folder.get("site.record"), Some(sites::card()));
-    assert_eq!(folder.line("judge s.diagram site.record").status, 0);
-    assert_eq!(folder.line("judge p.diagram site.record").status, 1);
+    folder.answer(0, "judge s.diagram site.record");
+    folder.answer(1, "judge p.diagram site.record");
 
-    let ran = folder.line("compare p.diagram p.diagram --bound 2 --out none.record");
-    assert_eq!((ran.status, folder.get("none.record")), (0, None));
+    folder.answer(0, "compare p.diagram p.diagram --bound 2 --out none.record");
+    assert_eq!(folder.get("none.record"), None);
 
     let ran = folder.line("compare s.diagram p.diagram --out no_folder/site.record");
     assert_eq!(ran.status, 2);
@@ -114,59 +86,41 @@ fn compare_writes_the_site() {
 #[test]
 fn judge_says_legal_or_why_not() {
     let folder = folder("judge");
-    let ran = folder.line("judge p.diagram shelf3.record");
-    assert_eq!((ran.status, ran.err.as_str()), (0, ""));
-    assert_eq!(ran.out, "Legal: p.diagram allows shelf3.record.\n");
-    let ran = folder.line("judge q.diagram shelf3.record");
-    assert_eq!((ran.status, ran.err.as_str()), (1, ""));
-    assert!(ran
-        .out
-        .starts_with("Illegal: q.diagram forbids shelf3.record.\n  Rule 6: "));
-    let ran = folder.line("judge z.diagram empty.record");
-    assert!(ran.out.contains("\n  Rule 2: "));
+    let answer = folder.answer(0, "judge p.diagram shelf3.record");
+    assert_eq!(answer, "Legal: p.diagram allows shelf3.record.\n");
+    let answer = folder.answer(1, "judge q.diagram shelf3.record");
+    assert!(answer.starts_with("Illegal: q.diagram forbids shelf3.record.\n  Rule 6: "));
+    let answer = folder.answer(1, "judge z.diagram empty.record");
+    assert!(answer.contains("\n  Rule 2: "));
 }
 
 #[test]
 fn compile_lists_the_predicates() {
     let folder = folder("compile");
-    let ran = folder.line("compile p.diagram");
-    assert_eq!((ran.status, ran.err.as_str()), (0, ""));
     assert_eq!(
-        ran.out,
+        folder.answer(0, "compile p.diagram"),
         "p.diagram has 3 predicates.\n\n\
          0: composition [1] Shelf (shelf) -> (cards) Card [0..4]\n\
         \x20  0  ObjLUAttrib  1 0 0 0 4  links of role cards from each Shelf: at most 4, each to a Card\n\
         \x20  1  ObjLU        3 0 0 1 1  Shelf objects with a link of role cards to each Card: exactly 1\n\
         \x20  2  Composition  6 0 0 0 0  each Card is part of at most one whole\n"
     );
-    let ran = folder.line("compile e.diagram");
-    assert_eq!(
-        (ran.status, ran.out.as_str()),
-        (0, "e.diagram has no predicates.\n")
-    );
+    let answer = folder.answer(0, "compile e.diagram");
+    assert_eq!(answer, "e.diagram has no predicates.\n");
 }
 
 #[test]
 fn evaluate_names_the_first_that_does_not_hold() {
     let folder = folder("evaluate");
-    let ran = folder.line("evaluate p.diagram shelf3.record");
-    assert_eq!(ran.status, 0);
     assert_eq!(
-        ran.out,
+        folder.answer(0, "evaluate p.diagram shelf3.record"),
         "All hold: 3 predicates of p.diagram on shelf3.record.\n"
     );
-    let ran = folder.line("evaluate p.diagram card.record");
-    assert_eq!((ran.status, ran.err.as_str()), (1, ""));
-    assert!(ran
-        .out
-        .starts_with("Not all hold: predicate 1 of p.diagram "));
-    assert!(ran
-        .out
-        .contains("  Card0 is the target of no Shelf by role cards; allowed: exactly 1.\n"));
-    let ran = folder.line("evaluate z.diagram empty.record");
-    assert_eq!(ran.status, 0);
+    let answer = folder.answer(1, "evaluate p.diagram card.record");
+    assert!(answer.starts_with("Not all hold: predicate 1 of p.diagram "));
+    assert!(answer.contains(NO_SHELF));
     assert_eq!(
-        ran.out,
+        folder.answer(0, "evaluate z.diagram empty.record"),
         "z.diagram has no predicates, so that all hold on empty.record.\n"
     );
 }
@@ -174,23 +128,18 @@ fn evaluate_names_the_first_that_does_not_hold() {
 #[test]
 fn check_tells_the_two_kinds_apart() {
     let folder = folder("check");
-    let ran = folder.line("check p.diagram");
-    assert_eq!((ran.status, ran.err.as_str()), (0, ""));
     assert_eq!(
-        ran.out,
+        folder.answer(0, "check p.diagram"),
         "Accepted: p.diagram is a diagram file with no value types, 2 types, no attributes, 1 association.\n"
     );
-    let ran = folder.line("check shelf3.record");
-    assert_eq!(ran.status, 0);
     assert_eq!(
-        ran.out,
+        folder.answer(0, "check shelf3.record"),
         "Accepted: shelf3.record is a record file with 4 objects, no values, 3 links.\n"
     );
 }
 
 #[test]
 fn nothing_is_shown_on_the_way_where_nobody_watches() {
-    let ran = folder("quiet").line("compare p.diagram p.diagram --bound 3");
-    assert_eq!(ran.err, "");
-    assert!(!ran.out.contains("trying") && !ran.out.contains('\r') && !ran.out.contains('\x1b'));
+    let answer = folder("quiet").answer(0, "compare p.diagram p.diagram --bound 3");
+    assert!(!answer.contains("trying") && !answer.contains('\r') && !answer.contains('\x1b'));
 }

@@ -4,30 +4,15 @@
 mod common;
 
 use common::json::read;
-use common::{hex, sites, Folder};
-
-/// A generator of numbers, the same ones in every run.
-struct Numbers(u64);
-
-impl Numbers {
-    fn next(&mut self) -> u64 {
-        self.0 = self.0.wrapping_add(0x9E37_79B9_7F4A_7C15);
-        let mut z = self.0;
-        z = (z ^ (z >> 30)).wrapping_mul(0xBF58_476D_1CE4_E5B9);
-        z = (z ^ (z >> 27)).wrapping_mul(0x94D0_49BB_1331_11EB);
-        z ^ (z >> 31)
-    }
-
-    fn below(&mut self, limit: usize) -> usize {
-        (self.next() % limit as u64) as usize
-    }
-}
+use common::{sites, Folder};
+use generators::hex::bytes;
+use generators::Random;
 
 /// A file with a byte a little larger or smaller, which often is still a file.
-fn nudge(file: &[u8], numbers: &mut Numbers) -> Vec<u8> {
+fn nudge(file: &[u8], random: &mut Random) -> Vec<u8> {
     let mut file = file.to_vec();
-    let at = numbers.below(file.len());
-    file[at] = match numbers.below(2) {
+    let at = random.below(file.len());
+    file[at] = match random.below(2) {
         0 => file[at].wrapping_add(1),
         _ => file[at].wrapping_sub(1),
     };
@@ -35,17 +20,17 @@ fn nudge(file: &[u8], numbers: &mut Numbers) -> Vec<u8> {
 }
 
 /// A file with one or two bytes changed, put in or taken out, or its end cut off.
-fn damage(file: &[u8], numbers: &mut Numbers) -> Vec<u8> {
+fn damage(file: &[u8], random: &mut Random) -> Vec<u8> {
     let mut file = file.to_vec();
-    for _ in 0..=numbers.below(2) {
-        let at = numbers.below(file.len() + 1);
-        match numbers.below(6) {
+    for _ in 0..=random.below(2) {
+        let at = random.below(file.len() + 1);
+        match random.below(6) {
             0 => file.truncate(at),
-            1 => file.insert(at, numbers.next() as u8),
+            1 => file.insert(at, random.byte()),
             2 if at < file.len() => drop(file.remove(at)),
-            3 if at < file.len() => file[at] = numbers.next() as u8,
-            4 if at < file.len() => file[at] = numbers.below(6) as u8,
-            _ if at < file.len() => file[at] ^= 1 << numbers.below(8),
+            3 if at < file.len() => file[at] = random.byte(),
+            4 if at < file.len() => file[at] = random.below(6) as u8,
+            _ if at < file.len() => file[at] ^= 1 << random.below(8),
             _ => (),
         }
     }
@@ -57,7 +42,12 @@ fn diagrams() -> Vec<Vec<u8>> {
     let values =
         "10 00 01 01 20 00 03 01 56 00 20 00 07 01 43 02 01 72 01 67 30 00 04 02 01 49 00 \
         30 00 05 00 01 41 01 00 30 00 05 02 01 4A 01 00 40 00 04 00 01 61 00 40 00 04 01 01 62 01";
-    vec![sites::p(), sites::z(), sites::line_and_port(3), hex(values)]
+    vec![
+        sites::p(),
+        sites::z(),
+        sites::line_and_port(3),
+        bytes(values),
+    ]
 }
 
 /// Records with every kind of field.
@@ -68,7 +58,7 @@ fn records() -> Vec<Vec<u8>> {
         sites::shelf_with(3),
         sites::one_way(),
         sites::wrong_way(),
-        hex(values),
+        bytes(values),
     ]
 }
 
@@ -90,14 +80,14 @@ fn check(folder: &Folder, file: &[u8]) -> i32 {
 /// Damages each file so many times; returns how many were accepted and refused.
 fn check_all(test: &str, files: &[Vec<u8>], times: usize) -> (usize, usize) {
     let folder = Folder::of(test);
-    let mut numbers = Numbers(1);
+    let mut random = Random::new(1);
     let mut counts = (0, 0);
     for file in files {
         assert_eq!(check(&folder, file), 0, "undamaged: {file:02X?}");
         for _ in 0..times {
-            let damaged = match numbers.below(3) {
-                0 => nudge(file, &mut numbers),
-                _ => damage(file, &mut numbers),
+            let damaged = match random.below(3) {
+                0 => nudge(file, &mut random),
+                _ => damage(file, &mut random),
             };
             match check(&folder, &damaged) {
                 0 => counts.0 += 1,
@@ -137,19 +127,19 @@ const ALIKE: [&str; 6] = [
 ];
 
 /// A text with a few of its words and marks exchanged for others of their kind, or one for any.
-fn damaged_text(numbers: &mut Numbers) -> Vec<u8> {
+fn damaged_text(random: &mut Random) -> Vec<u8> {
     let mut words: Vec<&str> = TEXT.split(' ').collect();
-    for _ in 0..numbers.below(12) {
-        let at = numbers.below(words.len());
+    for _ in 0..random.below(12) {
+        let at = random.below(words.len());
         let mut groups = ALIKE
             .iter()
             .map(|group| group.split(' ').collect::<Vec<_>>());
         if let Some(group) = groups.find(|group| group.contains(&words[at])) {
-            words[at] = group[numbers.below(group.len())];
+            words[at] = group[random.below(group.len())];
         }
     }
-    let (at, from) = (numbers.below(words.len()), numbers.below(words.len()));
-    match numbers.below(12) {
+    let (at, from) = (random.below(words.len()), random.below(words.len()));
+    match random.below(12) {
         0 => drop(words.remove(at)),
         1 => words.insert(at, words[from]),
         2 => words[at] = words[from],
@@ -161,12 +151,12 @@ fn damaged_text(numbers: &mut Numbers) -> Vec<u8> {
 #[test]
 fn damaged_texts() {
     let folder = Folder::of("damaged_texts");
-    let mut numbers = Numbers(3);
+    let mut random = Random::new(3);
     let mut counts = [0; 25];
     for _ in 0..1000 {
-        let text = match numbers.below(4) {
-            0 => damage(TEXT.as_bytes(), &mut numbers),
-            _ => damaged_text(&mut numbers),
+        let text = match random.below(4) {
+            0 => damage(TEXT.as_bytes(), &mut random),
+            _ => damaged_text(&mut random),
         };
         folder.put("file", &text);
         let ran = folder.line("check file --json");
@@ -190,11 +180,11 @@ fn damaged_texts() {
 #[test]
 fn every_broken_rule_has_a_place() {
     let folder = Folder::of("damaged_judged");
-    let mut numbers = Numbers(2);
+    let mut random = Random::new(2);
     let mut illegal = 0;
     for (diagram, record) in diagrams().iter().zip(records()).cycle().take(600) {
-        folder.put("d", &nudge(diagram, &mut numbers));
-        folder.put("r", &nudge(&record, &mut numbers));
+        folder.put("d", &nudge(diagram, &mut random));
+        folder.put("r", &nudge(&record, &mut random));
         folder.put("whole", diagram);
         for line in ["judge whole r", "evaluate d r"] {
             let ran = folder.line(line);

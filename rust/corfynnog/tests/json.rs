@@ -3,7 +3,8 @@
 mod common;
 
 use common::json::{read, Value};
-use common::{hex, sites, Folder};
+use common::{sites, Folder};
+use generators::hex::bytes;
 
 fn folder(test: &str) -> Folder {
     let folder = Folder::of(test);
@@ -12,7 +13,7 @@ fn folder(test: &str) -> Folder {
     folder.put("s", &sites::s());
     folder.put("card", &sites::card());
     folder.put("shelf3", &sites::shelf_with(3));
-    folder.put("bad", &hex("10 00 01 01 30 00 04 04 01 41 00"));
+    folder.put("bad", &bytes("10 00 01 01 30 00 04 04 01 41 00"));
     folder
 }
 
@@ -114,11 +115,11 @@ fn values_without_a_constant_are_null() {
     let folder = Folder::of("json_null");
     folder.put(
         "r",
-        &hex("60 00 01 01 61 00 02 01 41 62 00 06 00 01 61 01 56 00"),
+        &bytes("60 00 01 01 61 00 02 01 41 62 00 06 00 01 61 01 56 00"),
     );
     folder.put(
         "d",
-        &hex("10 00 01 01 30 00 04 00 01 41 00 50 00 0C 00 01 00 00 FF 01 6C 00 00 01 01 72"),
+        &bytes("10 00 01 01 30 00 04 00 01 41 00 50 00 0C 00 01 00 00 FF 01 6C 00 00 01 01 72"),
     );
     let (_, object) = answer(&folder, "show r --json");
     let value = object

@@ -19,9 +19,8 @@ fn one_sentence_and_how_to_get_help() {
         ("compare a b --bound -1", "The bound '-1' is not a number from 0 to 8. Run 'corfynnog compare --help' for help."),
     ];
     for (line, sentence) in cases {
-        let ran = folder.line(line);
-        assert_eq!((ran.status, ran.out.as_str()), (2, ""), "{line}");
-        assert_eq!(ran.err, format!("corfynnog: {sentence}\n"), "{line}");
+        let told = folder.complaint(line);
+        assert_eq!(told, format!("corfynnog: {sentence}\n"), "{line}");
     }
 }
 
@@ -36,41 +35,35 @@ fn files_that_cannot_be_read() {
         ("compare gone p.diagram", "gone"),
         ("judge p.diagram gone", "gone"),
     ] {
-        let ran = folder.line(line);
-        assert_eq!((ran.status, ran.out.as_str()), (2, ""), "{line}");
-        assert!(
-            ran.err
-                .starts_with(&format!("corfynnog: Cannot read {file}: ")),
-            "{line}"
-        );
-        assert!(ran.err.contains("corfynnog --help"), "{line}");
-        assert_eq!(ran.err.lines().count(), 1, "{line}");
+        let told = folder.complaint(line);
+        let first = format!("corfynnog: Cannot read {file}: ");
+        assert!(told.starts_with(&first), "{line}");
+        assert!(told.contains("corfynnog --help"), "{line}");
+        assert_eq!(told.lines().count(), 1, "{line}");
     }
 }
 
 #[test]
 fn help_has_an_example_of_each_command() {
     let folder = Folder::of("help");
-    let ran = folder.line("--help");
-    assert_eq!((ran.status, ran.err.as_str()), (0, ""));
+    let help = folder.answer(0, "--help");
     for command in ["compare", "judge", "compile", "evaluate", "check", "show"] {
         assert!(
-            ran.out.contains(&format!("  corfynnog {command} ")),
+            help.contains(&format!("  corfynnog {command} ")),
             "{command}"
         );
-        let own = folder.line(&format!("{command} --help"));
-        assert_eq!((own.status, own.err.as_str()), (0, ""), "{command}");
+        let own = folder.answer(0, &format!("{command} --help"));
         assert!(
-            own.out.starts_with(&format!("corfynnog {command} ")),
+            own.starts_with(&format!("corfynnog {command} ")),
             "{command}"
         );
-        assert!(own.out.contains("\nExample"), "{command}");
-        assert!(own.out.contains("Exit status: 0 "), "{command}");
-        assert!(own.out.contains("\nJSON: "), "{command}");
-        assert_eq!(folder.line(&format!("help {command}")).out, own.out);
+        assert!(own.contains("\nExample"), "{command}");
+        assert!(own.contains("Exit status: 0 "), "{command}");
+        assert!(own.contains("\nJSON: "), "{command}");
+        assert_eq!(folder.answer(0, &format!("help {command}")), own);
     }
     for line in ["help", "help compare", "help check", "help show"] {
-        let text = folder.line(line).out;
+        let text = folder.answer(0, line);
         let is_short = |line: &str| line.len() <= 104;
         assert!(text.lines().all(is_short), "{line}: lines are short");
     }
@@ -78,10 +71,8 @@ fn help_has_an_example_of_each_command() {
 
 #[test]
 fn version() {
-    let ran = Folder::of("version").line("--version");
-    assert_eq!(ran.status, 0);
     assert_eq!(
-        ran.out,
+        Folder::of("version").answer(0, "--version"),
         format!("corfynnog {}\n", env!("CARGO_PKG_VERSION"))
     );
 }

@@ -2,7 +2,8 @@
 
 mod common;
 
-use common::{hex, sites, Folder};
+use common::{sites, Folder};
+use generators::hex::bytes;
 
 /// Judges a record; the text behind the first line.
 fn why(test: &str, diagram: &[u8], record: &[u8]) -> String {
@@ -36,9 +37,9 @@ const VALUES: &str =
 
 #[test]
 fn rules_1_and_2_types() {
-    let abstract_a = hex("10 00 01 01 30 00 04 01 01 41 00");
-    let interface_a = hex("10 00 01 01 30 00 04 02 01 41 00");
-    let a = hex("60 00 01 01 61 00 02 01 41");
+    let abstract_a = bytes("10 00 01 01 30 00 04 01 01 41 00");
+    let interface_a = bytes("10 00 01 01 30 00 04 02 01 41 00");
+    let a = bytes("60 00 01 01 61 00 02 01 41");
     expect(
         "rule_1_unknown",
         &sites::e(),
@@ -75,16 +76,16 @@ fn rules_1_and_2_types() {
 
 #[test]
 fn rule_3_attributes() {
-    let missing = hex("60 00 01 01 61 00 02 01 41 62 00 07 00 01 62 01 43 01 72");
+    let missing = bytes("60 00 01 01 61 00 02 01 41 62 00 07 00 01 62 01 43 01 72");
     let places = "  A0 has no value for the attribute a, which I declares.\n";
-    expect("rule_3_missing", &hex(VALUES), &missing, "Rule 3", places);
-    let extra = hex(
+    expect("rule_3_missing", &bytes(VALUES), &missing, "Rule 3", places);
+    let extra = bytes(
         "60 00 01 01 61 00 02 01 41 62 00 06 00 01 61 01 56 00 62 00 07 00 01 62 01 43 01 72 \
          62 00 06 00 01 63 01 56 00",
     );
     let places =
         "  A0 has a value for the attribute c, which neither A nor an ancestor declares.\n";
-    expect("rule_3_extra", &hex(VALUES), &extra, "Rule 3", places);
+    expect("rule_3_extra", &bytes(VALUES), &extra, "Rule 3", places);
 }
 
 #[test]
@@ -109,10 +110,10 @@ fn rule_4_values() {
         ),
     ];
     for (i, (values, places)) in cases.into_iter().enumerate() {
-        let record = hex(&format!("{start} {values}"));
+        let record = bytes(&format!("{start} {values}"));
         expect(
             &format!("rule_4_{i}"),
-            &hex(VALUES),
+            &bytes(VALUES),
             &record,
             "Rule 4",
             places,
@@ -140,11 +141,11 @@ fn rules_5_to_8_links() {
 
 #[test]
 fn rule_6_targets_of_another_type() {
-    let two_roles = hex(
+    let two_roles = bytes(
         "10 00 01 01 30 00 04 00 01 4C 00 30 00 04 00 01 52 00 30 00 04 00 01 54 00 \
          50 00 0C 00 01 00 00 FF 01 6C 01 00 FF 01 72 50 00 0C 00 01 00 00 FF 01 6C 02 00 FF 01 72",
     );
-    let record = hex("60 00 01 02 61 00 02 01 4C 61 00 02 01 52 63 00 04 00 01 72 01");
+    let record = bytes("60 00 01 02 61 00 02 01 4C 61 00 02 01 52 63 00 04 00 01 72 01");
     let places =
         "  L0 has a link of role r to R0, which is no T.\n    association [*] L (l) -> (r) T [*]\n";
     expect("rule_6_type", &two_roles, &record, "Rule 6", places);
@@ -152,10 +153,10 @@ fn rule_6_targets_of_another_type() {
 
 #[test]
 fn rule_7_of_an_arrow_to_the_left() {
-    let diagram = hex(
+    let diagram = bytes(
         "10 00 01 01 30 00 04 00 01 4C 00 30 00 04 00 01 52 00 50 00 0C 00 02 00 01 01 01 6C 01 00 01 01 72",
     );
-    let record = hex(
+    let record = bytes(
         "60 00 01 03 61 00 02 01 4C 61 00 02 01 52 61 00 02 01 52 63 00 04 01 01 6C 00 63 00 04 02 01 6C 00",
     );
     let places = "  L0 is the target of 2 R objects by role l; allowed: at most 1.\n    association [1] L (l) <- (r) R [0..1]\n";
@@ -164,11 +165,11 @@ fn rule_7_of_an_arrow_to_the_left() {
 
 #[test]
 fn rule_9_wholes() {
-    let diagram = hex(
+    let diagram = bytes(
         "10 00 01 01 30 00 04 00 01 46 00 30 00 04 00 01 47 00 30 00 04 00 01 58 00 \
          50 00 0C 01 01 00 00 01 01 66 02 00 FF 01 78 50 00 0C 01 01 01 00 01 01 67 02 00 FF 01 79",
     );
-    let record = hex(
+    let record = bytes(
         "60 00 01 03 61 00 02 01 46 61 00 02 01 47 61 00 02 01 58 63 00 04 00 01 78 02 63 00 04 01 01 79 02",
     );
     expect(
@@ -178,10 +179,10 @@ fn rule_9_wholes() {
         "Rule 9",
         "  X0 is part of 2 wholes: F0, G0.\n",
     );
-    let own = hex(
+    let own = bytes(
         "10 00 01 01 30 00 04 00 01 4E 00 50 00 0F 01 01 00 00 FF 02 75 70 00 00 FF 03 73 75 62",
     );
-    let record = hex(
+    let record = bytes(
         "60 00 01 02 61 00 02 01 4E 61 00 02 01 4E 63 00 06 00 03 73 75 62 00 63 00 06 01 03 73 75 62 00",
     );
     expect(

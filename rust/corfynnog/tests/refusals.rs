@@ -2,7 +2,8 @@
 
 mod common;
 
-use common::{hex, sites, Folder};
+use common::{sites, Folder};
+use generators::hex::bytes;
 
 /// In the tables below: a diagram file with one class, A.
 const CLASS_A: &str = "10 00 01 01 30 00 04 00 01 41 00";
@@ -63,7 +64,7 @@ fn file_of(digits: &str) -> Vec<u8> {
         .replace("NAME_OF_17", &"41".repeat(17))
         .replace("VALUE_TYPES_13", &value_types)
         .replace("ASSOCIATIONS_17", &association.repeat(17));
-    hex(&digits)
+    bytes(&digits)
 }
 
 /// Every file is refused with its number, at its place, in its words, and with what to do.
@@ -141,7 +142,7 @@ fn files_at_the_limits_are_accepted() {
             "8 objects, 1 value, no links",
         ),
     ] {
-        folder.put("file", &hex(&digits));
+        folder.put("file", &bytes(&digits));
         let ran = folder.line("check file");
         assert_eq!((ran.status, ran.err.as_str()), (0, ""), "{digits}");
         assert!(ran.out.contains(words), "{}", ran.out);
@@ -152,8 +153,8 @@ fn files_at_the_limits_are_accepted() {
 fn the_right_file_is_named() {
     let folder = Folder::of("refused_which");
     folder.put("good.diagram", &sites::p());
-    folder.put("bad.diagram", &hex("10 00 01 02"));
-    folder.put("bad.record", &hex("60 00 01 09"));
+    folder.put("bad.diagram", &bytes("10 00 01 02"));
+    folder.put("bad.record", &bytes("60 00 01 09"));
     for (line, file) in [
         ("compare bad.diagram good.diagram", "bad.diagram"),
         ("compare good.diagram bad.diagram", "bad.diagram"),
@@ -162,11 +163,10 @@ fn the_right_file_is_named() {
         ("evaluate good.diagram bad.record", "bad.record"),
         ("compile bad.diagram", "bad.diagram"),
     ] {
-        let ran = folder.line(line);
-        assert_eq!((ran.status, ran.out.as_str()), (2, ""), "{line}");
+        let told = folder.complaint(line);
         let first = format!("corfynnog: {file} is not an acceptable ");
-        assert!(ran.err.starts_with(&first), "{line}: {}", ran.err);
-        assert!(ran.err.contains("(refusal 3)"), "{line}");
+        assert!(told.starts_with(&first), "{line}: {told}");
+        assert!(told.contains("(refusal 3)"), "{line}");
     }
 }
 
@@ -174,11 +174,10 @@ fn the_right_file_is_named() {
 fn a_record_that_starts_otherwise() {
     let folder = Folder::of("refused_start");
     folder.put("p.diagram", &sites::p());
-    folder.put("r.record", &hex("61 00 02 01 41"));
-    let ran = folder.line("judge p.diagram r.record");
-    assert_eq!((ran.status, ran.out.as_str()), (2, ""));
+    folder.put("r.record", &bytes("61 00 02 01 41"));
+    let told = folder.complaint("judge p.diagram r.record");
     let words = "a record file starts with tag 0x60, this one with 0x61";
-    assert!(ran.err.contains(words), "{}", ran.err);
+    assert!(told.contains(words), "{told}");
 }
 
 #[test]
@@ -204,11 +203,10 @@ fn a_file_of_the_other_kind_is_recognised() {
             "diagram text",
         ),
     ] {
-        let ran = folder.line(line);
-        assert_eq!((ran.status, ran.out.as_str()), (2, ""), "{line}");
-        assert!(ran.err.contains(file), "{line}: {}", ran.err);
+        let told = folder.complaint(line);
+        assert!(told.contains(file), "{line}: {told}");
         let advice = format!("this looks like a {look}: check the order of the arguments");
-        assert!(ran.err.contains(&advice), "{line}: {}", ran.err);
+        assert!(told.contains(&advice), "{line}: {told}");
     }
 }
 
@@ -232,18 +230,13 @@ fn a_file_of_no_kind_is_refused_as_text() {
             "picture:1:1: read the byte 0x89, expected \"classdiagram\"",
         ),
     ] {
-        let ran = folder.line(line);
-        assert_eq!((ran.status, ran.out.as_str()), (2, ""), "{line}");
-        assert!(ran.err.contains("(refusal 23)"), "{line}: {}", ran.err);
-        assert!(
-            ran.err.lines().any(|told| told == place),
-            "{line}: {}",
-            ran.err
-        );
+        let told = folder.complaint(line);
+        assert!(told.contains("(refusal 23)"), "{line}: {told}");
+        assert!(told.lines().any(|row| row == place), "{line}: {told}");
     }
-    let ran = folder.line("check letter.txt");
+    let told = folder.complaint("check letter.txt");
     let to_do = "a diagram file with the byte 0x10, a record file with the byte 0x60";
-    assert!(ran.err.contains(to_do), "{}", ran.err);
+    assert!(told.contains(to_do), "{told}");
 }
 
 #[test]
@@ -251,9 +244,8 @@ fn a_bound_above_8_is_refusal_9() {
     let folder = Folder::of("refused_bound");
     folder.put("e.diagram", &sites::e());
     for bound in ["9", "255"] {
-        let ran = folder.run(&["compare", "e.diagram", "e.diagram", "--bound", bound]);
-        assert_eq!((ran.status, ran.out.as_str()), (2, ""));
+        let told = folder.complaint(&format!("compare e.diagram e.diagram --bound {bound}"));
         let first = format!("corfynnog: The bound {bound} is refused (refusal 9).\n");
-        assert!(ran.err.starts_with(&first), "{}", ran.err);
+        assert!(told.starts_with(&first), "{told}");
     }
 }

@@ -3,7 +3,7 @@
 mod common;
 
 use common::json::read;
-use common::{sites, Folder};
+use common::{constructs, sites, Folder};
 
 /// P as text: a shelf with at most so many cards.
 fn shelf_and_card(left: &str, right: &str) -> String {
@@ -14,18 +14,11 @@ fn shelf_and_card(left: &str, right: &str) -> String {
 
 /// The same diagrams as files and as texts, and records.
 fn folder(test: &str) -> Folder {
-    let folder = Folder::of(test);
-    folder.put("p.diagram", &sites::p());
-    folder.put("q.diagram", &sites::q());
-    folder.put("s.diagram", &sites::s());
-    folder.put("z.diagram", &sites::z());
+    let folder = sites::folder(test);
     folder.put("p.cd", shelf_and_card("[1]", "[0..4]").as_bytes());
     folder.put("q.cd", shelf_and_card("[1]", "[0..2]").as_bytes());
     folder.put("s.cd", shelf_and_card("[0..1]", "[0..4]").as_bytes());
     folder.put("z.cd", b"classdiagram Z { <<singleton>> class Main; }");
-    folder.put("shelf3.record", &sites::shelf_with(3));
-    folder.put("card.record", &sites::card());
-    folder.put("empty.record", &sites::empty_site());
     folder
 }
 
@@ -44,10 +37,12 @@ fn a_text_has_the_answers_of_its_file() {
     ] {
         let (command, rest) = line.split_once(' ').expect("a command");
         let (name, behind) = rest.split_at(1);
-        let run = |suffix: &str| folder.line(&format!("{command} {name}.{suffix}{behind}"));
-        let (text, file) = (run("cd"), run("diagram"));
-        assert_eq!((text.status, text.err.as_str()), (status, ""), "{line}");
-        assert_eq!(text.out.replace(".cd", ".diagram"), file.out, "{line}");
+        let answer = |suffix: &str| {
+            let line = format!("{command} {name}.{suffix}{behind}");
+            folder.answer(status, &line)
+        };
+        let by_text = answer("cd").replace(".cd", ".diagram");
+        assert_eq!(by_text, answer("diagram"), "{line}");
     }
 }
 
@@ -59,28 +54,23 @@ fn texts_and_files_are_compared_with_each_other() {
         ("p.cd", "q.diagram"),
         ("p.diagram", "q.cd"),
     ] {
-        let ran = folder.line(&format!("compare {old} {new} --bound 3"));
-        assert_eq!((ran.status, ran.err.as_str()), (0, ""), "{old} {new}");
-        let ran = folder.line(&format!("compare {old} {new} --bound 4"));
-        assert_eq!((ran.status, ran.err.as_str()), (1, ""), "{old} {new}");
+        folder.answer(0, &format!("compare {old} {new} --bound 3"));
+        let answer = folder.answer(1, &format!("compare {old} {new} --bound 4"));
         let first =
             format!("Difference: {old} allows this site of 4 objects, and {new} forbids it.");
-        assert!(ran.out.starts_with(&first), "{}", ran.out);
-        assert!(ran.out.contains(
+        assert!(answer.starts_with(&first), "{answer}");
+        assert!(answer.contains(
             "  Shelf0 has 3 links of role cards; allowed: at most 2.\n    composition [1] Shelf (shelf) -> (cards) Card [0..2]\n"
         ));
     }
-    let ran = folder.line("compare s.cd p.cd --out site.record");
-    assert_eq!(
-        (ran.status, folder.get("site.record")),
-        (1, Some(sites::card()))
-    );
+    folder.answer(1, "compare s.cd p.cd --out site.record");
+    assert_eq!(folder.get("site.record"), Some(sites::card()));
     for name in ["p", "q", "s", "z"] {
         for line in [
             format!("compare {name}.cd {name}.diagram --bound 2"),
             format!("compare {name}.diagram {name}.cd --bound 2"),
         ] {
-            assert_eq!(folder.line(&line).status, 0, "{line}");
+            folder.answer(0, &line);
         }
     }
 }
@@ -88,13 +78,11 @@ fn texts_and_files_are_compared_with_each_other() {
 #[test]
 fn check_tells_a_text() {
     let folder = folder("text_check");
-    let ran = folder.line("check p.cd");
-    assert_eq!((ran.status, ran.err.as_str()), (0, ""));
     assert_eq!(
-        ran.out,
+        folder.answer(0, "check p.cd"),
         "Accepted: p.cd is a diagram text with no value types, 2 types, no attributes, 1 association.\n"
     );
-    let object = read(&folder.line("check p.cd --json").out);
+    let object = read(&folder.answer(0, "check p.cd --json"));
     assert_eq!(object.get("kind").text(), "diagram");
     assert_eq!(object.get("form").text(), "text");
 }
@@ -113,16 +101,13 @@ fn texts_of_any_length() {
     let folder = Folder::of("text_length");
     let blanks = " ".repeat(300_000);
     folder.put("blanks", format!("classdiagram d {{{blanks}}}").as_bytes());
-    assert_eq!(folder.line("check blanks").status, 0);
+    folder.answer(0, "check blanks");
     let word = "a".repeat(70_000);
     folder.put("word", format!("classdiagram {word} {{}}").as_bytes());
-    let ran = folder.line("check word");
-    assert_eq!(ran.status, 2);
-    assert!(ran.err.contains("word:1:14: the name \"aaaaaaaaaaaaaaaa"));
-    assert!(ran
-        .err
-        .contains("...\" has 70000 bytes, at most 16 are allowed\n"));
-    assert!(ran.err.len() < 1_000, "{}", ran.err.len());
+    let complaint = folder.complaint("check word");
+    assert!(complaint.contains("word:1:14: the name \"aaaaaaaaaaaaaaaa"));
+    assert!(complaint.contains("...\" has 70000 bytes, at most 16 are allowed\n"));
+    assert!(complaint.len() < 1_000, "{}", complaint.len());
 }
 
 #[test]
@@ -132,10 +117,8 @@ fn a_refused_text_is_explained() {
         "d.cd",
         b"classdiagram d {\n  class Card;\n\tclass extends Card;\n}\n",
     );
-    let ran = folder.line("check d.cd");
-    assert_eq!((ran.status, ran.out.as_str()), (2, ""));
     assert_eq!(
-        ran.err,
+        folder.complaint("check d.cd"),
         "corfynnog: d.cd is not an acceptable diagram text (refusal 23).\n\
          d.cd:3:8: read \"extends\", expected a name for the class\n\
          \x20    class extends Card;\n\
@@ -214,56 +197,27 @@ fn the_text_at_fault_is_named() {
         ("judge bad.cd card.record", "bad.cd:1:33: "),
         ("evaluate worse.cd card.record", "worse.cd:1:17: "),
     ] {
-        let ran = folder.line(line);
-        assert_eq!((ran.status, ran.out.as_str()), (2, ""), "{line}");
-        assert!(
-            ran.err.contains(&format!("\n{file}")),
-            "{line}: {}",
-            ran.err
-        );
+        let told = folder.complaint(line);
+        assert!(told.contains(&format!("\n{file}")), "{line}: {told}");
     }
 }
 
 #[test]
 fn what_show_prints_is_read_back() {
     let folder = folder("text_shown");
-    let every = "classdiagram all {
-  enum Colour {red, tan;}
-  enum Date;
-  interface Wired;
-  interface Socket extends Wired;
-  abstract class Part;
-  class Card extends Part implements Wired, Socket {
-    Colour paint;
-    Date sales;
-  }
-  <<singleton>> class Exchange extends Part;
-  association [*] Part (a) -> (b) Card [2..*];
-  association [0] Part (c) <- (d) Card [1];
-  composition [1] Exchange (e) <-> (f) Card [0..100];
-  association [3..4] Card (g) -- (g) Card [0..1];
-}
-";
-    folder.put("every.cd", every.as_bytes());
-    assert_eq!(folder.line("show every.cd").out, every);
+    folder.put("every.cd", constructs::TEXT.as_bytes());
+    assert_eq!(folder.answer(0, "show every.cd"), constructs::TEXT);
     for file in ["p.diagram", "q.diagram", "z.diagram", "p.cd", "every.cd"] {
-        let shown = folder.line(&format!("show {file}"));
-        assert_eq!((shown.status, shown.err.as_str()), (0, ""), "{file}");
-        folder.put("shown.cd", shown.out.as_bytes());
-        assert_eq!(folder.line("show shown.cd").out, shown.out, "{file}");
-        let names = |line: &str| {
-            let object = read(&folder.line(line).out);
-            object.get("diagram").clone()
-        };
-        assert_eq!(
-            names("show shown.cd --json"),
-            names(&format!("show {file} --json"))
-        );
-        let predicates = |file: &str| {
-            let object = read(&folder.line(&format!("compile {file} --json")).out);
-            object.get("predicates").clone()
-        };
-        assert_eq!(predicates("shown.cd"), predicates(file), "{file}");
+        let shown = folder.answer(0, &format!("show {file}"));
+        folder.put("shown.cd", shown.as_bytes());
+        assert_eq!(folder.answer(0, "show shown.cd"), shown, "{file}");
+        for (command, part) in [("show", "diagram"), ("compile", "predicates")] {
+            let told = |file: &str| {
+                let object = read(&folder.answer(0, &format!("{command} {file} --json")));
+                object.get(part).clone()
+            };
+            assert_eq!(told("shown.cd"), told(file), "{command} {file}");
+        }
     }
 }
 
@@ -274,10 +228,8 @@ fn a_loose_text_is_shown_in_order() {
         "d.cd",
         b"classdiagram Loose{association B->A;class A{Date d;Col c;}class B extends A{}enum Col{r;}}",
     );
-    let ran = folder.line("show d.cd");
-    assert_eq!((ran.status, ran.err.as_str()), (0, ""));
     assert_eq!(
-        ran.out,
+        folder.answer(0, "show d.cd"),
         "classdiagram Loose {
   enum Col {r;}
   enum Date;
@@ -295,15 +247,12 @@ fn a_loose_text_is_shown_in_order() {
 #[test]
 fn the_text_in_the_help_is_accepted() {
     let folder = Folder::of("text_help");
-    let help = folder.line("help check").out;
+    let help = folder.answer(0, "help check");
     let (_, behind) = help.split_once("Diagram text:\n").expect("a text");
     let (text, _) = behind.split_once("\n  }\n").expect("its end");
     folder.put("d.cd", format!("{text}\n}}").as_bytes());
-    let ran = folder.line("check d.cd");
-    assert_eq!((ran.status, ran.err.as_str()), (0, ""));
-    assert!(ran
-        .out
-        .contains("2 value types, 4 types, 2 attributes, 2 associations"));
+    let answer = folder.answer(0, "check d.cd");
+    assert!(answer.contains("2 value types, 4 types, 2 attributes, 2 associations"));
 }
 
 #[test]

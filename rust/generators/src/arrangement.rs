@@ -30,19 +30,8 @@ fn put_types(random: &mut Random, plan: &mut DiagramPlan) {
         let at = order.iter().position(|old| *old == usize::from(of));
         at.expect("every type has a place") as u8
     };
-    let mut types: Vec<_> = order.iter().map(|of| plan.types[*of].clone()).collect();
-    for of in &mut types {
-        of.parents = of.parents.iter().map(|parent| moved(*parent)).collect();
-        of.parents.sort();
-    }
-    plan.types = types;
-    for attribute in &mut plan.attributes {
-        attribute.owner = moved(attribute.owner);
-    }
-    for association in &mut plan.associations {
-        association.left.of = moved(association.left.of);
-        association.right.of = moved(association.right.of);
-    }
+    plan.types = order.iter().map(|of| plan.types[*of].clone()).collect();
+    plan.renumber_types(moved);
 }
 
 /// Puts the attributes of one owner side by side, in any order.

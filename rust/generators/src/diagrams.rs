@@ -29,6 +29,14 @@ pub const TINY: Size = Size {
     associations: 2,
 };
 
+/// As many parts as the format allows.
+pub const LARGE: Size = Size {
+    value_types: 12,
+    types: 24,
+    attributes: 32,
+    associations: 16,
+};
+
 /// A diagram of at most this size that keeps every demand of the file format.
 pub fn diagram(random: &mut Random, size: Size) -> DiagramPlan {
     let mut plan = DiagramPlan::default();

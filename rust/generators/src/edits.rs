@@ -287,7 +287,7 @@ fn exchange_types(random: &mut Random, plan: &mut DiagramPlan) {
     }
     plan.types.swap(at, at + 1);
     let (one, other) = (at as u8, at as u8 + 1);
-    each_type_index(plan, |index| {
+    plan.renumber_types(|index| {
         if index == one {
             other
         } else if index == other {
@@ -296,21 +296,6 @@ fn exchange_types(random: &mut Random, plan: &mut DiagramPlan) {
             index
         }
     });
-}
-
-/// Puts another number in the place of each type's number.
-fn each_type_index(plan: &mut DiagramPlan, change: impl Fn(u8) -> u8) {
-    for t in &mut plan.types {
-        t.parents.iter_mut().for_each(|p| *p = change(*p));
-        t.parents.sort();
-    }
-    for a in &mut plan.attributes {
-        a.owner = change(a.owner);
-    }
-    for a in &mut plan.associations {
-        a.left.of = change(a.left.of);
-        a.right.of = change(a.right.of);
-    }
 }
 
 /// Adds a value type, an attribute or an association.
@@ -337,7 +322,7 @@ fn drop_type(random: &mut Random, plan: &mut DiagramPlan) {
     plan.attributes.retain(|a| a.owner != lost);
     plan.associations
         .retain(|a| a.left.of != lost && a.right.of != lost);
-    each_type_index(plan, |index| if index > lost { index - 1 } else { index });
+    plan.renumber_types(|index| if index > lost { index - 1 } else { index });
 }
 
 /// Drops an attribute or an association.

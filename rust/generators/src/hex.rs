@@ -1,4 +1,4 @@
-//! Bytes as text, for messages.
+//! Bytes as text, for messages and tables.
 
 /// The bytes in hexadecimal, set apart by blanks.
 pub fn hex(bytes: &[u8]) -> String {
@@ -6,12 +6,13 @@ pub fn hex(bytes: &[u8]) -> String {
     pairs.join(" ")
 }
 
-/// The bytes of a text in hexadecimal; blanks may stand anywhere.
+/// The bytes of a text in hexadecimal; blanks may stand anywhere, and nothing else.
 pub fn bytes(text: &str) -> Vec<u8> {
-    let digits: Vec<u8> = text.bytes().filter(u8::is_ascii_hexdigit).collect();
-    let digit = |d: u8| (d as char).to_digit(16).unwrap_or(0) as u8;
-    digits
-        .chunks(2)
-        .map(|pair| pair.iter().fold(0, |sum, d| sum * 16 + digit(*d)))
+    let digit = |letter: char| letter.to_digit(16).expect("a hexadecimal digit") as u8;
+    let letters = text.chars().filter(|letter| !letter.is_whitespace());
+    let digits: Vec<u8> = letters.map(digit).collect();
+    let pairs = digits.chunks(2);
+    pairs
+        .map(|pair| pair.iter().fold(0, |sum, digit| sum * 16 + digit))
         .collect()
 }

@@ -1,8 +1,10 @@
-//! Made-up diagram files, record files, texts and rows of calls, for tests and benchmarks.
+//! Made-up diagram files, record files, texts and rows of calls, for tests and benchmarks, and the
+//! worked texts, which several tests share.
 //!
-//! Everything comes from a seed, so that a case can be made again from its number alone.
+//! What is made up comes from a seed, so that a case can be made again from its number alone.
 //! Nothing here judges, refuses or compares: it only makes input. `plan` is what a file is to
-//! say, and a plan may say something that a reader has to refuse.
+//! say, and a plan may say something that a reader has to refuse. Only `worked_texts` says what
+//! the reply to its input is.
 
 pub mod arrangement;
 pub mod calls;
@@ -26,6 +28,7 @@ pub mod text_damage;
 pub mod text_layout;
 pub mod texts;
 pub mod upper_limits;
+pub mod worked_texts;
 
 pub use calls::CallPlan;
 pub use plan::{

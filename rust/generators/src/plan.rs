@@ -136,6 +136,21 @@ impl DiagramPlan {
     pub fn file(&self) -> Vec<u8> {
         file(&self.fields())
     }
+
+    /// Puts another number in the place of each type's number.
+    pub fn renumber_types(&mut self, change: impl Fn(u8) -> u8) {
+        for t in &mut self.types {
+            t.parents.iter_mut().for_each(|p| *p = change(*p));
+            t.parents.sort();
+        }
+        for a in &mut self.attributes {
+            a.owner = change(a.owner);
+        }
+        for a in &mut self.associations {
+            a.left.of = change(a.left.of);
+            a.right.of = change(a.right.of);
+        }
+    }
 }
 
 impl Value {

@@ -5,8 +5,9 @@ use crate::names::{of_length, one_of, FOREIGN};
 use crate::random::Random;
 use crate::texts::Token;
 
-/// Words that are no names.
-const KEYWORDS: [&str; 9] = [
+/// Words that are no names. This list and the next are not taken from a reader, so that what a
+/// reader lacks is tried on it all the same.
+pub const KEYWORDS: [&str; 9] = [
     "classdiagram",
     "class",
     "extends",
@@ -19,7 +20,7 @@ const KEYWORDS: [&str; 9] = [
 ];
 
 /// Marks.
-const MARKS: [&str; 16] = [
+pub const MARKS: [&str; 16] = [
     "<->", "->", "<-", "--", "<<", ">>", "..", "{", "}", ";", ",", "(", ")", "[", "]", "*",
 ];
 

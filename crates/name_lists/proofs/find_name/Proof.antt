@@ -17,16 +17,13 @@ use Rattle.fields.proofs.same_name.Reads as same-name-reads
 use Rattle.fields.proofs.slot_name.Reads as slot-name-reads
 
 abbrev Inv-loop : tie.InvT-loop
-Inv-loop n w names i₀ i = (i ≤ n .count) × (any (λ j. sameName (getD (namesIn n) j []) w) i ≡ false)
+Inv-loop w n i₀ i = (i ≤ n .count) × (any (λ j. sameName (getD (namesIn n) j []) w) i ≡ false)
 
 abbrev μ-loop : tie.MeasureT-loop
-μ-loop n w names i₀ i = n .count - i
+μ-loop w n i₀ i = n .count - i
 
 loop-holds : tie.Need-loop-holds Inv-loop μ-loop
 loop-holds c = search each
-
-slice-aggregate-slot-name : tie.Need-slice-aggregate-slot-name Inv-loop μ-loop
-slice-aggregate-slot-name c = search needs
 
 cast-slot-name : tie.Need-cast-slot-name Inv-loop μ-loop
 cast-slot-name c = search needs
@@ -59,7 +56,6 @@ find-name-spec =
     Inv-loop
     μ-loop
     loop-holds
-    slice-aggregate-slot-name
     cast-slot-name
     slot-name-requires
     same-name-requires

@@ -7,7 +7,7 @@ use Rattle.name_lists.proofs.push_name.Statement.{statement}
 use Rattle.name_lists.proofs.push_name.Tie as tie
 use Rattle.name_lists.proofs.push_name.Reads as reads
 use Rattle.name_lists.proofs.push_name.Lts as lts
-use Rattle.name_lists.proofs.store_name.Reads as store-name-reads
+use Rattle.loading.proofs.storing.store_name.Reads as store-name-reads
 
 slice-aggregate-store-name : tie.Need-slice-aggregate-store-name
 slice-aggregate-store-name c = search needs

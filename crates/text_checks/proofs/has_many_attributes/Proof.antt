@@ -1,24 +1,20 @@
-use Prim.Native.Nat.{_≤_}
+use Prim.Native.Nat.{_-_, _≤_}
+use mathlib.Core.Path.{_≡_}
 use lib.ListN.{length}
-use Rattle.text_checks.proofs.CountedLaws.{Used, used-begin, used-done, used-next, used-over, used-over-alone}
-use Rattle.text_checks.proofs.WalkLaws.{rest-less}
+use Rattle.laws.specs.Lists.{joined}
+use Rattle.text_checks.proofs.CountedLaws.{typesAt, used-begin, used-done, used-next, used-over, used-over-alone}
 use borrow.Author.Needs.{needs}
 use Rattle.text_checks.proofs.has_many_attributes.Statement.{statement}
 use Rattle.text_checks.proofs.has_many_attributes.Tie as tie
 use Rattle.text_checks.proofs.has_many_attributes.Reads as reads
 use Rattle.text_checks.proofs.has_many_attributes.Lts as lts
-use Rattle.laws.proofs.past.Reads as past-reads
-use Rattle.text_parts.proofs.attribute_count.Reads as attribute-count-reads
-use Rattle.text_rows.proofs.row_end.Reads as row-end-reads
+use Rattle.text_outlines.proofs.attribute_count.Reads as attribute-count-reads
 
 abbrev Inv-loop : tie.InvT-loop
-Inv-loop body rest₀ n₀ used₀ rest n used = Used body rest n used × (used ≤ 32)
+Inv-loop body o n used₀ k₀ used k = (k ≤ n) × ((used ≤ 32) × (used ≡ length (joined (typesAt body) k)))
 
 abbrev μ-loop : tie.MeasureT-loop
-μ-loop body rest₀ n₀ used₀ rest n used = length rest
-
-row-end-requires : tie.Need-row-end-requires Inv-loop μ-loop
-row-end-requires c κs = search needs
+μ-loop body o n used₀ k₀ used k = n - k
 
 loop-holds : tie.Need-loop-holds Inv-loop μ-loop
 loop-holds c = search (needs, used-begin)
@@ -35,14 +31,11 @@ add-used c = search needs
 returns-2 : tie.Need-returns-2 Inv-loop μ-loop
 returns-2 c = search (needs, used-over)
 
-past-requires : tie.Need-past-requires Inv-loop μ-loop
-past-requires c κs = search needs
-
-row-end-requires-2 : tie.Need-row-end-requires-2 Inv-loop μ-loop
-row-end-requires-2 c κs = search needs
+add-k : tie.Need-add-k Inv-loop μ-loop
+add-k c = search needs
 
 loop-less : tie.Need-loop-less Inv-loop μ-loop
-loop-less c = search (needs, rest-less)
+loop-less c = search needs
 
 loop-again : tie.Need-loop-again Inv-loop μ-loop
 loop-again c = search (needs, used-next)
@@ -56,14 +49,12 @@ has-many-attributes-spec =
     (tie.spec
     Inv-loop
     μ-loop
-    row-end-requires
     loop-holds
     attribute-count-requires
     returns
     add-used
     returns-2
-    past-requires
-    row-end-requires-2
+    add-k
     loop-less
     loop-again
     returns-3)

@@ -1,50 +1,48 @@
-use lib.ListN.{length}
-use Rattle.text_checks.specs.Overlong.{hasOverlong, overlong}
-use Rattle.text_checks.proofs.NoneYetLaws.{NoneYet, none-begin, none-done, none-found, none-next}
-use Rattle.text_checks.proofs.WalkLaws.{rest-less}
+use Prim.Native.Nat.{_-_, _≤_}
+use mathlib.Core.Path.{_≡_}
+use mathlib.Core.Bool.{false}
+use Rattle.laws.specs.Bounded.{any}
+use Rattle.laws.proofs.LoopLaws.{any-begin}
+use Rattle.text_checks.specs.Overlong.{overlong}
+use Rattle.text_checks.proofs.OutlineLaws.{testAt}
+use Rattle.text_checks.proofs.OverlongLaws.{overlong-found, overlong-next, overlong-none}
 use borrow.Author.Needs.{needs}
 use Rattle.text_checks.proofs.has_overlong.Statement.{statement}
 use Rattle.text_checks.proofs.has_overlong.Tie as tie
 use Rattle.text_checks.proofs.has_overlong.Reads as reads
 use Rattle.text_checks.proofs.has_overlong.Lts as lts
-use Rattle.laws.proofs.past.Reads as past-reads
-use Rattle.text_checks.proofs.is_overlong.Reads as is-overlong-reads
-use Rattle.text_rows.proofs.row_end.Reads as row-end-reads
+use Rattle.text_outlines.proofs.constant_count.Reads as constant-count-reads
+use Rattle.text_outlines.proofs.parent_count.Reads as parent-count-reads
 
 abbrev Inv-loop : tie.InvT-loop
-Inv-loop body rest₀ n₀ rest n = NoneYet overlong body rest n
+Inv-loop body o n k₀ k = (k ≤ n) × (any (testAt overlong body) k ≡ false)
 
 abbrev μ-loop : tie.MeasureT-loop
-μ-loop body rest₀ n₀ rest n = length rest
-
-row-end-requires : tie.Need-row-end-requires Inv-loop μ-loop
-row-end-requires c κs = search needs
+μ-loop body o n k₀ k = n - k
 
 loop-holds : tie.Need-loop-holds Inv-loop μ-loop
-loop-holds c = search (needs, none-begin)
+loop-holds c = search (needs, any-begin)
 
-is-overlong-requires : tie.Need-is-overlong-requires Inv-loop μ-loop
-is-overlong-requires c κs = search needs
+constant-count-requires : tie.Need-constant-count-requires Inv-loop μ-loop
+constant-count-requires c κs = search needs
+
+parent-count-requires : tie.Need-parent-count-requires Inv-loop μ-loop
+parent-count-requires c κs = search needs
 
 returns : tie.Need-returns Inv-loop μ-loop
-unfolding hasOverlong
-returns c = search (needs, none-found overlong)
+returns c = search (needs, overlong-found)
 
-past-requires : tie.Need-past-requires Inv-loop μ-loop
-past-requires c κs = search needs
-
-row-end-requires-2 : tie.Need-row-end-requires-2 Inv-loop μ-loop
-row-end-requires-2 c κs = search needs
+add-k : tie.Need-add-k Inv-loop μ-loop
+add-k c = search needs
 
 loop-less : tie.Need-loop-less Inv-loop μ-loop
-loop-less c = search (needs, rest-less)
+loop-less c = search needs
 
 loop-again : tie.Need-loop-again Inv-loop μ-loop
-loop-again c = search (needs, none-next)
+loop-again c = search (needs, overlong-next)
 
 returns-2 : tie.Need-returns-2 Inv-loop μ-loop
-unfolding hasOverlong
-returns-2 c = search (needs, none-done overlong)
+returns-2 c = search (needs, overlong-none)
 
 pub has-overlong-spec : {M : Type 1} → statement M
 has-overlong-spec =
@@ -52,12 +50,11 @@ has-overlong-spec =
     (tie.spec
     Inv-loop
     μ-loop
-    row-end-requires
     loop-holds
-    is-overlong-requires
+    constant-count-requires
+    parent-count-requires
     returns
-    past-requires
-    row-end-requires-2
+    add-k
     loop-less
     loop-again
     returns-2)

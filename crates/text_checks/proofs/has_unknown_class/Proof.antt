@@ -11,10 +11,10 @@ use Rattle.text_parts.proofs.superclass.Reads as superclass-reads
 use Rattle.text_parts.proofs.superclass_count.Reads as superclass-count-reads
 
 abbrev Inv-loop : tie.InvT-loop
-Inv-loop body k s n i₀ i = Known 0 (declarationsBy body) k (declarationBy s .superclasses) n i
+Inv-loop body o n k s row count i₀ i = Known 0 (declarationsBy body) k (declarationBy s .superclasses) count i
 
 abbrev μ-loop : tie.MeasureT-loop
-μ-loop body k s n i₀ i = n - i
+μ-loop body o n k s row count i₀ i = count - i
 
 superclass-count-requires : tie.Need-superclass-count-requires Inv-loop μ-loop
 superclass-count-requires c κs = search needs

@@ -5,11 +5,11 @@ use Rattle.text_checks.proofs.has_unknown_end.Tie as tie
 use Rattle.text_checks.proofs.has_unknown_end.Reads as reads
 use Rattle.text_checks.proofs.has_unknown_end.Lts as lts
 use Rattle.text_checks.proofs.is_declared.Reads as is-declared-reads
-use Rattle.text_checks.proofs.is_kind.Reads as is-kind-reads
+use Rattle.text_checks.proofs.is_kind_in_row.Reads as is-kind-in-row-reads
 use Rattle.text_parts.proofs.end_type.Reads as end-type-reads
 
-is-kind-requires : tie.Need-is-kind-requires
-is-kind-requires c κs = search needs
+is-kind-in-row-requires : tie.Need-is-kind-in-row-requires
+is-kind-in-row-requires c κs = search needs
 
 end-type-requires : tie.Need-end-type-requires
 end-type-requires c κs = search needs
@@ -33,7 +33,7 @@ pub has-unknown-end-spec : {M : Type 1} → statement M
 has-unknown-end-spec =
     tie.close
     (tie.spec
-    is-kind-requires
+    is-kind-in-row-requires
     end-type-requires
     is-declared-requires
     end-type-requires-2

@@ -11,10 +11,10 @@ use Rattle.text_parts.proofs.interface.Reads as interface-reads
 use Rattle.text_parts.proofs.interface_count.Reads as interface-count-reads
 
 abbrev Inv-loop : tie.InvT-loop
-Inv-loop body k s n i₀ i = Known 1 (declarationsBy body) k (declarationBy s .interfaces) n i
+Inv-loop body o n k s row count i₀ i = Known 1 (declarationsBy body) k (declarationBy s .interfaces) count i
 
 abbrev μ-loop : tie.MeasureT-loop
-μ-loop body k s n i₀ i = n - i
+μ-loop body o n k s row count i₀ i = count - i
 
 interface-count-requires : tie.Need-interface-count-requires Inv-loop μ-loop
 interface-count-requires c κs = search needs

@@ -4,25 +4,21 @@ use Rattle.text_checks.proofs.is_kind.Statement.{statement}
 use Rattle.text_checks.proofs.is_kind.Tie as tie
 use Rattle.text_checks.proofs.is_kind.Reads as reads
 use Rattle.text_checks.proofs.is_kind.Lts as lts
-use Rattle.text_parts.proofs.what.Reads as what-reads
-
-what-requires : tie.Need-what-requires
-what-requires c κs = search needs
 
 returns : tie.Need-returns
-returns c = search (needs, kind-class)
+returns c = λ d e. search (needs, kind-class)
 
 returns-2 : tie.Need-returns-2
-returns-2 c = search (needs, kind-interface)
+returns-2 c = λ d e. search (needs, kind-interface)
 
 returns-3 : tie.Need-returns-3
-returns-3 c = search (needs, kind-type)
+returns-3 c = λ d e. search (needs, kind-type)
 
 returns-4 : tie.Need-returns-4
-returns-4 c = search (needs, kind-association)
+returns-4 c = λ d e. search (needs, kind-enumeration)
 
 returns-5 : tie.Need-returns-5
-returns-5 c = search (needs, kind-enumeration)
+returns-5 c = λ d e. search (needs, kind-association)
 
 pub is-kind-spec : {M : Type 1} → statement M
-is-kind-spec = tie.close (tie.spec what-requires returns returns-2 returns-3 returns-4 returns-5)
+is-kind-spec = tie.close (tie.spec returns returns-2 returns-3 returns-4 returns-5)

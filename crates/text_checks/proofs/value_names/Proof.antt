@@ -1,48 +1,47 @@
-use Prim.Native.Nat.{_≤_}
-use lib.ListN.{length}
+use Prim.Native.Nat.{_-_, _≤_}
+use mathlib.Core.Path.{_≡_}
+use lib.ListN.{take}
 use Rattle.name_lists.specs.Names.{namesIn}
-use Rattle.text_checks.proofs.CollectedLaws.{types-short}
-use Rattle.text_checks.proofs.TakenLaws.{Valued, valued-begin, valued-done, valued-next}
-use Rattle.text_checks.proofs.WalkLaws.{rest-less}
+use Rattle.text_checks.proofs.TakenLaws.{types-counted, types-short, valued-begin, valued-done, valued-next, valuesTo}
 use borrow.Author.Needs.{needs}
 use Rattle.text_checks.proofs.value_names.Statement.{statement}
 use Rattle.text_checks.proofs.value_names.Tie as tie
 use Rattle.text_checks.proofs.value_names.Reads as reads
 use Rattle.text_checks.proofs.value_names.Lts as lts
-use Rattle.laws.proofs.past.Reads as past-reads
 use Rattle.text_checks.proofs.names_of_kind.Reads as names-of-kind-reads
 use Rattle.text_checks.proofs.with_types_of.Reads as with-types-of-reads
-use Rattle.text_rows.proofs.row_end.Reads as row-end-reads
+use Rattle.text_outlines.proofs.attribute_count.Reads as attribute-count-reads
+use Rattle.text_outlines.proofs.declaration.Reads as declaration-reads
 
 abbrev Inv-loop : tie.InvT-loop
-Inv-loop body names₀ rest₀ n₀ names rest n = Valued body rest n (namesIn names) × (names .count ≤ 13)
+Inv-loop body o n names₀ k₀ names k = (k ≤ n) × ((names .count ≤ 13) × (namesIn names ≡ take 13 (valuesTo body k)))
 
 abbrev μ-loop : tie.MeasureT-loop
-μ-loop body names₀ rest₀ n₀ names rest n = length rest
+μ-loop body o n names₀ k₀ names k = n - k
 
 names-of-kind-requires : tie.Need-names-of-kind-requires Inv-loop μ-loop
 names-of-kind-requires c κs = search needs
 
-row-end-requires : tie.Need-row-end-requires Inv-loop μ-loop
-row-end-requires c κs = search needs
-
 loop-holds : tie.Need-loop-holds Inv-loop μ-loop
 loop-holds c = search (needs, valued-begin)
 
+declaration-requires : tie.Need-declaration-requires Inv-loop μ-loop
+declaration-requires c κs = search needs
+
+attribute-count-requires : tie.Need-attribute-count-requires Inv-loop μ-loop
+attribute-count-requires c κs = search needs
+
 with-types-of-requires : tie.Need-with-types-of-requires Inv-loop μ-loop
-with-types-of-requires c κs = search (needs, types-short)
+with-types-of-requires c κs = (search needs, (search (needs, types-counted), search (needs, types-short)))
 
-past-requires : tie.Need-past-requires Inv-loop μ-loop
-past-requires c κs = search needs
-
-row-end-requires-2 : tie.Need-row-end-requires-2 Inv-loop μ-loop
-row-end-requires-2 c κs = search needs
+add-k : tie.Need-add-k Inv-loop μ-loop
+add-k c = search needs
 
 loop-less : tie.Need-loop-less Inv-loop μ-loop
-loop-less c = search (needs, rest-less)
+loop-less c = search needs
 
 loop-again : tie.Need-loop-again Inv-loop μ-loop
-loop-again c = search (needs, valued-next)
+loop-again c = (search needs, (search needs, search (needs, valued-next)))
 
 returns : tie.Need-returns Inv-loop μ-loop
 returns c = search (needs, valued-done)
@@ -54,11 +53,11 @@ value-names-spec =
     Inv-loop
     μ-loop
     names-of-kind-requires
-    row-end-requires
     loop-holds
+    declaration-requires
+    attribute-count-requires
     with-types-of-requires
-    past-requires
-    row-end-requires-2
+    add-k
     loop-less
     loop-again
     returns)

@@ -8,17 +8,13 @@ use Rattle.text_checks.proofs.with_types_of.Reads as reads
 use Rattle.text_checks.proofs.with_types_of.Lts as lts
 use Rattle.name_lists.proofs.find_name.Reads as find-name-reads
 use Rattle.text_checks.proofs.with_name.Reads as with-name-reads
-use Rattle.text_parts.proofs.attribute_count.Reads as attribute-count-reads
 use Rattle.text_parts.proofs.attribute_type.Reads as attribute-type-reads
 
 abbrev Inv-loop : tie.InvT-loop
-Inv-loop s r₀ n i₀ r i = Taken (declarationBy s .attributeTypes) n r₀ i r
+Inv-loop s count r₀ i₀ r i = Taken (declarationBy s .attributeTypes) count r₀ i r
 
 abbrev μ-loop : tie.MeasureT-loop
-μ-loop s r₀ n i₀ r i = n - i
-
-attribute-count-requires : tie.Need-attribute-count-requires Inv-loop μ-loop
-attribute-count-requires c κs = search needs
+μ-loop s count r₀ i₀ r i = count - i
 
 loop-holds : tie.Need-loop-holds Inv-loop μ-loop
 loop-holds c = search (needs, taken-begin)
@@ -43,7 +39,7 @@ loop-less c = search needs
 
 loop-again : tie.Need-loop-again Inv-loop μ-loop
 loop-again c = let l = c .before .before .before .before .before .before .before in
-    taken-next (l .loop .inv) (l .before .attribute-count .ensures .0) (search needs) (c .before .before .before .before .if1 .left)
+    taken-next (l .loop .inv) (l .before .before .pre .1 .0) (search needs) (c .before .before .before .before .if1 .left)
     (c .before .before .before .attribute-type .ensures) (c .before .before .find-name .ensures .0) (c .with-name .ensures .0) (c .with-name .ensures .1)
 
 returns-2 : tie.Need-returns-2 Inv-loop μ-loop
@@ -55,7 +51,6 @@ with-types-of-spec =
     (tie.spec
     Inv-loop
     μ-loop
-    attribute-count-requires
     loop-holds
     returns
     attribute-type-requires

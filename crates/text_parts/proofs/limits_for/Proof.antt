@@ -7,7 +7,7 @@ use Rattle.text_parts.proofs.limits_for.Lts as lts
 use Rattle.text_parts.proofs.value_of.Reads as value-of-reads
 use Rattle.text_rows.proofs.count_for.Reads as count-for-reads
 use Rattle.text_rows.proofs.is_passed.Reads as is-passed-reads
-use Rattle.text_rows.proofs.word_for.Reads as word-for-reads
+use Rattle.text_rows.proofs.first_for.Reads as first-for-reads
 
 count-for-requires : tie.Need-count-for-requires
 count-for-requires c κs = search needs
@@ -15,8 +15,8 @@ count-for-requires c κs = search needs
 returns : tie.Need-returns
 returns c = search ends
 
-word-for-requires : tie.Need-word-for-requires
-word-for-requires c κs = search needs
+first-for-requires : tie.Need-first-for-requires
+first-for-requires c κs = search needs
 
 value-of-requires : tie.Need-value-of-requires
 value-of-requires c κs = search needs
@@ -30,8 +30,8 @@ count-for-requires-2 c κs = search needs
 returns-2 : tie.Need-returns-2
 returns-2 c = search ends
 
-word-for-requires-2 : tie.Need-word-for-requires-2
-word-for-requires-2 c κs = search needs
+first-for-requires-2 : tie.Need-first-for-requires-2
+first-for-requires-2 c κs = search needs
 
 value-of-requires-2 : tie.Need-value-of-requires-2
 value-of-requires-2 c κs = search needs
@@ -48,12 +48,12 @@ limits-for-spec =
     (tie.spec
     count-for-requires
     returns
-    word-for-requires
+    first-for-requires
     value-of-requires
     is-passed-requires
     count-for-requires-2
     returns-2
-    word-for-requires-2
+    first-for-requires-2
     value-of-requires-2
     returns-3
     returns-4)

@@ -6,19 +6,19 @@ use Rattle.text_parts.proofs.role_word.Reads as reads
 use Rattle.text_parts.proofs.role_word.Lts as lts
 use Rattle.text_parts.proofs.end_type.Reads as end-type-reads
 use Rattle.text_parts.proofs.is_role_given.Reads as is-role-given-reads
-use Rattle.text_rows.proofs.word_for.Reads as word-for-reads
+use Rattle.text_rows.proofs.first_for.Reads as first-for-reads
 
 is-role-given-requires : tie.Need-is-role-given-requires
 is-role-given-requires c κs = search needs
 
-word-for-requires : tie.Need-word-for-requires
-word-for-requires c κs = search needs
+first-for-requires : tie.Need-first-for-requires
+first-for-requires c κs = search needs
 
 returns : tie.Need-returns
 returns c = search ends
 
-word-for-requires-2 : tie.Need-word-for-requires-2
-word-for-requires-2 c κs = search needs
+first-for-requires-2 : tie.Need-first-for-requires-2
+first-for-requires-2 c κs = search needs
 
 returns-2 : tie.Need-returns-2
 returns-2 c = search ends
@@ -34,9 +34,9 @@ role-word-spec =
     tie.close
     (tie.spec
     is-role-given-requires
-    word-for-requires
+    first-for-requires
     returns
-    word-for-requires-2
+    first-for-requires-2
     returns-2
     end-type-requires
     returns-3)

@@ -1,12 +1,11 @@
 use Prim.Native.Nat.{_≤_}
-use mathlib.Core.List.{List}
 use mathlib.Core.Path.{_≡_, _∙_, ap, sym}
 use lib.ListN.{length}
 use native.Mathlib.Omega.{arith}
-use Rattle.texts.specs.Token.{Token, tokens}
+use Rattle.texts.specs.Token.{tokens}
 use Rattle.text_rows.specs.Front.{unblank}
 use Rattle.text_rows.proofs.BlankLaws.{unblank-bare}
-use Rattle.text_rows.proofs.RowLaws.{accepted, accepted-begin, accepted-end, accepted-long, accepted-next, rest-bare, rest-shorter, rest-tokens}
+use Rattle.text_rows.proofs.RowLaws.{Step, accepted, accepted-begin, accepted-end, accepted-long, accepted-next, rest-shorter, rest-tokens}
 use borrow.Author.Needs.{needs}
 use Rattle.text_rows.proofs.is_accepted.Statement.{statement}
 use Rattle.text_rows.proofs.is_accepted.Tie as tie
@@ -23,6 +22,9 @@ Inv-loop text rest₀ q₀ rest q = (unblank rest ≡ rest) × ((q ≤ 46) × (a
 
 abbrev μ-loop : tie.MeasureT-loop
 μ-loop text rest₀ q₀ rest q = length rest
+
+step : (c : tie.After-next-state Inv-loop μ-loop) → Step (c .before .before .before .loop .rest .now) (c .before .token-at .result) (c .before .before .before .loop .q) (c .next-state .result)
+step c = record { some = c .before .before .loop-test .taken; bare = c .before .before .before .loop .inv .0; is = c .before .token-at .ensures; to = c .next-state .ensures .0 }
 
 unblanked-requires : tie.Need-unblanked-requires Inv-loop μ-loop
 unblanked-requires c κs = search needs
@@ -45,8 +47,7 @@ is-name-state-requires c κs = search needs
 returns : tie.Need-returns Inv-loop μ-loop
 returns c = let a = c .before .before .before in
     let l = a .before .before .before in
-    let k = c .before .before .is-name-state in
-    accepted-long (l .loop .rest .now) (a .before .token-at .result) (l .loop .q) (a .next-state .result) (a .before .before .loop-test .taken) (l .loop .inv .0) (a .before .token-at .ensures) (a .next-state .ensures .0) (k .result) (k .ensures) (c .if1 .taken) ∙ sym (l .loop .inv .1 .1)
+    accepted-long (step a) (c .before .before .is-name-state .ensures) (c .if1 .taken) ∙ sym (l .loop .inv .1 .1)
 
 past-requires : tie.Need-past-requires Inv-loop μ-loop
 past-requires c κs = search needs
@@ -55,18 +56,16 @@ unblanked-requires-2 : tie.Need-unblanked-requires-2 Inv-loop μ-loop
 unblanked-requires-2 c κs = search needs
 
 loop-less : tie.Need-loop-less Inv-loop μ-loop
-loop-less c = let a = c .before .before .before .before .before in
-    let l = a .before .before .before in
-    rest-shorter (l .loop .rest .now) (c .before .past .result .now) (c .unblanked2 .result .now) (a .before .token-at .result) (a .before .before .loop-test .taken) (a .before .token-at .ensures) (c .before .past .ensures) (c .unblanked2 .ensures)
+loop-less c = let a = c .before .before .before .before .before in rest-shorter (step a) (c .before .past .ensures) (c .unblanked2 .ensures)
 
 loop-again : tie.Need-loop-again Inv-loop μ-loop
 loop-again c = let a = c .before .before .before .before .before in
     let l = a .before .before .before in
-    let k = c .before .before .before .before .is-name-state in (
-      rest-bare (l .loop .rest .now) (c .before .past .result .now) (c .unblanked2 .result .now) (a .before .token-at .result) (a .before .before .loop-test .taken) (a .before .token-at .ensures) (c .before .past .ensures) (c .unblanked2 .ensures),
+    let p = c .before .past in (
+      unblank-bare (p .result .now) (c .unblanked2 .result .now) (c .unblanked2 .ensures),
       (
         a .next-state .ensures .1,
-        l .loop .inv .1 .1 ∙ accepted-next (l .loop .rest .now) (a .before .token-at .result) (l .loop .q) (a .next-state .result) (a .before .before .loop-test .taken) (l .loop .inv .0) (a .before .token-at .ensures) (a .next-state .ensures .0) (k .result) (k .ensures) (c .before .before .if1 .left) ∙ ap (λ (ts : List Token). accepted (a .next-state .result) ts) (rest-tokens (l .loop .rest .now) (c .before .past .result .now) (c .unblanked2 .result .now) (a .before .token-at .result) (a .before .before .loop-test .taken) (a .before .token-at .ensures) (c .before .past .ensures) (c .unblanked2 .ensures)),
+        l .loop .inv .1 .1 ∙ accepted-next (step a) (c .before .before .before .before .is-name-state .ensures) (c .before .before .if1 .left) ∙ ap (accepted (a .next-state .result)) (rest-tokens (step a) (p .ensures) (c .unblanked2 .ensures)),
       ),
     )
 

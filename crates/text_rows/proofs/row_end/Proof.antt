@@ -4,7 +4,7 @@ use lib.ListN.{length}
 use Rattle.text_rows.specs.Front.{unblank}
 use Rattle.text_rows.proofs.BlankLaws.{unblank-bare}
 use Rattle.text_rows.proofs.EndLaws.{Behind, Continues, behind-drop, behind-is, behind-self, behind-unblank, continues-next, continues-self, row-ends, row-open}
-use Rattle.text_rows.proofs.RowLaws.{rest-bare, rest-shorter}
+use Rattle.text_rows.proofs.RowLaws.{Step, rest-shorter}
 use borrow.Author.Needs.{needs}
 use Rattle.text_rows.proofs.row_end.Statement.{statement}
 use Rattle.text_rows.proofs.row_end.Tie as tie
@@ -20,6 +20,9 @@ Inv-loop s q rest₀ state₀ rest state = (unblank rest ≡ rest) × ((state �
 
 abbrev μ-loop : tie.MeasureT-loop
 μ-loop s q rest₀ state₀ rest state = length rest
+
+step : (c : tie.After-next-state Inv-loop μ-loop) → Step (c .before .before .before .loop .rest .now) (c .before .token-at .result) (c .before .before .before .loop .state) (c .next-state .result)
+step c = record { some = c .before .before .loop-test .taken; bare = c .before .before .before .loop .inv .0; is = c .before .token-at .ensures; to = c .next-state .ensures .0 }
 
 unblanked-requires : tie.Need-unblanked-requires Inv-loop μ-loop
 unblanked-requires c κs = search needs
@@ -49,29 +52,26 @@ sub-result c = let a = c .before .before in
 returns : tie.Need-returns Inv-loop μ-loop
 returns c = let a = c .before .before in
     let l = a .before .before .before in
-    let b = l .before .before .before in
-    row-ends (b .args .q) (b .args .s .now) (l .loop .rest .now) (a .before .token-at .result) (l .loop .state) (a .next-state .result) (a .before .before .loop-test .taken) (l .loop .inv .0) (a .before .token-at .ensures) (a .next-state .ensures .0) (l .loop .inv .1 .1 .1) (c .before .past .result .now) (c .before .past .ensures) (c .if1 .taken) (l .loop .inv .1 .1 .0)
+    row-ends (step a) (l .loop .inv .1 .1 .1) (c .before .past .ensures) (c .if1 .taken) (l .loop .inv .1 .1 .0)
 
 unblanked-requires-2 : tie.Need-unblanked-requires-2 Inv-loop μ-loop
 unblanked-requires-2 c κs = search needs
 
 loop-less : tie.Need-loop-less Inv-loop μ-loop
-loop-less c = let a = c .before .before .before in
-    let l = a .before .before .before in
-    rest-shorter (l .loop .rest .now) (c .before .before .past .result .now) (c .unblanked2 .result .now) (a .before .token-at .result) (a .before .before .loop-test .taken) (a .before .token-at .ensures) (c .before .before .past .ensures) (c .unblanked2 .ensures)
+loop-less c = rest-shorter (step (c .before .before .before)) (c .before .before .past .ensures) (c .unblanked2 .ensures)
 
 loop-again : tie.Need-loop-again Inv-loop μ-loop
 loop-again c = let a = c .before .before .before in
     let l = a .before .before .before in
-    let b = l .before .before .before in
-    let s = b .args .s .now in
-    let p = c .before .before .past in (
-      rest-bare (l .loop .rest .now) (c .before .before .past .result .now) (c .unblanked2 .result .now) (a .before .token-at .result) (a .before .before .loop-test .taken) (a .before .token-at .ensures) (c .before .before .past .ensures) (c .unblanked2 .ensures),
+    let s = l .before .before .before .args .s .now in
+    let p = c .before .before .past in
+    let t = c .unblanked2 in (
+      unblank-bare (p .result .now) (t .result .now) (t .ensures),
       (
         a .next-state .ensures .1,
         (
-          behind-unblank s (p .result .now) (c .unblanked2 .result .now) (behind-drop s (l .loop .rest .now) (p .result .now) (a .before .token-at .result .size) (l .loop .inv .1 .1 .0) (p .ensures)) (c .unblanked2 .ensures),
-          continues-next (b .args .q) s (l .loop .rest .now) (a .before .token-at .result) (l .loop .state) (a .next-state .result) (a .before .before .loop-test .taken) (l .loop .inv .0) (a .before .token-at .ensures) (a .next-state .ensures .0) (l .loop .inv .1 .1 .1) (p .result .now) (p .ensures) (c .before .if1 .left) (c .unblanked2 .result .now) (c .unblanked2 .ensures),
+          behind-unblank s (p .result .now) (t .result .now) (behind-drop s (l .loop .rest .now) (p .result .now) (a .before .token-at .result .size) (l .loop .inv .1 .1 .0) (p .ensures)) (t .ensures),
+          continues-next (step a) (l .loop .inv .1 .1 .1) (p .ensures) (c .before .if1 .left) (t .ensures),
         ),
       ),
     )

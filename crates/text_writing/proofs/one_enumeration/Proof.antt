@@ -1,20 +1,19 @@
 use Rattle.text_writing.proofs.KindTestLaws.{one-enumeration-no, one-enumeration-yes}
-use native.Mathlib.Omega.{arith}
 use borrow.Author.Needs.{needs}
 use Rattle.text_writing.proofs.one_enumeration.Statement.{statement}
 use Rattle.text_writing.proofs.one_enumeration.Tie as tie
 use Rattle.text_writing.proofs.one_enumeration.Reads as reads
 use Rattle.text_writing.proofs.one_enumeration.Lts as lts
-use Rattle.text_parts.proofs.what.Reads as what-reads
+use Rattle.text_outlines.proofs.what.Reads as what-reads
 
 what-requires : tie.Need-what-requires
 what-requires c κs = search needs
 
 returns : tie.Need-returns
-returns c = (one-enumeration-yes _ (c .before .what .ensures .0) (c .if1 .taken), omega arith)
+returns c = search (needs, one-enumeration-yes)
 
 returns-2 : tie.Need-returns-2
-returns-2 c = (one-enumeration-no _ (c .before .what .ensures .0) (c .if1 .left), omega arith)
+returns-2 c = search (needs, one-enumeration-no)
 
 pub one-enumeration-spec : {M : Type 1} → statement M
 one-enumeration-spec = tie.close (tie.spec what-requires returns returns-2)

@@ -30,7 +30,7 @@ returns c =
     let b = c .before .before .before .before .before .before .before .before .before in
     let p = c .before .before .put-plain-type .ensures in
     let n = c .before .before .before .before .narrow in
-    (p .0, put-as (p .1) _ (slot-field (b .args .values) (b .args .i) (b .pre .1 .0) (n .ensures) (c .before .before .before .slot-name .ensures)))
+    put-as (p .1) _ (slot-field (b .args .values) (b .args .i) (b .pre .1 .0) (n .ensures) (c .before .before .before .slot-name .ensures))
 
 pub put-plain-at-spec : {M : Type 1} → statement M
 put-plain-at-spec =

@@ -2,7 +2,7 @@
 
 use crate::product;
 use brute::{compare_within, judge, read_diagram, read_record, Diagram};
-use generators::diagrams::{diagram, loosened, Size, SMALL, TINY};
+use generators::diagrams::{diagram, loosened, Size, LARGE, SMALL, TINY};
 use generators::edits::{edited, redrawn};
 use generators::fillings::searched_soon;
 use generators::hex::hex;
@@ -30,18 +30,10 @@ const WIDE: Size = Size {
     associations: 4,
 };
 
-/// As many parts as the format allows; compared with one object at most.
-const LARGE: Size = Size {
-    value_types: 12,
-    types: 24,
-    attributes: 32,
-    associations: 16,
-};
-
 /// A size of pairs, and the bound up to which pairs of that size are compared.
 type SizeAndBound = (Size, usize);
 
-/// Pairs of every size.
+/// Pairs of every size; the largest are compared with one object at most.
 const SIZES: [SizeAndBound; 6] = [
     (TINY, BOUND),
     (SMALL, BOUND),

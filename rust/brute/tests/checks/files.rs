@@ -3,7 +3,7 @@
 use crate::product;
 use brute::{read_diagram, read_record};
 use generators::damage::{cuts, damaged};
-use generators::diagrams::{diagram, Size, SMALL};
+use generators::diagrams::{diagram, LARGE, SMALL};
 use generators::faults::faulty;
 use generators::fields::{file, Field};
 use generators::hex::hex;
@@ -12,14 +12,6 @@ use generators::{CallPlan, DiagramPlan, Random};
 
 /// How often each reply came: index 0 counts accepted files, the others refusals by number.
 pub type Tally = [usize; 11];
-
-/// A size that comes near the format's limits.
-const LARGE: Size = Size {
-    value_types: 12,
-    types: 24,
-    attributes: 32,
-    associations: 16,
-};
 
 /// The diagram files of a seed: one diagram whole, cut and damaged.
 pub fn diagram_files(seed: u64) -> Vec<Vec<u8>> {

@@ -1,7 +1,8 @@
 //! Are records judged and evaluated, and diagrams compiled, alike?
 
 use crate::product;
-use brute::{compile, evaluate, judge, read_diagram, read_record};
+use crate::questions::{answers, questions};
+use brute::read_diagram;
 use generators::diagrams::{diagram, Size, SMALL};
 use generators::edits::edited;
 use generators::hex::hex;
@@ -45,24 +46,11 @@ fn under(seed: u64, plan: &DiagramPlan, records: &[Vec<u8>], tally: &mut Tally) 
     let place = seed as u8 % 2;
     let file = plan.file();
     let diagram = read_diagram(&file).expect("generated diagrams are accepted");
-    let mut calls = vec![CallPlan::Load { place, file }, CallPlan::Compile { place }];
-    let mut expected = vec![vec![0], compiled(&compile(&diagram), tally)];
-    for file in records {
-        let record = read_record(file).expect("generated records are accepted");
-        let (rule, first) = (judge(&diagram, &record), evaluate(&diagram, &record));
-        count(tally, rule, first, expected[1][1]);
-        let (judged, evaluated) = (file.clone(), file.clone());
-        calls.push(CallPlan::Judge {
-            place,
-            file: judged,
-        });
-        calls.push(CallPlan::Evaluate {
-            place,
-            file: evaluated,
-        });
-        expected.push(vec![0, rule]);
-        expected.push(vec![0, first]);
-    }
+    let load = CallPlan::Load { place, file };
+    let calls = [vec![load], questions(place, records)].concat();
+    let answers = answers(&diagram, records);
+    count(tally, &answers);
+    let expected = [vec![vec![0]], answers].concat();
     for ((call, got), wanted) in calls.iter().zip(product::replies(&calls)).zip(&expected) {
         assert_eq!(got, *wanted, "{}", message(seed, plan, call));
     }
@@ -83,23 +71,21 @@ fn message(seed: u64, plan: &DiagramPlan, call: &CallPlan) -> String {
     )
 }
 
-/// The reply that compile should give: the number, the list, and zeros up to 64 entries.
-fn compiled(list: &[[u8; 5]], tally: &mut Tally) -> Vec<u8> {
-    let mut reply = vec![0, list.len() as u8];
-    for entry in list {
-        reply.extend_from_slice(entry);
+/// Counts what the answers show: the kinds of the list, and of each record the rule and whether a
+/// predicate does not hold.
+fn count(tally: &mut Tally, answers: &[Vec<u8>]) {
+    let (compiled, judged) = (&answers[0], &answers[1..]);
+    let number = compiled[1];
+    for entry in compiled[2..].chunks(5).take(usize::from(number)) {
         tally.kinds[usize::from(entry[0])] += 1;
     }
-    reply.resize(2 + 64 * 5, 0);
-    reply
-}
-
-/// Counts what a record showed.
-fn count(tally: &mut Tally, rule: u8, first: u8, number: u8) {
-    tally.rules[usize::from(rule)] += 1;
-    if first < number {
-        tally.false_predicates += 1;
-    } else {
-        tally.all_hold += 1;
+    for pair in judged.chunks(2) {
+        let (rule, first) = (pair[0][1], pair[1][1]);
+        tally.rules[usize::from(rule)] += 1;
+        if first < number {
+            tally.false_predicates += 1;
+        } else {
+            tally.all_hold += 1;
+        }
     }
 }

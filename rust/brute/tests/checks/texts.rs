@@ -1,10 +1,9 @@
 //! Are the same texts accepted, refused for the same reason, and read as the same diagram?
 
 use crate::product;
-use brute::{
-    compare_within, compile, evaluate, judge, read_record, read_text, write_diagram, Diagram,
-};
-use generators::diagrams::{diagram, Size, SMALL};
+use crate::questions::{answers, questions};
+use brute::{compare_within, read_text, write_diagram, Diagram};
+use generators::diagrams::{diagram, LARGE, SMALL};
 use generators::faults::faulty;
 use generators::records::record;
 use generators::text_damage::{damaged_bytes, damaged_tokens};
@@ -14,14 +13,6 @@ use generators::{CallPlan, DiagramPlan, Random};
 
 /// How often each reply came: index 0 counts accepted texts, the others refusals by number.
 pub type Tally = [usize; 25];
-
-/// A size that comes near the format's limits.
-const LARGE: Size = Size {
-    value_types: 12,
-    types: 24,
-    attributes: 32,
-    associations: 16,
-};
 
 /// Nodes that the independent search may visit for a diagram beside itself.
 const BUDGET: u64 = 5_000;
@@ -167,36 +158,4 @@ fn same_diagram(seed: u64, text: &[u8], diagram: &Diagram, records: &[Vec<u8>]) 
     assert_eq!(by_text, expected, "not the independent replies\n{shown}");
     assert_eq!(rest[0], [0, 0], "text and file differ\n{shown}");
     assert_eq!(rest[3], [0, 0], "file and text differ\n{shown}");
-}
-
-/// Compile, and judge and evaluate of each record.
-fn questions(place: u8, records: &[Vec<u8>]) -> Vec<CallPlan> {
-    let mut calls = vec![CallPlan::Compile { place }];
-    for file in records {
-        let (judged, evaluated) = (file.clone(), file.clone());
-        calls.push(CallPlan::Judge {
-            place,
-            file: judged,
-        });
-        calls.push(CallPlan::Evaluate {
-            place,
-            file: evaluated,
-        });
-    }
-    calls
-}
-
-/// The independent replies to these questions.
-fn answers(diagram: &Diagram, records: &[Vec<u8>]) -> Vec<Vec<u8>> {
-    let list = compile(diagram);
-    let mut compiled = vec![0, list.len() as u8];
-    compiled.extend(list.concat());
-    compiled.resize(2 + 64 * 5, 0);
-    let mut replies = vec![compiled];
-    for file in records {
-        let record = read_record(file).expect("generated records are accepted");
-        replies.push(vec![0, judge(diagram, &record)]);
-        replies.push(vec![0, evaluate(diagram, &record)]);
-    }
-    replies
 }

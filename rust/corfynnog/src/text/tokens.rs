@@ -96,6 +96,14 @@ fn length_of(bytes: &[u8], is_of: impl Fn(u8) -> bool) -> usize {
 #[cfg(test)]
 mod tests {
     use super::*;
+    use generators::text_damage;
+
+    /// The generators have lists of their own.
+    #[test]
+    fn words_and_marks_are_those_of_the_generators() {
+        assert_eq!(QUOTED, text_damage::KEYWORDS);
+        assert_eq!(MARKS, text_damage::MARKS);
+    }
 
     /// Words and marks with a blank between, a stray byte as `!`.
     fn told(text: &str) -> String {

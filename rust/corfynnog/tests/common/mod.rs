@@ -1,6 +1,7 @@
 //! What the tests share: running the built program, and files to run it on.
 #![allow(dead_code)]
 
+pub mod constructs;
 pub mod json;
 pub mod sites;
 
@@ -69,19 +70,20 @@ impl Folder {
     pub fn line(&self, line: &str) -> Ran {
         self.run(&line.split_whitespace().collect::<Vec<_>>())
     }
-}
 
-/// Bytes from their hexadecimal digits.
-pub fn hex(digits: &str) -> Vec<u8> {
-    let digits: Vec<u8> = digits
-        .bytes()
-        .filter(|b| !b.is_ascii_whitespace())
-        .collect();
-    let pairs = digits.chunks(2);
-    pairs
-        .map(|pair| {
-            let pair = std::str::from_utf8(pair).expect("digits");
-            u8::from_str_radix(pair, 16).expect("hexadecimal digits")
-        })
-        .collect()
+    /// Runs a line that has this exit status and complains of nothing; what it prints.
+    #[track_caller]
+    pub fn answer(&self, status: i32, line: &str) -> String {
+        let ran = self.line(line);
+        assert_eq!((ran.status, ran.err.as_str()), (status, ""), "{line}");
+        ran.out
+    }
+
+    /// Runs a line that goes wrong and prints nothing; what it complains of.
+    #[track_caller]
+    pub fn complaint(&self, line: &str) -> String {
+        let ran = self.line(line);
+        assert_eq!((ran.status, ran.out.as_str()), (2, ""), "{line}");
+        ran.err
+    }
 }

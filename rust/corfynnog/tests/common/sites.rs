@@ -1,6 +1,21 @@
 //! Shelves and cards: small diagrams and records with known answers.
 
-use super::hex;
+use super::Folder;
+use generators::hex::bytes;
+
+/// A folder with the diagrams and records that most tests take.
+pub fn folder(test: &str) -> Folder {
+    let folder = Folder::of(test);
+    folder.put("p.diagram", &p());
+    folder.put("q.diagram", &q());
+    folder.put("s.diagram", &s());
+    folder.put("e.diagram", &e());
+    folder.put("z.diagram", &z());
+    folder.put("shelf3.record", &shelf_with(3));
+    folder.put("card.record", &card());
+    folder.put("empty.record", &empty_site());
+    folder
+}
 
 /// Classes Shelf and Card, and the composition between them with these limits.
 fn shelf_and_card(left: (u8, u8), right: (u8, u8)) -> Vec<u8> {
@@ -31,12 +46,12 @@ pub fn s() -> Vec<u8> {
 
 /// No types.
 pub fn e() -> Vec<u8> {
-    hex("10 00 01 01")
+    bytes("10 00 01 01")
 }
 
 /// One singleton class, Main.
 pub fn z() -> Vec<u8> {
-    hex("10 00 01 01 30 00 07 03 04 4D 61 69 6E 00")
+    bytes("10 00 01 01 30 00 07 03 04 4D 61 69 6E 00")
 }
 
 /// Line and Port, an association with that arrow between them, at most one each way.
@@ -74,7 +89,7 @@ pub fn card() -> Vec<u8> {
 
 /// Nothing at all.
 pub fn empty_site() -> Vec<u8> {
-    hex("60 00 01 00")
+    bytes("60 00 01 00")
 }
 
 /// A shelf that stands on a card.

@@ -1,83 +1,90 @@
 use mathlib.Core.Path.{refl}
-use native.Mathlib.Omega.{arith}
-use Rattle.laws.specs.Lists.{joined}
-use Rattle.texts.specs.Table.{lookup, next}
-use Rattle.text_rows.proofs.TableLaws.{state-marked, state-stray, state-worded}
 use borrow.Author.Needs.{needs}
+use Rattle.text_rows.proofs.TableLaws.{arrives, as-name, outside, stray}
 use Rattle.text_rows.proofs.table.next_state.Statement.{statement}
 use Rattle.text_rows.proofs.table.next_state.Tie as tie
 use Rattle.text_rows.proofs.table.next_state.Reads as reads
 use Rattle.text_rows.proofs.table.next_state.Lts as lts
-use Rattle.laws.proofs.wide.Reads as wide-reads
-use Rattle.text_rows.proofs.table.state_of.Reads as state-of-reads
-
-wide-requires : tie.Need-wide-requires
-wide-requires c κs = search needs
-
-wide-requires-2 : tie.Need-wide-requires-2
-wide-requires-2 c κs = search needs
-
-mul-state-of : tie.Need-mul-state-of
-mul-state-of c = search needs
-
-index-1-state-of : tie.Need-index-1-state-of
-index-1-state-of c = search needs
-
-index-2-state-of : tie.Need-index-2-state-of
-index-2-state-of c = search needs
-
-state-of-requires : tie.Need-state-of-requires
-state-of-requires c κs = search needs
-
-returns : tie.Need-returns
-unfolding joined next lookup
-returns c = let w = c .before .before .before in
-    let b = w .before .before in
-    state-marked (b .args .q) (b .pre .0) (b .args .c) (w .before .if1 .taken) (w .wide .result) (c .before .before .wide2 .result) _ (c .state-of .result) (w .wide .ensures .0) (c .before .before .wide2 .ensures .0) refl (c .state-of .ensures)
-
-wide-requires-3 : tie.Need-wide-requires-3
-wide-requires-3 c κs = search needs
-
-wide-requires-4 : tie.Need-wide-requires-4
-wide-requires-4 c κs = search needs
-
-mul-state-of-2 : tie.Need-mul-state-of-2
-mul-state-of-2 c = search needs
-
-index-1-state-of-2 : tie.Need-index-1-state-of-2
-index-1-state-of-2 c = search needs
-
-index-2-state-of-2 : tie.Need-index-2-state-of-2
-index-2-state-of-2 c = search needs
-
-state-of-requires-2 : tie.Need-state-of-requires-2
-state-of-requires-2 c κs = search needs
-
-returns-2 : tie.Need-returns-2
-unfolding joined next lookup
-returns-2 c = let w = c .before .before .before in
-    let b = w .before .before .before in
-    state-worded (b .args .q) (b .pre .0) (b .args .c) (w .before .before .if1 .left) (w .before .if2 .taken) (w .wide3 .result) (c .before .before .wide4 .result) _ (c .state-of2 .result) (w .wide3 .ensures .0) (c .before .before .wide4 .ensures .0) refl (c .state-of2 .ensures)
-
-returns-3 : tie.Need-returns-3
-returns-3 c = let b = c .before .before in (state-stray (b .args .q) (b .pre .0) (b .args .c) (c .if2 .left) (b .pre .1), omega arith)
+use Rattle.text_rows.proofs.table.by_name.Reads as by-name-reads
 
 pub next-state-spec : {M : Type 1} → statement M
 next-state-spec =
     tie.close
     (tie.spec
-    wide-requires
-    wide-requires-2
-    mul-state-of
-    index-1-state-of
-    index-2-state-of
-    state-of-requires
-    returns
-    wide-requires-3
-    wide-requires-4
-    mul-state-of-2
-    index-1-state-of-2
-    index-2-state-of-2
-    state-of-requires-2
-    returns-2
-    returns-3)
+    (λ c κs. search needs)
+    (λ c κs. search needs)
+    (λ c κs. search needs)
+    (λ c. arrives (c .before .before .pre .0) 0 (c .before .match .keys1) 0 refl (c .match2 .keys1))
+    (λ c. outside (c .before .before .pre .0) 0 (c .before .match .keys1) refl (c .match2 .rest) refl)
+    (λ c. arrives (c .before .before .pre .0) 1 (c .before .match .keys2) 0 refl (c .match3 .keys1))
+    (λ c. outside (c .before .before .pre .0) 1 (c .before .match .keys2) refl (c .match3 .rest) refl)
+    (λ c. arrives (c .before .before .pre .0) 2 (c .before .match .keys3) 0 refl (c .match4 .keys1))
+    (λ c. outside (c .before .before .pre .0) 2 (c .before .match .keys3) refl (c .match4 .rest) refl)
+    (λ c. arrives (c .before .before .pre .0) 3 (c .before .match .keys4) 0 refl (c .match5 .keys1))
+    (λ c. outside (c .before .before .pre .0) 3 (c .before .match .keys4) refl (c .match5 .rest) refl)
+    (λ c. arrives (c .before .before .pre .0) 4 (c .before .match .keys5) 0 refl (c .match6 .keys1))
+    (λ c. outside (c .before .before .pre .0) 4 (c .before .match .keys5) refl (c .match6 .rest) refl)
+    (λ c. arrives (c .before .before .pre .0) 5 (c .before .match .keys6) 0 refl (c .match7 .keys1))
+    (λ c. outside (c .before .before .pre .0) 5 (c .before .match .keys6) refl (c .match7 .rest) refl)
+    (λ c. arrives (c .before .before .pre .0) 6 (c .before .match .keys7) 0 refl (c .match8 .keys1))
+    (λ c. arrives (c .before .before .pre .0) 6 (c .before .match .keys7) 1 refl (c .match8 .keys2))
+    (λ c. outside (c .before .before .pre .0) 6 (c .before .match .keys7) refl (c .match8 .rest) refl)
+    (λ c. arrives (c .before .before .pre .0) 7 (c .before .match .keys8) 0 refl (c .match9 .keys1))
+    (λ c. arrives (c .before .before .pre .0) 7 (c .before .match .keys8) 1 refl (c .match9 .keys2))
+    (λ c. arrives (c .before .before .pre .0) 7 (c .before .match .keys8) 2 refl (c .match9 .keys3))
+    (λ c. outside (c .before .before .pre .0) 7 (c .before .match .keys8) refl (c .match9 .rest) refl)
+    (λ c. arrives (c .before .before .pre .0) 8 (c .before .match .keys9) 0 refl (c .match10 .keys1))
+    (λ c. arrives (c .before .before .pre .0) 8 (c .before .match .keys9) 1 refl (c .match10 .keys2))
+    (λ c. outside (c .before .before .pre .0) 8 (c .before .match .keys9) refl (c .match10 .rest) refl)
+    (λ c. arrives (c .before .before .pre .0) 9 (c .before .match .keys10) 0 refl (c .match11 .keys1))
+    (λ c. arrives (c .before .before .pre .0) 9 (c .before .match .keys10) 1 refl (c .match11 .keys2))
+    (λ c. arrives (c .before .before .pre .0) 9 (c .before .match .keys10) 2 refl (c .match11 .keys3))
+    (λ c. outside (c .before .before .pre .0) 9 (c .before .match .keys10) refl (c .match11 .rest) refl)
+    (λ c. arrives (c .before .before .pre .0) 10 (c .before .match .keys11) 0 refl (c .match12 .keys1))
+    (λ c. arrives (c .before .before .pre .0) 10 (c .before .match .keys11) 1 refl (c .match12 .keys2))
+    (λ c. arrives (c .before .before .pre .0) 10 (c .before .match .keys11) 2 refl (c .match12 .keys3))
+    (λ c. arrives (c .before .before .pre .0) 10 (c .before .match .keys11) 3 refl (c .match12 .keys4))
+    (λ c. outside (c .before .before .pre .0) 10 (c .before .match .keys11) refl (c .match12 .rest) refl)
+    (λ c. arrives (c .before .before .pre .0) 11 (c .before .match .keys12) 0 refl (c .match13 .keys1))
+    (λ c. arrives (c .before .before .pre .0) 11 (c .before .match .keys12) 1 refl (c .match13 .keys2))
+    (λ c. outside (c .before .before .pre .0) 11 (c .before .match .keys12) refl (c .match13 .rest) refl)
+    (λ c. arrives (c .before .before .pre .0) 12 (c .before .match .keys13) 0 refl (c .match14 .keys1))
+    (λ c. arrives (c .before .before .pre .0) 12 (c .before .match .keys13) 1 refl (c .match14 .keys2))
+    (λ c. outside (c .before .before .pre .0) 12 (c .before .match .keys13) refl (c .match14 .rest) refl)
+    (λ c. arrives (c .before .before .pre .0) 13 (c .before .match .keys14) 0 refl (c .match15 .keys1))
+    (λ c. arrives (c .before .before .pre .0) 13 (c .before .match .keys14) 1 refl (c .match15 .keys2))
+    (λ c. outside (c .before .before .pre .0) 13 (c .before .match .keys14) refl (c .match15 .rest) refl)
+    (λ c. arrives (c .before .before .pre .0) 14 (c .before .match .keys15) 0 refl (c .match16 .keys1))
+    (λ c. arrives (c .before .before .pre .0) 14 (c .before .match .keys15) 1 refl (c .match16 .keys2))
+    (λ c. outside (c .before .before .pre .0) 14 (c .before .match .keys15) refl (c .match16 .rest) refl)
+    (λ c. arrives (c .before .before .pre .0) 15 (c .before .match .keys16) 0 refl (c .match17 .keys1))
+    (λ c. arrives (c .before .before .pre .0) 15 (c .before .match .keys16) 1 refl (c .match17 .keys2))
+    (λ c. outside (c .before .before .pre .0) 15 (c .before .match .keys16) refl (c .match17 .rest) refl)
+    (λ c. arrives (c .before .before .pre .0) 16 (c .before .match .keys17) 0 refl (c .match18 .keys1))
+    (λ c. outside (c .before .before .pre .0) 16 (c .before .match .keys17) refl (c .match18 .rest) refl)
+    (λ c. arrives (c .before .before .pre .0) 17 (c .before .match .keys18) 0 refl (c .match19 .keys1))
+    (λ c. outside (c .before .before .pre .0) 17 (c .before .match .keys18) refl (c .match19 .rest) refl)
+    (λ c. arrives (c .before .before .pre .0) 18 (c .before .match .keys19) 0 refl (c .match20 .keys1))
+    (λ c. arrives (c .before .before .pre .0) 18 (c .before .match .keys19) 1 refl (c .match20 .keys2))
+    (λ c. outside (c .before .before .pre .0) 18 (c .before .match .keys19) refl (c .match20 .rest) refl)
+    (λ c. arrives (c .before .before .pre .0) 19 (c .before .match .keys20) 0 refl (c .match21 .keys1))
+    (λ c. outside (c .before .before .pre .0) 19 (c .before .match .keys20) refl (c .match21 .rest) refl)
+    (λ c. arrives (c .before .before .pre .0) 20 (c .before .match .keys21) 0 refl (c .match22 .keys1))
+    (λ c. outside (c .before .before .pre .0) 20 (c .before .match .keys21) refl (c .match22 .rest) refl)
+    (λ c. arrives (c .before .before .pre .0) 21 (c .before .match .keys22) 0 refl (c .match23 .keys1))
+    (λ c. outside (c .before .before .pre .0) 21 (c .before .match .keys22) refl (c .match23 .rest) refl)
+    (λ c. arrives (c .before .before .pre .0) 22 (c .before .match .keys23) 0 refl (c .match24 .keys1))
+    (λ c. outside (c .before .before .pre .0) 22 (c .before .match .keys23) refl (c .match24 .rest) refl)
+    (λ c. arrives (c .before .before .pre .0) 23 (c .before .match .keys24) 0 refl (c .match25 .keys1))
+    (λ c. outside (c .before .before .pre .0) 23 (c .before .match .keys24) refl (c .match25 .rest) refl)
+    (λ c. arrives (c .before .before .pre .0) 24 (c .before .match .keys25) 0 refl (c .match26 .keys1))
+    (λ c. outside (c .before .before .pre .0) 24 (c .before .match .keys25) refl (c .match26 .rest) refl)
+    (λ c. arrives (c .before .before .pre .0) 25 (c .before .match .keys26) 0 refl (c .match27 .keys1))
+    (λ c. as-name (c .before .before .before .pre .0) 25 (c .before .before .match .keys26) refl (c .before .match27 .rest) refl (c .by-name .ensures))
+    (λ c. arrives (c .before .before .pre .0) 26 (c .before .match .keys27) 0 refl (c .match28 .keys1))
+    (λ c. arrives (c .before .before .pre .0) 26 (c .before .match .keys27) 1 refl (c .match28 .keys2))
+    (λ c. arrives (c .before .before .pre .0) 26 (c .before .match .keys27) 2 refl (c .match28 .keys3))
+    (λ c. arrives (c .before .before .pre .0) 26 (c .before .match .keys27) 3 refl (c .match28 .keys4))
+    (λ c. as-name (c .before .before .before .pre .0) 26 (c .before .before .match .keys27) refl (c .before .match28 .rest) refl (c .by-name2 .ensures))
+    (λ c. rw (c .before .match .keys28) (c .by-name3 .ensures))
+    (λ c. stray (c .before .pre .0) (c .before .pre .1) (c .match .rest)))

@@ -1,63 +1,44 @@
-use mathlib.Core.Path.{_∙_}
-use Rattle.text_rows.proofs.WordLaws.{word-counted, word-not, word-same}
+use mathlib.Core.Path.{refl}
 use borrow.Author.Needs.{needs}
+use Rattle.text_rows.proofs.CandidateLaws.{is-known, is-unknown}
 use Rattle.text_rows.proofs.tokens.is_word.Statement.{statement}
 use Rattle.text_rows.proofs.tokens.is_word.Tie as tie
 use Rattle.text_rows.proofs.tokens.is_word.Reads as reads
 use Rattle.text_rows.proofs.tokens.is_word.Lts as lts
-use Rattle.laws.proofs.compare.Reads as compare-reads
-use Rattle.laws.proofs.front.Reads as front-reads
-use Rattle.laws.proofs.is_equal.Reads as is-equal-reads
-use Rattle.laws.proofs.wide.Reads as wide-reads
-
-wide-requires : tie.Need-wide-requires
-wide-requires c κs = search needs
-
-mul-n : tie.Need-mul-n
-mul-n c = search needs
-
-array-read-n : tie.Need-array-read-n
-array-read-n c = search needs
-
-returns : tie.Need-returns
-returns c = let b = c .before .before .before in word-not (b .args .i) (c .before .wide .result) (b .pre) (c .before .wide .ensures .0) (b .args .w .now) (c .if1 .taken)
-
-mul-bytes : tie.Need-mul-bytes
-mul-bytes c = search needs
-
-array-copy-out-bytes : tie.Need-array-copy-out-bytes
-array-copy-out-bytes c = search needs
-
-slice-aggregate-front : tie.Need-slice-aggregate-front
-slice-aggregate-front c = let w = c .before .before .before in word-counted (w .before .before .args .i) (w .wide .result) (w .before .before .pre) (w .wide .ensures .0)
-
-front-requires : tie.Need-front-requires
-front-requires c κs = search needs
-
-compare-requires : tie.Need-compare-requires
-compare-requires c κs = search needs
-
-is-equal-requires : tie.Need-is-equal-requires
-is-equal-requires c κs = search needs
-
-returns-2 : tie.Need-returns-2
-returns-2 c = let w = c .before .before .before .before .before .before in
-    let b = w .before .before in
-    let n = c .before .compare .ensures in
-    c .is-equal .ensures ∙ rw n (word-same (b .args .i) (w .wide .result) (b .pre) (w .wide .ensures .0) (b .args .w .now) (c .before .before .front .result .now) (c .before .before .front .ensures))
+use Rattle.fields.proofs.same_name.Reads as same-name-reads
 
 pub is-word-spec : {M : Type 1} → statement M
 is-word-spec =
     tie.close
     (tie.spec
-    wide-requires
-    mul-n
-    array-read-n
-    returns
-    mul-bytes
-    array-copy-out-bytes
-    slice-aggregate-front
-    front-requires
-    compare-requires
-    is-equal-requires
-    returns-2)
+    (λ c. search needs)
+    (λ c κs. search needs)  -- "classdiagram"
+    (λ c. search needs)
+    (λ c κs. search needs)  -- "class"
+    (λ c. search needs)
+    (λ c κs. search needs)  -- "extends"
+    (λ c. search needs)
+    (λ c κs. search needs)  -- "implements"
+    (λ c. search needs)
+    (λ c κs. search needs)  -- "interface"
+    (λ c. search needs)
+    (λ c κs. search needs)  -- "enum"
+    (λ c. search needs)
+    (λ c κs. search needs)  -- "association"
+    (λ c. search needs)
+    (λ c κs. search needs)  -- "composition"
+    (λ c. search needs)
+    (λ c κs. search needs)  -- "abstract"
+    (λ c. search needs)
+    (λ c κs. search needs)  -- "singleton"
+    (λ c. is-known (c .before .before .before .before .args .w .now) 0 refl (c .before .before .match .keys1) (c .same-name .ensures))
+    (λ c. is-known (c .before .before .before .before .args .w .now) 1 refl (c .before .before .match .keys2) (c .same-name2 .ensures))
+    (λ c. is-known (c .before .before .before .before .args .w .now) 2 refl (c .before .before .match .keys3) (c .same-name3 .ensures))
+    (λ c. is-known (c .before .before .before .before .args .w .now) 3 refl (c .before .before .match .keys4) (c .same-name4 .ensures))
+    (λ c. is-known (c .before .before .before .before .args .w .now) 4 refl (c .before .before .match .keys5) (c .same-name5 .ensures))
+    (λ c. is-known (c .before .before .before .before .args .w .now) 5 refl (c .before .before .match .keys6) (c .same-name6 .ensures))
+    (λ c. is-known (c .before .before .before .before .args .w .now) 6 refl (c .before .before .match .keys7) (c .same-name7 .ensures))
+    (λ c. is-known (c .before .before .before .before .args .w .now) 7 refl (c .before .before .match .keys8) (c .same-name8 .ensures))
+    (λ c. is-known (c .before .before .before .before .args .w .now) 8 refl (c .before .before .match .keys9) (c .same-name9 .ensures))
+    (λ c. is-known (c .before .before .before .before .args .w .now) 9 refl (c .before .before .match .keys10) (c .same-name10 .ensures))
+    (λ c. is-unknown (c .before .before .args .w .now) (c .before .before .pre) (c .match .rest)))

@@ -8,7 +8,7 @@ use Rattle.text_rows.proofs.tokens.run_size.Statement.{statement}
 use Rattle.text_rows.proofs.tokens.run_size.Tie as tie
 use Rattle.text_rows.proofs.tokens.run_size.Reads as reads
 use Rattle.text_rows.proofs.tokens.run_size.Lts as lts
-use Rattle.fields.proofs.name_byte.Reads as name-byte-reads
+use Rattle.text_rows.proofs.tokens.is_name_byte.Reads as is-name-byte-reads
 
 abbrev Inv-loop : tie.InvT-loop
 Inv-loop s i₀ i = (i ≤ length s) × (length (run s) ≡ i + length (run (drop i s)))
@@ -19,11 +19,11 @@ abbrev μ-loop : tie.MeasureT-loop
 loop-holds : tie.Need-loop-holds Inv-loop μ-loop
 loop-holds c = search (needs, run-begin)
 
-shared-slice-read-name-byte : tie.Need-shared-slice-read-name-byte Inv-loop μ-loop
-shared-slice-read-name-byte c = search needs
+shared-slice-read-is-name-byte : tie.Need-shared-slice-read-is-name-byte Inv-loop μ-loop
+shared-slice-read-is-name-byte c = search needs
 
-name-byte-requires : tie.Need-name-byte-requires Inv-loop μ-loop
-name-byte-requires c κs = search needs
+is-name-byte-requires : tie.Need-is-name-byte-requires Inv-loop μ-loop
+is-name-byte-requires c κs = search needs
 
 add-i : tie.Need-add-i Inv-loop μ-loop
 add-i c = search needs
@@ -47,8 +47,8 @@ run-size-spec =
     Inv-loop
     μ-loop
     loop-holds
-    shared-slice-read-name-byte
-    name-byte-requires
+    shared-slice-read-is-name-byte
+    is-name-byte-requires
     add-i
     loop-less
     loop-again
