@@ -28,9 +28,9 @@ soak: library
 	@tools/packages cadical
 	@echo "Comparing all sides on made-up input for $(SOAK_MINUTES) minutes (SOAK_MINUTES=N for another time) ..."
 	@SOAK_SEED=$(SOAK_SEED) cargo test --quiet --release --locked --offline --manifest-path rust/Cargo.toml \
-		--package brute --test soak -- --ignored --nocapture
+		--package agreement --test soak -- --ignored --nocapture
 
 # 'make bench TABLE=solver' prints the table beside the solver alone.
 bench: library
 	@tools/packages cadical valgrind
-	@cargo run --quiet --release --locked --offline --manifest-path rust/Cargo.toml --package bench -- $(TABLE)
+	@cargo run --quiet --release --locked --offline --manifest-path rust/Cargo.toml --package benchmarks -- $(TABLE)

@@ -1,14 +1,8 @@
 //! Rows of calls with loads of texts, from the fresh bench, on either side.
 
-#[path = "checks/words.rs"]
-mod words;
-#[allow(dead_code)]
-#[path = "checks/worked_files.rs"]
-mod worked_files;
-
+use agreement::words::said;
+use agreement::worked_files::{empty, p, q, shelf3};
 use boundary::{decode, encode, room_for, Call, Reply};
-use words::said;
-use worked_files::{empty, p, q, shelf3};
 
 /// The function that runs a coded list of calls.
 type Side = fn(&[u8], &mut [u8]) -> usize;

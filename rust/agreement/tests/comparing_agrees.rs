@@ -1,11 +1,6 @@
 //! Compare: the product finds a difference where brute force does, with as few objects.
 
-#[path = "checks/comparing.rs"]
-mod comparing;
-#[path = "checks/product.rs"]
-mod product;
-
-use comparing::{comparing_agrees, four_objects_agree, Tally};
+use agreement::comparing::{comparing_agrees, four_objects_agree, Tally};
 
 /// Pairs of diagrams that are compared.
 const PAIRS: usize = 4_000;

@@ -12,22 +12,11 @@ use generators::{CallPlan, DiagramPlan, Random};
 const BUDGET: u64 = 50_000;
 
 /// How often each status byte came, how many witnesses were checked and how many rows ended early.
-#[derive(Debug)]
+#[derive(Default, Debug)]
 pub struct Tally {
     pub statuses: [usize; 25],
     pub witnesses: usize,
     pub stopped: usize,
-}
-
-impl Tally {
-    /// Nothing counted yet.
-    pub fn new() -> Self {
-        Tally {
-            statuses: [0; 25],
-            witnesses: 0,
-            stopped: 0,
-        }
-    }
 }
 
 /// What both sides made of a list of calls, in buffers that held the same bytes before.

@@ -1,17 +1,10 @@
 //! The worked cases through the product: the table of `crates/cases`, and rows of calls.
 
-#[path = "checks/table.rs"]
-mod table;
-#[path = "checks/words.rs"]
-mod words;
-#[path = "checks/worked_files.rs"]
-mod worked_files;
-
+use agreement::table::{cases, Case};
+use agreement::words::said;
+use agreement::worked_files::{card, e, empty, main_record, p, q, s, shelf3, z};
 use boundary::{run, Call, Reply};
 use brute::{judge, read_diagram, read_record};
-use table::{cases, Case};
-use words::said;
-use worked_files::{card, e, empty, main_record, p, q, s, shelf3, z};
 
 const BUFFER: Call = Call::HandOut { room: 60_000 };
 

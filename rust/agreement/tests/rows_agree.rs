@@ -1,16 +1,13 @@
 //! Rows of calls: the product's reply bytes are the independent bench's.
 
-#[path = "checks/rows.rs"]
-mod rows;
-
+use agreement::rows::{on_both_sides, replies_agree, rows_agree, Tally};
 use generators::calls::{coded, room};
 use generators::hex::bytes;
 use generators::CallPlan;
-use rows::{on_both_sides, replies_agree, rows_agree, Tally};
 
 #[test]
 fn rows_of_calls_agree() {
-    let mut tally = Tally::new();
+    let mut tally = Tally::default();
     for seed in 0..4_000 {
         rows_agree(seed, &mut tally);
     }
@@ -69,7 +66,7 @@ fn same_replies(calls: &[CallPlan], list: &[u8], space: usize) -> usize {
     let shown = format!("{} bytes of calls, room {space}", list.len());
     let before = (0..space).map(|at| at as u8).collect();
     let both = on_both_sides(list, before, &shown);
-    replies_agree(calls, &both, &shown, &mut Tally::new())
+    replies_agree(calls, &both, &shown, &mut Tally::default())
 }
 
 /// The numbers of replies rise from none to all of the calls, and none is passed over.

@@ -1,25 +1,7 @@
 //! The same checks on ever more seeds, and a solver's answers beside both comparers: `make soak`
 //! runs them for SOAK_MINUTES minutes.
 
-#[path = "checks/comparing.rs"]
-mod comparing;
-#[path = "checks/files.rs"]
-mod files;
-#[path = "checks/judging.rs"]
-mod judging;
-#[path = "checks/product.rs"]
-mod product;
-#[path = "checks/questions.rs"]
-mod questions;
-#[path = "checks/rows.rs"]
-mod rows;
-#[path = "checks/solving.rs"]
-mod solving;
-#[path = "checks/text_pairs.rs"]
-mod text_pairs;
-#[path = "checks/texts.rs"]
-mod texts;
-
+use agreement::{comparing, files, judging, rows, solving, text_pairs, texts};
 use std::time::{Duration, Instant, SystemTime, UNIX_EPOCH};
 
 /// A number from the environment, or this one.
@@ -44,7 +26,7 @@ fn every_check_on_many_seeds() {
     let mut seed = first;
     let (mut diagrams, mut records) = (files::Tally::default(), files::Tally::default());
     let (mut judged, mut compared) = (judging::Tally::default(), comparing::Tally::default());
-    let (mut called, mut read) = (rows::Tally::new(), texts::Tally::default());
+    let (mut called, mut read) = (rows::Tally::default(), texts::Tally::default());
     let (mut solved, mut solving_time) = (solving::Tally::default(), Duration::ZERO);
     while seed == first || start.elapsed() < Duration::from_secs(60 * minutes) {
         files::diagrams_agree(seed, &files::diagram_files(seed), &mut diagrams);

@@ -1,24 +1,15 @@
 //! Texts, whole and damaged: the product accepts and refuses as the independent reader does, and
 //! holds the diagram that the text declares.
 
-#[path = "checks/product.rs"]
-mod product;
-#[path = "checks/questions.rs"]
-mod questions;
-#[path = "checks/text_pairs.rs"]
-mod text_pairs;
-#[path = "checks/texts.rs"]
-mod texts;
-
+use agreement::text_pairs::compared_alike;
+use agreement::texts::{texts_agree, whole_texts, whole_texts_agree, Tally};
+use agreement::texts::{texts_damaged_by_byte, texts_damaged_by_token};
 use brute::{read_text, write_diagram};
 use generators::limits::full;
 use generators::text_damage::damaged_tokens;
 use generators::text_layout::laid_out;
 use generators::texts::text;
 use generators::Random;
-use text_pairs::compared_alike;
-use texts::{texts_agree, whole_texts, whole_texts_agree, Tally};
-use texts::{texts_damaged_by_byte, texts_damaged_by_token};
 
 /// Every number from `wanted` must have come at least `least` times.
 fn occurred(tally: &Tally, wanted: &[usize], least: usize) {

@@ -1,13 +1,7 @@
 //! Files, whole and damaged: the product accepts and refuses as the independent readers do.
 
-#[path = "checks/files.rs"]
-mod files;
-#[path = "checks/product.rs"]
-mod product;
-
-use files::{diagram_files, diagrams_agree, record_files, records_agree, Tally};
+use agreement::files::{diagram_files, diagrams_agree, record_files, records_agree, Tally};
 use generators::damage::damaged;
-use generators::diagrams::{diagram, SMALL};
 use generators::limits::full;
 use generators::record_limits::largest;
 use generators::Random;
@@ -59,28 +53,4 @@ fn damage_of_the_largest_files_agrees() {
     diagrams_agree(1, &diagrams, &mut tally);
     records_agree(1, &records, &mut tally);
     occurred(&tally, 0..=3, 5);
-}
-
-#[test]
-fn generated_diagrams_are_accepted() {
-    for seed in 0..500 {
-        let plan = diagram(&mut Random::new(seed), SMALL);
-        let edited = generators::edits::edited(&mut Random::new(seed), &plan);
-        assert!(
-            brute::read_diagram(&plan.file()).is_ok(),
-            "seed {seed}: {plan:?}"
-        );
-        assert!(
-            brute::read_diagram(&edited.file()).is_ok(),
-            "seed {seed}: {edited:?}"
-        );
-    }
-}
-
-#[test]
-fn the_largest_files_have_their_length() {
-    assert_eq!(full().file().len(), 3_926);
-    assert_eq!(largest().file().len(), 59_300);
-    assert!(brute::read_diagram(&full().file()).is_ok());
-    assert!(brute::read_record(&largest().file()).is_ok());
 }

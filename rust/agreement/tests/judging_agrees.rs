@@ -1,13 +1,6 @@
 //! Judge, compile and evaluate: the product replies as the independent judge does.
 
-#[path = "checks/judging.rs"]
-mod judging;
-#[path = "checks/product.rs"]
-mod product;
-#[path = "checks/questions.rs"]
-mod questions;
-
-use judging::{judging_agrees, Tally};
+use agreement::judging::{judging_agrees, Tally};
 
 #[test]
 fn judge_compile_and_evaluate_agree() {
