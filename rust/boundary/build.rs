@@ -1,6 +1,8 @@
-//! Tells the linker where the proved library is, and the reader what to do where it is missing.
+//! Tells the linker where the proved library is, the crate which kit proved it, and the reader what
+//! to do where it is missing.
 
 use std::env;
+use std::fs;
 use std::path::{Path, PathBuf};
 use std::process::exit;
 
@@ -11,6 +13,16 @@ fn library_dir() -> PathBuf {
     }
     let manifest = env::var_os("CARGO_MANIFEST_DIR").expect("cargo sets CARGO_MANIFEST_DIR");
     Path::new(&manifest).join("../../target/staticlib")
+}
+
+/// The kit's identity, which stands beside the library; none where nobody wrote it there.
+fn kit(dir: &Path) -> Option<String> {
+    let file = dir.join("libreplay.kit");
+    let text = fs::read_to_string(&file).ok()?;
+    // A file that is not there would count as changed at every build.
+    println!("cargo:rerun-if-changed={}", file.display());
+    let line = text.lines().next()?.trim();
+    (!line.is_empty()).then(|| line.to_string())
 }
 
 fn main() {
@@ -26,6 +38,9 @@ fn main() {
         exit(1);
     }
     let dir = dir.canonicalize().unwrap_or(dir);
+    let kit = kit(&dir).unwrap_or_else(|| "unknown kit".to_string());
+    println!("cargo:rustc-env=REPLAY_KIT={kit}");
+    println!("cargo:rustc-env=REPLAY_LIB={}/libreplay.a", dir.display());
     println!("cargo:rustc-link-search=native={}", dir.display());
     println!("cargo:rustc-link-lib=static=replay");
 }

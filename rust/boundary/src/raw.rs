@@ -1,6 +1,10 @@
 //! The library's one function, made safe. The only place that declares it.
 
+use std::error::Error;
+use std::fmt;
 use std::thread;
+
+use crate::room::{has_room, SPARE_BYTES};
 
 extern "C" {
     #[link_name = "replay"]
@@ -10,20 +14,40 @@ extern "C" {
 /// Four times what the deepest search is known to take.
 const STACK_BYTES: usize = 8 << 20;
 
+/// There is no memory for the thread that the library runs on.
+#[derive(Clone, Copy, Debug, PartialEq, Eq)]
+pub struct NoMemory;
+
+impl fmt::Display for NoMemory {
+    fn fmt(&self, out: &mut fmt::Formatter) -> fmt::Result {
+        out.write_str("there is no memory for a thread")
+    }
+}
+
+impl Error for NoMemory {}
+
 /// Runs coded calls from a fresh bench, writes the coded replies to the front of `replies` and
 /// returns their number of bytes; bytes behind them stay as they were.
 ///
 /// It stops at the first call that is cut off or unknown, or whose reply does not fit.
-pub fn replay(calls: &[u8], replies: &mut [u8]) -> usize {
+pub fn try_replay(calls: &[u8], replies: &mut [u8]) -> Result<usize, NoMemory> {
+    if !has_room(STACK_BYTES + SPARE_BYTES) {
+        return Err(NoMemory);
+    }
     // A thread of its own, since the stack that a search needs may be more than the caller's.
     thread::scope(|scope| {
         let worker = thread::Builder::new()
             .name("replay".into())
             .stack_size(STACK_BYTES)
             .spawn_scoped(scope, || call_library(calls, replies))
-            .expect("a thread can be started");
-        worker.join().expect("the library returns")
+            .map_err(|_| NoMemory)?;
+        Ok(worker.join().expect("the library returns"))
     })
+}
+
+/// The same where memory is not short; panics where it is.
+pub fn replay(calls: &[u8], replies: &mut [u8]) -> usize {
+    try_replay(calls, replies).expect("a thread can be started")
 }
 
 /// The call itself, on the thread that it is made from.

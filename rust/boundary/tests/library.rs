@@ -1,6 +1,6 @@
 //! The real library, called through this crate.
 
-use boundary::{encode, replay, run, Call, Reply, HAND_OUT_ROOM};
+use boundary::{encode, replay, run, try_run, Call, Reply, HAND_OUT_ROOM};
 
 /// A Card may do without a Shelf.
 const OLD: &[u8] = b"\x10\x00\x01\x01\x30\x00\x08\x00\x05Shelf\x00\x30\x00\x07\x00\x04Card\x00\
@@ -65,6 +65,7 @@ fn a_row_of_all_calls() {
         },
     ];
     assert_eq!(run(&calls), expected);
+    assert_eq!(try_run(&calls), Ok(expected.to_vec()));
 }
 
 #[test]

@@ -1,13 +1,12 @@
 //! What the command line asks for.
 
-use std::ffi::OsString;
+use std::ffi::{OsStr, OsString};
 use std::path::PathBuf;
+use std::time::Duration;
 
-use crate::disk::STANDARD_INPUT;
-use crate::options::{sort, Words};
-
-/// The bound where none is given: the most objects that a record has.
-const DEFAULT_BOUND: u8 = 8;
+use crate::command_forms::{form_named, Form};
+use crate::options::{is_option, sort, Words};
+use crate::shown::shown;
 
 /// A command with its arguments.
 #[derive(Clone, Debug, PartialEq, Eq)]
@@ -15,12 +14,16 @@ pub enum Command {
     Compare {
         old: PathBuf,
         new: PathBuf,
-        bound: u8,
+        /// As it is written; none for the largest one.
+        bound: Option<OsString>,
         out: Option<PathBuf>,
+        all: bool,
+        timeout: Option<Duration>,
     },
     Judge {
         diagram: PathBuf,
-        record: PathBuf,
+        records: Vec<PathBuf>,
+        all: bool,
     },
     Compile {
         diagram: PathBuf,
@@ -30,11 +33,16 @@ pub enum Command {
         record: PathBuf,
     },
     Check {
-        file: PathBuf,
+        files: Vec<PathBuf>,
     },
     Show {
         file: PathBuf,
     },
+    Make {
+        site: PathBuf,
+        out: PathBuf,
+    },
+    Marked,
 }
 
 /// What is to be done.
@@ -57,54 +65,23 @@ pub struct Misuse {
     pub json: bool,
 }
 
-/// Each command and the files it takes.
-pub const COMMANDS: [(&str, &[&str]); 6] = [
-    ("compare", &["OLD", "NEW"]),
-    ("judge", &["DIAGRAM", "RECORD"]),
-    ("compile", &["DIAGRAM"]),
-    ("evaluate", &["DIAGRAM", "RECORD"]),
-    ("check", &["FILE"]),
-    ("show", &["FILE"]),
-];
-
 /// Understands the words behind the program's name.
 pub fn understand(words: &[OsString]) -> Result<Request, Misuse> {
     let json = words.iter().any(|word| word == "--json");
-    let misuse = |command, sentence: String| Misuse {
+    let first = words.iter().position(|word| !is_option(word));
+    let form = first.and_then(|i| words[i].to_str()).and_then(form_named);
+    let misuse = |sentence: String| Misuse {
         sentence,
-        command,
+        command: form.map(|form| form.name),
         json,
     };
-    let is_option = |word: &OsString| word.to_string_lossy().starts_with('-');
-    let first = words.iter().position(|word| !is_option(word));
-    let named = first.map(|i| words[i].to_string_lossy().into_owned());
-    if named.as_deref() == Some("help") {
-        let topic = first.and_then(|i| words.get(i + 1));
-        return help_on(topic).map_err(|sentence| misuse(None, sentence));
-    }
-    let known = COMMANDS
-        .iter()
-        .find(|(name, _)| Some(*name) == named.as_deref());
-    let command = known.map(|(name, _)| *name);
-    let mut rest = words.to_vec();
-    if let Some(index) = first.filter(|_| known.is_some()) {
-        rest.remove(index);
-    }
-    if let (None, Some(name)) = (known, &named) {
-        let sentence = format!("There is no command '{name}'.");
-        return Err(misuse(None, sentence));
-    }
-    let sorted = sort(rest).map_err(|sentence| misuse(command, sentence))?;
-    if sorted.help {
-        return Ok(Request::Help(command));
-    }
-    if sorted.version {
-        return Ok(Request::Version);
-    }
-    let Some((name, files)) = known else {
-        return Err(misuse(None, "A command is missing.".to_string()));
+    let request = match (first, form) {
+        (Some(i), None) if words[i] == "help" => help_on(words.get(i + 1)),
+        (Some(i), None) => Err(no_command(&words[i])),
+        (Some(i), Some(_)) => of_words([&words[..i], &words[i + 1..]].concat(), form),
+        (None, _) => of_words(words.to_vec(), None),
     };
-    build(name, files, sorted).map_err(|sentence| misuse(command, sentence))
+    request.map_err(misuse)
 }
 
 /// `help` and `help COMMAND`.
@@ -112,73 +89,91 @@ fn help_on(topic: Option<&OsString>) -> Result<Request, String> {
     let Some(topic) = topic else {
         return Ok(Request::Help(None));
     };
-    match COMMANDS.iter().find(|(name, _)| topic == name) {
-        Some((name, _)) => Ok(Request::Help(Some(name))),
-        None => Err(format!(
-            "There is no command '{}'.",
-            topic.to_string_lossy()
-        )),
+    match topic.to_str().and_then(form_named) {
+        Some(form) => Ok(Request::Help(Some(form.name))),
+        None => Err(no_command(topic)),
     }
 }
 
-/// The words are those that the command takes.
-fn try_words(name: &str, files: &[&str], words: &Words) -> Result<(), String> {
-    let all = files.join(" and ");
-    if let Some(missing) = files.get(words.files.len()) {
-        return Err(format!("'{name}' needs {all}; {missing} is missing."));
-    }
-    if let Some(extra) = words.files.get(files.len()) {
-        let extra = extra.display();
-        return Err(format!("'{name}' takes {all} only; '{extra}' is too much."));
-    }
-    let is_input = |file: &&PathBuf| file.as_os_str() == STANDARD_INPUT;
-    if words.files.iter().filter(is_input).count() > 1 {
-        return Err("Standard input, '-', can be read only once.".to_string());
-    }
-    if name != "compare" && (words.bound.is_some() || words.out.is_some()) {
-        return Err(format!(
-            "'{name}' has no options --bound and --out; 'compare' has."
-        ));
-    }
-    Ok(())
+/// The sentence for a command that there is not.
+fn no_command(word: &OsStr) -> String {
+    format!("There is no command '{}'.", shown(word))
 }
 
-/// The command with its files.
-fn build(name: &str, files: &[&str], words: Words) -> Result<Request, String> {
-    try_words(name, files, &words)?;
-    let bound = words.bound.map_or(Ok(DEFAULT_BOUND), |b| bound_of(&b))?;
+/// The request by the words behind the command, where one is named.
+fn of_words(words: Vec<OsString>, form: Option<&'static Form>) -> Result<Request, String> {
+    let sorted = sort(words)?;
+    if sorted.has("--help") {
+        return Ok(Request::Help(form.map(|form| form.name)));
+    }
+    if sorted.has("--version") {
+        return Ok(Request::Version);
+    }
+    let form = form.ok_or("A command is missing.")?;
+    form.try_words(&sorted)?;
+    let json = sorted.has("--json");
+    let command = command_of(form.name, sorted)?;
+    Ok(Request::Run { command, json })
+}
+
+/// The command with its files and options.
+fn command_of(name: &str, words: Words) -> Result<Command, String> {
+    let out = words.value("--out").map(PathBuf::from);
+    let all = words.has("--all");
+    let bound = words.value("--bound").cloned();
+    let timeout = words.value("--timeout").map(|t| timeout_of(t));
     let mut files = words.files.into_iter();
     let mut next = || files.next().unwrap_or_default();
-    let command = match name {
+    Ok(match name {
         "compare" => Command::Compare {
             old: next(),
             new: next(),
             bound,
-            out: words.out,
+            out,
+            all,
+            timeout: timeout.transpose()?,
         },
         "judge" => Command::Judge {
             diagram: next(),
-            record: next(),
+            records: files.collect(),
+            all,
         },
         "compile" => Command::Compile { diagram: next() },
         "evaluate" => Command::Evaluate {
             diagram: next(),
             record: next(),
         },
-        "check" => Command::Check { file: next() },
-        _ => Command::Show { file: next() },
-    };
-    Ok(Request::Run {
-        command,
-        json: words.json,
+        "check" => Command::Check {
+            files: files.collect(),
+        },
+        "show" => Command::Show { file: next() },
+        "make" => Command::Make {
+            site: next(),
+            out: out
+                .ok_or("'make' needs --out FILE, the file to write ('-' for standard output).")?,
+        },
+        _ => Command::Marked,
     })
 }
 
-/// A bound that can be handed on; whether it is accepted is not decided here.
-fn bound_of(word: &OsString) -> Result<u8, String> {
-    let text = word.to_string_lossy();
-    text.parse()
-        .map_err(|_| format!("The bound '{text}' is not a number from 0 to 8."))
+/// The longest time limit that can be given, in seconds: over thirty years.
+const MOST_SECONDS: f64 = 1e9;
+
+/// A time limit in seconds, with or without a fraction.
+fn timeout_of(word: &OsStr) -> Result<Duration, String> {
+    let is_plain = |text: &&str| {
+        text.bytes()
+            .all(|byte| byte.is_ascii_digit() || byte == b'.')
+    };
+    let plain = word.to_str().filter(is_plain);
+    let seconds = plain.and_then(|text| text.parse::<f64>().ok());
+    match seconds.filter(|&seconds| 0.0 < seconds && seconds <= MOST_SECONDS) {
+        Some(seconds) => Ok(Duration::from_secs_f64(seconds)),
+        None => Err(format!(
+            "The time limit '{}' is not a number of seconds above 0, such as 60 or 0.5.",
+            shown(word)
+        )),
+    }
 }
 
 #[cfg(test)]
@@ -190,13 +185,15 @@ mod tests {
         understand(&words)
     }
 
-    fn compare(bound: u8, out: Option<&str>, json: bool) -> Result<Request, Misuse> {
+    fn compare(bound: Option<&str>, out: Option<&str>, json: bool) -> Result<Request, Misuse> {
         Ok(Request::Run {
             command: Command::Compare {
                 old: "a".into(),
                 new: "b".into(),
-                bound,
+                bound: bound.map(OsString::from),
                 out: out.map(PathBuf::from),
+                all: false,
+                timeout: None,
             },
             json,
         })
@@ -204,16 +201,59 @@ mod tests {
 
     #[test]
     fn options_stand_anywhere() {
-        assert_eq!(line("compare a b"), compare(8, None, false));
+        assert_eq!(line("compare a b"), compare(None, None, false));
         assert_eq!(
             line("compare --bound 3 a b --out c"),
-            compare(3, Some("c"), false)
+            compare(Some("3"), Some("c"), false)
         );
         assert_eq!(
             line("--json compare a --bound=0 --out=c b"),
-            compare(0, Some("c"), true)
+            compare(Some("0"), Some("c"), true)
         );
-        assert_eq!(line("compare --json -- a b"), compare(8, None, true));
+        assert_eq!(line("compare --json -- a b"), compare(None, None, true));
+    }
+
+    #[test]
+    fn files_that_repeat() {
+        let Ok(Request::Run { command, .. }) = line("judge d --all r - s") else {
+            panic!("a judge");
+        };
+        let expected = Command::Judge {
+            diagram: "d".into(),
+            records: vec!["r".into(), "-".into(), "s".into()],
+            all: true,
+        };
+        assert_eq!(command, expected);
+    }
+
+    #[test]
+    fn time_limits() {
+        for (text, milliseconds) in [("1", 1000), ("0.5", 500), ("2.", 2000), ("007", 7000)] {
+            let Ok(Request::Run { command, .. }) = line(&format!("compare a b --timeout {text}"))
+            else {
+                panic!("{text}");
+            };
+            let limit = Some(Duration::from_millis(milliseconds));
+            assert!(
+                matches!(command, Command::Compare { timeout, .. } if timeout == limit),
+                "{text}"
+            );
+        }
+        for text in [
+            "0",
+            "-1",
+            "+1",
+            "1e3",
+            "inf",
+            "nan",
+            "",
+            ".",
+            "1.2.3",
+            "10000000000",
+        ] {
+            let words = ["compare", "a", "b", "--timeout", text].map(OsString::from);
+            assert!(understand(&words).is_err(), "{text}");
+        }
     }
 
     #[test]
@@ -231,31 +271,38 @@ mod tests {
             ("", "A command is missing."),
             ("--json", "A command is missing."),
             ("compere a b", "There is no command 'compere'."),
+            ("- compare a b", "There is no command '-'."),
             ("help me", "There is no command 'me'."),
             ("compare a", "'compare' needs OLD and NEW; NEW is missing."),
             ("show", "'show' needs FILE; FILE is missing."),
-            ("check a b", "'check' takes FILE only; 'b' is too much."),
+            ("show a b", "'show' takes FILE only; 'b' is too much."),
+            ("marked b", "'marked' takes no file; 'b' is too much."),
             ("compare - -", "Standard input, '-', can be read only once."),
+            ("check - a -", "Standard input, '-', can be read only once."),
             ("compare a b --bond 3", "There is no option '--bond'."),
             (
                 "compare a b --bound",
                 "The option --bound needs a value behind it.",
             ),
             (
-                "compare a b --bound x",
-                "The bound 'x' is not a number from 0 to 8.",
-            ),
-            (
-                "compare a b --bound 256",
-                "The bound '256' is not a number from 0 to 8.",
-            ),
-            (
                 "compare a b --bound 1 --bound 2",
                 "The option --bound is given twice.",
             ),
             (
+                "compare a b --timeout x",
+                "The time limit 'x' is not a number of seconds above 0, such as 60 or 0.5.",
+            ),
+            (
                 "show a --out b",
-                "'show' has no options --bound and --out; 'compare' has.",
+                "'show' has no option --out; 'compare' and 'make' have.",
+            ),
+            (
+                "make a --bound 3",
+                "'make' has no option --bound; 'compare' has.",
+            ),
+            (
+                "make a",
+                "'make' needs --out FILE, the file to write ('-' for standard output).",
             ),
             ("show a --json=1", "There is no option '--json=1'."),
         ];

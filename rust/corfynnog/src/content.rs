@@ -1,7 +1,10 @@
 //! Taking a field's content apart. A fault of the layout is refusal 3.
 
+use std::ops::RangeInclusive;
+
 use crate::fault::Fault;
 use crate::fields::Field;
+use crate::names::count_of;
 
 /// The longest name.
 const NAME_MOST: usize = 16;
@@ -33,8 +36,8 @@ impl<'a> Content<'a> {
     }
 
     /// A fault at the present byte.
-    fn off_layout(&self, what: String) -> Fault {
-        Fault::within(&self.field, 3, self.byte(), what)
+    fn off_layout(&self, what: String, to_do: &str) -> Fault {
+        Fault::within(&self.field, 3, self.byte(), what, to_do)
     }
 
     /// The byte of the file that comes next.
@@ -45,7 +48,8 @@ impl<'a> Content<'a> {
     /// Any number.
     pub fn number(&mut self, what: &str) -> Result<Number, Fault> {
         let Some(&value) = self.field.content.get(self.at) else {
-            return Err(self.off_layout(format!("the content ends before the {what}")));
+            let to_do = "put in what is missing, and correct the field's length";
+            return Err(self.off_layout(format!("the content ends before the {what}"), to_do));
         };
         let byte = self.byte();
         self.at += 1;
@@ -55,18 +59,24 @@ impl<'a> Content<'a> {
         })
     }
 
-    /// A number within a range.
-    pub fn number_in(&mut self, what: &str, least: usize, most: usize) -> Result<usize, Fault> {
+    /// A number within a range; what to do about another one.
+    pub fn number_in(
+        &mut self,
+        what: &str,
+        range: RangeInclusive<usize>,
+        to_do: &str,
+    ) -> Result<usize, Fault> {
         let found = self.number(what)?;
-        if (least..=most).contains(&found.value) {
+        if range.contains(&found.value) {
             return Ok(found.value);
         }
-        let range = match least == most {
+        let (least, most) = (range.start(), range.end());
+        let allowed = match least == most {
             true => format!("only {most} is allowed"),
             false => format!("only {least} to {most} are allowed"),
         };
-        let what = format!("the {what} is {}, but {range}", found.value);
-        Err(Fault::within(&self.field, 3, found.byte, what))
+        let what = format!("the {what} is {}, but {allowed}", found.value);
+        Err(self.fault(3, found.byte, what, to_do))
     }
 
     /// A name of 1 to 16 bytes.
@@ -87,20 +97,25 @@ impl<'a> Content<'a> {
                 "the {what} has {} bytes, but a name has {least} to {NAME_MOST}",
                 length.value
             );
-            return Err(Fault::within(&self.field, 3, length.byte, what));
+            let to_do = match length.value {
+                0 => "put in a name, and correct its length and the field's",
+                _ => "shorten the name, and correct its length and the field's",
+            };
+            return Err(self.fault(3, length.byte, what, to_do));
         }
         let Some(bytes) = self.field.content[self.at..].get(..length.value) else {
-            return Err(self.off_layout(format!(
-                "the {what} announces {} bytes, but the content ends before them",
-                length.value
-            )));
+            let announced = count_of(length.value, "byte", "bytes");
+            let what =
+                format!("the {what} announces {announced}, but the content ends before them");
+            return Err(self.off_layout(what, "correct the length of the name, or of the field"));
         };
         if let Some(bad) = bytes.iter().position(|&byte| !is_name_byte(byte)) {
             let what = format!(
                 "the {what} holds the byte 0x{:02X}, but a name is made of A-Z, a-z, 0-9 and _",
                 bytes[bad]
             );
-            return Err(Fault::within(&self.field, 3, self.byte() + bad, what));
+            let to_do = "put one of these in the place of the byte";
+            return Err(self.fault(3, self.byte() + bad, what, to_do));
         }
         self.at += length.value;
         Ok(FoundName {
@@ -111,18 +126,24 @@ impl<'a> Content<'a> {
 
     /// The content has no further bytes.
     pub fn end(&self) -> Result<(), Fault> {
-        match self.field.content.len() - self.at {
-            0 => Ok(()),
-            1 => Err(self.off_layout("one byte too many at the end of the content".into())),
-            more => {
-                Err(self.off_layout(format!("{more} bytes too many at the end of the content")))
-            }
-        }
+        let (more, to_do) = match self.field.content.len() - self.at {
+            0 => return Ok(()),
+            1 => ("one byte".to_string(), "take it out, and correct"),
+            more => (format!("{more} bytes"), "take them out, and correct"),
+        };
+        let what = format!("{more} too many at the end of the content");
+        Err(self.off_layout(what, &format!("{to_do} the field's length")))
     }
 
-    /// A fault other than of the layout, at a byte that was read before.
-    pub fn fault(&self, refusal: u8, byte: usize, what: String) -> Fault {
-        Fault::within(&self.field, refusal, byte, what)
+    /// A fault at a byte that was read before.
+    pub fn fault(
+        &self,
+        refusal: u8,
+        byte: usize,
+        what: impl Into<String>,
+        to_do: impl Into<String>,
+    ) -> Fault {
+        Fault::within(&self.field, refusal, byte, what, to_do)
     }
 }
 

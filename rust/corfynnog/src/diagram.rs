@@ -20,6 +20,16 @@ impl Kind {
         }
     }
 
+    /// The kind byte.
+    pub fn number(self) -> u8 {
+        match self {
+            Kind::Class => 0,
+            Kind::AbstractClass => 1,
+            Kind::Interface => 2,
+            Kind::Singleton => 3,
+        }
+    }
+
     /// The kind in words.
     pub fn words(self) -> &'static str {
         match self {
@@ -48,6 +58,16 @@ impl Arrow {
             2 => Arrow::Left,
             3 => Arrow::Both,
             _ => Arrow::Plain,
+        }
+    }
+
+    /// The arrow byte.
+    pub fn number(self) -> u8 {
+        match self {
+            Arrow::Right => 1,
+            Arrow::Left => 2,
+            Arrow::Both => 3,
+            Arrow::Plain => 4,
         }
     }
 
@@ -184,14 +204,12 @@ impl Diagram {
             .is_some_and(|own| self.reaches(own, of))
     }
 
-    /// The declarations of an attribute that an object of that type name has to follow.
-    pub fn declarations<'a>(
-        &'a self,
-        type_name: &'a str,
-        attribute: &'a str,
-    ) -> impl Iterator<Item = &'a Attribute> + 'a {
-        self.attributes.iter().filter(move |declared| {
+    /// The indices of an attribute's declarations that an object of that type name has to follow.
+    pub fn declarations(&self, type_name: &str, attribute: &str) -> Vec<usize> {
+        let all = self.attributes.iter().enumerate();
+        let asked = all.filter(|(_, declared)| {
             declared.name == attribute && self.is_instance(type_name, declared.owner)
-        })
+        });
+        asked.map(|(index, _)| index).collect()
     }
 }

@@ -5,13 +5,19 @@
 //! attributes gets a body like a class, which no text may have: it is better refused than read back
 //! without them.
 
-use crate::diagram::{Diagram, Kind, Type, ValueType};
+use crate::diagram::{Attribute, Diagram, Kind, Type, ValueType};
 use crate::names::association_text;
 
 /// The whole diagram.
 pub fn diagram_text(name: &str, diagram: &Diagram) -> String {
     let mut lines = vec![format!("classdiagram {name} {{")];
-    lines.extend(diagram.value_types.iter().map(value_type_line));
+    for value_type in &diagram.value_types {
+        let end = match value_type.constants.is_empty() {
+            true => ";",
+            false => "",
+        };
+        lines.push(format!("  {}{end}", value_type_text(value_type)));
+    }
     for index in 0..diagram.types.len() {
         lines.extend(type_lines(diagram, index));
     }
@@ -22,13 +28,19 @@ pub fn diagram_text(name: &str, diagram: &Diagram) -> String {
     lines.join("\n")
 }
 
-/// `enum Colour {red, green;}` or `enum Date;`
-fn value_type_line(value_type: &ValueType) -> String {
+/// `enum Colour {red, green;}` or `enum Date`, without a semicolon behind it.
+pub fn value_type_text(value_type: &ValueType) -> String {
     let name = &value_type.name;
     match value_type.constants.is_empty() {
-        true => format!("  enum {name};"),
-        false => format!("  enum {name} {{{};}}", value_type.constants.join(", ")),
+        true => format!("enum {name}"),
+        false => format!("enum {name} {{{};}}", value_type.constants.join(", ")),
     }
+}
+
+/// `Colour paint;`
+pub fn attribute_text(diagram: &Diagram, attribute: &Attribute) -> String {
+    let value_type = &diagram.value_types[attribute.value_type];
+    format!("{} {};", value_type.name, attribute.name)
 }
 
 /// A type's head, and its attributes in a body where it has any.
@@ -36,7 +48,7 @@ fn type_lines(diagram: &Diagram, index: usize) -> Vec<String> {
     let head = type_head(diagram, &diagram.types[index]);
     let own = diagram.attributes.iter().filter(|a| a.owner == index);
     let attributes: Vec<String> = own
-        .map(|a| format!("    {} {};", diagram.value_types[a.value_type].name, a.name))
+        .map(|a| format!("    {}", attribute_text(diagram, a)))
         .collect();
     if attributes.is_empty() {
         return vec![format!("  {head};")];
@@ -48,7 +60,7 @@ fn type_lines(diagram: &Diagram, index: usize) -> Vec<String> {
 }
 
 /// `abstract class Card extends Part implements Wired`
-fn type_head(diagram: &Diagram, of: &Type) -> String {
+pub fn type_head(diagram: &Diagram, of: &Type) -> String {
     let keyword = match of.kind {
         Kind::Class => "class",
         Kind::AbstractClass => "abstract class",
@@ -89,7 +101,9 @@ mod tests {
         let diagram = read_diagram(file).expect("a diagram file");
         let text = diagram_text("d", &diagram);
         let read = read_text(text.as_bytes());
-        let read = read.map(|r| r.diagram).map_err(|fault| fault.refusal);
+        let read = read
+            .map(|r| r.diagram)
+            .map_err(|fault| fault.rule.refusal());
         let remarks = unwritable(&diagram);
         (diagram, remarks, read)
     }

@@ -4,6 +4,8 @@ use std::fs::File;
 use std::io::{stdin, Read};
 use std::path::{Path, PathBuf};
 
+use crate::json::Json;
+use crate::shown::shown;
 use crate::text::{is_name, NAME_MOST};
 use crate::trouble::Trouble;
 
@@ -12,15 +14,29 @@ use crate::trouble::Trouble;
 const MOST_BYTES: u64 = 64 << 20;
 
 /// A file's bytes and where they came from.
+#[derive(Clone, Debug)]
 pub struct Loaded {
     pub path: PathBuf,
     pub bytes: Vec<u8>,
 }
 
 impl Loaded {
+    /// A record file that stands in memory alone.
+    pub fn site(file: &[u8]) -> Loaded {
+        Loaded {
+            path: "the site".into(),
+            bytes: file.to_vec(),
+        }
+    }
+
     /// The file's name for people.
     pub fn name(&self) -> String {
-        self.path.display().to_string()
+        shown(&self.path)
+    }
+
+    /// The file's name for scripts.
+    pub fn json_name(&self) -> Json {
+        Json::name(&self.path)
     }
 
     /// A name for the diagram in a diagram file: the file's stem where a text may have it.

@@ -1,4 +1,4 @@
-//! Where a file's first fault lies, and what it is in words.
+//! Where a file's first fault lies, what it is in words, and what to do about it.
 
 use crate::fields::Field;
 
@@ -21,31 +21,42 @@ pub struct Fault {
     /// The byte of the file, counted from 0.
     pub byte: usize,
     pub what: String,
+    pub to_do: String,
 }
 
 impl Fault {
     /// A fault inside a field.
-    pub fn within(field: &Field, refusal: u8, byte: usize, what: String) -> Fault {
+    pub fn within(
+        field: &Field,
+        refusal: u8,
+        byte: usize,
+        what: impl Into<String>,
+        to_do: impl Into<String>,
+    ) -> Fault {
         let place = FieldPlace {
             number: field.number,
             tag: field.tag,
             start: field.start,
         };
         Fault {
-            refusal,
             field: Some(place),
-            byte,
-            what,
+            ..Fault::of_file(refusal, byte, what, to_do)
         }
     }
 
     /// A fault of the file as a whole.
-    pub fn of_file(refusal: u8, byte: usize, what: &str) -> Fault {
+    pub fn of_file(
+        refusal: u8,
+        byte: usize,
+        what: impl Into<String>,
+        to_do: impl Into<String>,
+    ) -> Fault {
         Fault {
             refusal,
             field: None,
             byte,
-            what: what.to_string(),
+            what: what.into(),
+            to_do: to_do.into(),
         }
     }
 }

@@ -1,15 +1,22 @@
 //! JSON that is written, never read.
 
+use std::ffi::{OsStr, OsString};
 use std::fmt;
+use std::os::unix::ffi::OsStrExt;
 
 /// A JSON value; an object keeps the order of its members.
 #[derive(Clone, Debug, PartialEq, Eq)]
 pub enum Json {
     Null,
+    Bool(bool),
     Number(usize),
     Text(String),
+    /// The name of a file, or a word of the command line, byte for byte.
+    Name(OsString),
     List(Vec<Json>),
     Object(Vec<(&'static str, Json)>),
+    /// Several answers, a line each.
+    Lines(Vec<Json>),
 }
 
 impl Json {
@@ -18,9 +25,25 @@ impl Json {
         Json::Text(text.into())
     }
 
+    /// The name of a file or a word of the command line.
+    pub fn name(name: impl AsRef<OsStr>) -> Json {
+        Json::Name(name.as_ref().to_os_string())
+    }
+
     /// A list of whatever becomes JSON.
     pub fn list<T>(items: impl IntoIterator<Item = T>, one: impl FnMut(T) -> Json) -> Json {
         Json::List(items.into_iter().map(one).collect())
+    }
+
+    /// Gives the member of an object another value.
+    pub fn set(&mut self, name: &'static str, value: Json) {
+        let Json::Object(members) = self else {
+            return;
+        };
+        match members.iter_mut().find(|(member, _)| *member == name) {
+            Some(member) => member.1 = value,
+            None => members.push((name, value)),
+        }
     }
 
     /// The value, or null.
@@ -33,14 +56,20 @@ impl fmt::Display for Json {
     fn fmt(&self, out: &mut fmt::Formatter) -> fmt::Result {
         match self {
             Json::Null => out.write_str("null"),
+            Json::Bool(value) => write!(out, "{value}"),
             Json::Number(number) => write!(out, "{number}"),
             Json::Text(text) => write_text(text, out),
+            Json::Name(name) => write_name(name, out),
             Json::List(items) => {
                 out.write_str("[")?;
                 for (i, item) in items.iter().enumerate() {
                     write!(out, "{}{item}", separator(i))?;
                 }
                 out.write_str("]")
+            }
+            Json::Lines(answers) => {
+                let answers: Vec<String> = answers.iter().map(Json::to_string).collect();
+                out.write_str(&answers.join("\n"))
             }
             Json::Object(members) => {
                 out.write_str("{")?;
@@ -63,9 +92,27 @@ fn separator(index: usize) -> &'static str {
     }
 }
 
-/// A string in quotes. File names may hold anything, so that control characters are escaped too.
+/// A string in quotes.
 fn write_text(text: &str, out: &mut fmt::Formatter) -> fmt::Result {
     out.write_str("\"")?;
+    write_letters(text, out)?;
+    out.write_str("\"")
+}
+
+/// A name in quotes. A byte that is no UTF-8 is the lone surrogate with that low byte.
+fn write_name(name: &OsStr, out: &mut fmt::Formatter) -> fmt::Result {
+    out.write_str("\"")?;
+    for chunk in name.as_bytes().utf8_chunks() {
+        write_letters(chunk.valid(), out)?;
+        for byte in chunk.invalid() {
+            write!(out, "\\udc{byte:02x}")?;
+        }
+    }
+    out.write_str("\"")
+}
+
+/// What stands between the quotes; control characters are escaped.
+fn write_letters(text: &str, out: &mut fmt::Formatter) -> fmt::Result {
     for letter in text.chars() {
         match letter {
             '"' => out.write_str("\\\"")?,
@@ -74,7 +121,7 @@ fn write_text(text: &str, out: &mut fmt::Formatter) -> fmt::Result {
             _ => write!(out, "{letter}")?,
         }
     }
-    out.write_str("\"")
+    Ok(())
 }
 
 #[cfg(test)]
@@ -88,10 +135,19 @@ mod tests {
     }
 
     #[test]
+    fn names_are_exact() {
+        let name = |bytes| Json::name(OsStr::from_bytes(bytes)).to_string();
+        assert_eq!(name("é\n\\".as_bytes()), r#""é\u000a\\""#);
+        assert_eq!(name(b"a\xE9b\xFF\x80"), r#""a\udce9b\udcff\udc80""#);
+    }
+
+    #[test]
     fn lists_and_objects() {
         let numbers = Json::list([1, 20], Json::Number);
         let object = Json::Object(vec![("n", numbers), ("none", Json::Null)]);
         assert_eq!(object.to_string(), r#"{"n": [1, 20], "none": null}"#);
+        let both = Json::list([true, false], Json::Bool);
+        assert_eq!(both.to_string(), "[true, false]");
         assert_eq!(Json::List(vec![]).to_string(), "[]");
     }
 }

@@ -56,9 +56,57 @@ pub fn count_of(count: usize, one: &str, more: &str) -> String {
     }
 }
 
+/// The numbers below a count that is not 0.
+pub fn numbers_below(count: usize) -> String {
+    match count {
+        0 | 1 => "0".to_string(),
+        _ => format!("0 to {}", count - 1),
+    }
+}
+
+/// The place of a number in a row, in words up to the ninth.
+pub fn ordinal(number: usize) -> String {
+    const WORDS: [&str; 9] = [
+        "first", "second", "third", "fourth", "fifth", "sixth", "seventh", "eighth", "ninth",
+    ];
+    if let Some(word) = number.checked_sub(1).and_then(|i| WORDS.get(i)) {
+        return word.to_string();
+    }
+    let ending = match (number % 100, number % 10) {
+        (11..=13, _) => "th",
+        (_, 1) => "st",
+        (_, 2) => "nd",
+        (_, 3) => "rd",
+        _ => "th",
+    };
+    format!("{number}{ending}")
+}
+
+/// Numbers and their nouns, each noun for one and for more.
+pub fn counts_in_words(counts: &[(&str, &str, usize)]) -> String {
+    let words = counts.iter().map(|(one, more, n)| count_of(*n, one, more));
+    words.collect::<Vec<_>>().join(", ")
+}
+
 #[cfg(test)]
 mod tests {
     use super::*;
+
+    #[test]
+    fn places_in_a_row() {
+        for (number, words) in [
+            (1, "first"),
+            (9, "ninth"),
+            (13, "13th"),
+            (17, "17th"),
+            (25, "25th"),
+            (33, "33rd"),
+            (257, "257th"),
+            (2049, "2049th"),
+        ] {
+            assert_eq!(ordinal(number), words);
+        }
+    }
 
     #[test]
     fn limits_as_text_and_in_words() {

@@ -31,8 +31,17 @@ fn object_line(record: &Record, object: usize) -> String {
 /// `Colour paint = red;`, and for the unnamed value `Date start = some_type_Date;`
 fn value_text(value: &Value) -> String {
     let (of, attribute) = (&value.value_type, &value.attribute);
-    match value.constant.is_empty() {
-        true => format!("{of} {attribute} = some_type_{of};"),
-        false => format!("{of} {attribute} = {};", value.constant),
-    }
+    let unnamed = unnamed(of);
+    let constant = match value.constant.as_str() {
+        "" => unnamed,
+        // Without the quotation marks it would be read as the unnamed value.
+        constant if constant == unnamed => format!("\"{constant}\""),
+        constant => constant.to_string(),
+    };
+    format!("{of} {attribute} = {constant};")
+}
+
+/// What the unnamed value of a value type is written as.
+pub fn unnamed(value_type: &str) -> String {
+    format!("some_type_{value_type}")
 }

@@ -16,10 +16,15 @@ pub struct Outcome {
     pub status: u8,
     /// For standard output.
     pub text: String,
+    /// The text in one line, where it has more.
+    pub line: Option<String>,
     /// For standard error.
     pub complaint: String,
     /// The whole answer as one object.
     pub json: Json,
+    /// A file for standard output, where one is asked for there; the text then goes to standard
+    /// error.
+    pub file: Option<Vec<u8>>,
 }
 
 impl Outcome {
@@ -28,8 +33,18 @@ impl Outcome {
         Outcome {
             status,
             text,
+            line: None,
             complaint: String::new(),
             json: Json::Object(json),
+            file: None,
+        }
+    }
+
+    /// A complaint without an answer.
+    pub fn trouble(complaint: String, json: Vec<(&'static str, Json)>) -> Outcome {
+        Outcome {
+            complaint,
+            ..Outcome::answer(TROUBLE, String::new(), json)
         }
     }
 }

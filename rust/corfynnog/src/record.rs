@@ -1,6 +1,7 @@
 //! A record by its names and object numbers.
 
-#[derive(Clone, Debug, PartialEq, Eq)]
+/// A value; the order is that of a record file.
+#[derive(Clone, Debug, PartialEq, Eq, PartialOrd, Ord)]
 pub struct Value {
     pub object: usize,
     pub attribute: String,
@@ -9,7 +10,8 @@ pub struct Value {
     pub constant: String,
 }
 
-#[derive(Clone, Debug, PartialEq, Eq)]
+/// A link; the order is that of a record file.
+#[derive(Clone, Debug, PartialEq, Eq, PartialOrd, Ord)]
 pub struct Link {
     pub from: usize,
     pub role: String,
@@ -22,11 +24,25 @@ pub struct Record {
     pub types: Vec<String>,
     pub values: Vec<Value>,
     pub links: Vec<Link>,
+    /// The objects' own names; a record file has none.
+    pub names: Vec<String>,
 }
 
 impl Record {
-    /// An object's name: its type's, and its number among the objects of that type.
+    /// How many objects, values and links it has, each with its noun.
+    pub fn counts(&self) -> [(&'static str, &'static str, usize); 3] {
+        [
+            ("object", "objects", self.types.len()),
+            ("value", "values", self.values.len()),
+            ("link", "links", self.links.len()),
+        ]
+    }
+
+    /// An object's own name, or its type's and its number among the objects of that type.
     pub fn object_name(&self, object: usize) -> String {
+        if let Some(name) = self.names.get(object) {
+            return name.clone();
+        }
         let own = &self.types[object];
         let earlier = self.types[..object].iter().filter(|name| *name == own);
         format!("{own}{}", earlier.count())

@@ -4,50 +4,101 @@ use std::path::PathBuf;
 
 use crate::disk::Loaded;
 use crate::json::Json;
-use crate::text::{excerpt, place_of, read_text, Place};
-use crate::trouble::{look_of, other_kind_advice};
-use crate::words::text_refusal_in_words;
+use crate::kinds::FileIs;
+use crate::shown::shown;
+use crate::text::{excerpt, place_of, read_text, Place, TextFault};
+use crate::trouble::refusal_members;
+use crate::words::{site_rule_in_words, text_refusal_in_words};
 
-/// A text that the library refused.
+/// A text that is refused.
 pub struct RefusedText {
     path: PathBuf,
-    refusal: u8,
+    /// The kind of text that it was read as.
+    is: FileIs,
+    /// The library's number; none where the text is no record that the library could be asked of.
+    refusal: Option<u8>,
     fault: Option<FoundFault>,
-    /// Another kind of file that it looks like.
-    looks_like: Option<&'static str>,
+    rule: &'static str,
+    to_do: String,
 }
 
 /// The first fault by this program's own reading, with its place and its line.
 struct FoundFault {
     what: String,
-    to_do: Option<String>,
     byte: usize,
     place: Place,
     excerpt: [String; 2],
 }
 
+impl FoundFault {
+    /// The fault with its place in that text.
+    fn of(text: &Loaded, at: usize, what: String) -> FoundFault {
+        FoundFault {
+            what,
+            byte: at,
+            place: place_of(&text.bytes, at),
+            excerpt: excerpt(&text.bytes, at),
+        }
+    }
+}
+
 impl RefusedText {
-    /// The fault is told where this program's own reading comes to the library's number.
-    pub fn of(text: &Loaded, refusal: u8) -> RefusedText {
+    /// A diagram text that the library refused. The fault is told where this program's own reading
+    /// comes to the library's number.
+    pub fn diagram(text: &Loaded, refusal: u8) -> RefusedText {
         let found = read_text(&text.bytes).err();
-        let same = found.filter(|fault| fault.refusal == refusal);
+        let same = found.filter(|fault| fault.rule.refusal() == refusal);
+        let words = text_refusal_in_words(refusal);
+        let known = same.as_ref().and_then(|fault| fault.to_do.clone());
         RefusedText {
             path: text.path.clone(),
-            refusal,
-            fault: same.map(|fault| FoundFault {
-                place: place_of(&text.bytes, fault.at),
-                excerpt: excerpt(&text.bytes, fault.at),
-                byte: fault.at,
-                what: fault.what,
-                to_do: fault.to_do,
-            }),
-            looks_like: look_of(&text.bytes).filter(|look| *look != "diagram text"),
+            is: FileIs::DiagramText,
+            refusal: Some(refusal),
+            fault: same.map(|fault| FoundFault::of(text, fault.at, fault.what)),
+            rule: words.rule,
+            to_do: known.unwrap_or_else(|| words.to_do.to_string()),
         }
     }
 
-    /// Which text, which line and column, the line itself, the rule, and what to do.
+    /// A site text that no record file can be made of.
+    pub fn site(text: &Loaded, fault: TextFault) -> RefusedText {
+        let words = site_rule_in_words(fault.rule);
+        RefusedText {
+            path: text.path.clone(),
+            is: FileIs::SiteText,
+            refusal: None,
+            fault: Some(FoundFault::of(text, fault.at, fault.what)),
+            rule: words.rule,
+            to_do: fault.to_do.unwrap_or_else(|| words.to_do.to_string()),
+        }
+    }
+
+    /// Which text is refused, and its refusal where it has a number.
+    fn verdict(&self) -> String {
+        let (name, is) = (shown(&self.path), self.is.words());
+        let number = self.refusal.map(|refusal| format!(" (refusal {refusal})"));
+        format!(
+            "{name} is not an acceptable {is}{}",
+            number.unwrap_or_default()
+        )
+    }
+
+    /// Which text, where, and what is wrong there.
+    pub fn line(&self) -> String {
+        let verdict = self.verdict();
+        match &self.fault {
+            Some(FoundFault {
+                what,
+                place: Place { line, column },
+                ..
+            }) => format!("{verdict}, line {line}, column {column}: {what}."),
+            None => format!("{verdict}: {NOT_FOUND}."),
+        }
+    }
+
+    /// Which text, which line and column, the line itself, the rule of a refusal, and what to do.
     pub fn words(&self) -> String {
-        let (path, refusal) = (self.path.display(), self.refusal);
+        let path = shown(&self.path);
         let place = match &self.fault {
             Some(FoundFault {
                 what,
@@ -57,32 +108,26 @@ impl RefusedText {
             }) => format!("{path}:{line}:{column}: {what}\n    {shown}\n    {sign}"),
             None => format!("  fault: {NOT_FOUND}"),
         };
-        format!(
-            "{path} is not an acceptable diagram text (refusal {refusal}).\n{place}\n  rule:  {}\n  to do: {}",
-            text_refusal_in_words(refusal).rule,
-            self.to_do()
-        )
-    }
-
-    /// A file of another kind is the likeliest mistake where its start says so.
-    fn to_do(&self) -> String {
-        let known = self.fault.as_ref().and_then(|fault| fault.to_do.clone());
-        match self.looks_like {
-            Some(look) => other_kind_advice(look),
-            None => known.unwrap_or_else(|| text_refusal_in_words(self.refusal).to_do.to_string()),
-        }
+        let rule = match self.refusal {
+            Some(_) => format!("  rule:  {}\n", self.rule),
+            None => String::new(),
+        };
+        let (verdict, to_do) = (self.verdict(), &self.to_do);
+        format!("{verdict}.\n{place}\n{rule}  to do: {to_do}")
     }
 
     /// The refusal for scripts.
     pub fn members(&self) -> Vec<(&'static str, Json)> {
         let fault = self.fault.as_ref();
         let number = |of: fn(&FoundFault) -> usize| Json::or_null(fault.map(of), Json::Number);
-        vec![
-            ("result", Json::text("refused")),
-            ("refusal", Json::Number(self.refusal.into())),
-            ("file", Json::text(self.path.to_string_lossy())),
-            ("kind", Json::text("diagram")),
-            ("form", Json::text("text")),
+        refusal_members(vec![
+            (
+                "refusal",
+                Json::or_null(self.refusal, |refusal| Json::Number(refusal.into())),
+            ),
+            ("file", Json::name(&self.path)),
+            ("kind", Json::text(self.is.holds().name)),
+            ("form", Json::text(self.is.form())),
             ("line", number(|fault| fault.place.line)),
             ("column", number(|fault| fault.place.column)),
             ("byte", number(|fault| fault.byte)),
@@ -90,9 +135,9 @@ impl RefusedText {
                 "text",
                 Json::text(fault.map_or(NOT_FOUND, |fault| &fault.what)),
             ),
-            ("rule", Json::text(text_refusal_in_words(self.refusal).rule)),
-            ("to_do", Json::Text(self.to_do())),
-        ]
+            ("rule", Json::text(self.rule)),
+            ("to_do", Json::text(self.to_do.as_str())),
+        ])
     }
 }
 
@@ -106,7 +151,7 @@ mod tests {
     fn refused(text: &str, refusal: u8) -> RefusedText {
         let bytes = text.as_bytes().to_vec();
         let path = "old.cd".into();
-        RefusedText::of(&Loaded { path, bytes }, refusal)
+        RefusedText::diagram(&Loaded { path, bytes }, refusal)
     }
 
     #[test]

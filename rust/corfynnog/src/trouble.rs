@@ -1,76 +1,93 @@
 //! Why a run gives no answer, in words: a file that cannot be read, a refusal, a misuse.
 
+use std::ffi::{OsStr, OsString};
 use std::path::{Path, PathBuf};
 
-use crate::args::Misuse;
-use crate::disk::Loaded;
-use crate::fault::Fault;
-use crate::fields::{tag_name, FileKind, DIAGRAM, RECORD};
+use crate::early_end::NO_MEMORY;
+use crate::file_trouble::RefusedFile;
 use crate::json::Json;
-use crate::outcome::{Outcome, TROUBLE};
-use crate::text::starts_as_text;
+use crate::outcome::Outcome;
+use crate::shown::shown;
 use crate::text_trouble::RefusedText;
 use crate::words::refusal_in_words;
+use crate::wrong_kind::WrongKind;
 
 /// A run without an answer.
 pub enum Trouble {
-    /// One sentence, and where to read more.
-    Misused(Misuse),
+    /// A command that is not understood, or cannot be run as it is given; one sentence.
+    Misused(String),
     /// A file that could not be read, with the reason.
     Unreadable { path: PathBuf, why: String },
+    /// A file that cannot be written.
+    Unwritable(Unwritable),
     /// The library refused a file; the fault where it could be found.
     Refused(Box<RefusedFile>),
-    /// The library refused a text; the fault where it could be found.
+    /// The library refused a diagram text, or a text is no site; the fault where it was found.
     RefusedText(Box<RefusedText>),
-    /// The library refused the bound.
-    BoundRefused { bound: u8, refusal: u8 },
+    /// The library refused a file that is of another kind than the one wanted, or of none.
+    WrongKind(Box<WrongKind>),
+    /// The library refused the bound, as it is written.
+    BoundRefused { bound: OsString, refusal: u8 },
+    /// There is no memory for the search.
+    NoMemory,
     /// A reply that cannot come.
     Unexpected,
 }
 
-/// A file that the library refused.
-pub struct RefusedFile {
+/// A file that cannot be written: why, and what to do.
+pub struct Unwritable {
     pub path: PathBuf,
-    pub kind: &'static FileKind,
-    pub refusal: u8,
-    pub fault: Option<Fault>,
-    /// Another kind of file that it looks like.
-    looks_like: Option<&'static str>,
+    pub why: String,
+    pub to_do: &'static str,
 }
 
 impl Trouble {
     /// The outcome of a run that ends so.
     pub fn outcome(&self, command: Option<&'static str>) -> Outcome {
-        let (complaint, mut members) = match self {
-            Trouble::Misused(misuse) => misused(misuse),
+        let (complaint, mut members) = self.told(command);
+        members.insert(0, ("command", Json::or_null(command, Json::text)));
+        Outcome::trouble(format!("corfynnog: {complaint}\n"), members)
+    }
+
+    /// The trouble in words and for scripts.
+    fn told(&self, command: Option<&str>) -> Words {
+        match self {
+            Trouble::Misused(sentence) => misused(sentence, command),
             Trouble::Unreadable { path, why } => unreadable(path, why),
+            Trouble::Unwritable(file) => unwritable(file),
             Trouble::Refused(file) => (file.words(), file.members()),
             Trouble::RefusedText(text) => (text.words(), text.members()),
-            Trouble::BoundRefused { bound, refusal } => bound_refused(*bound, *refusal),
+            Trouble::WrongKind(file) => (file.words(), file.members()),
+            Trouble::BoundRefused { bound, refusal } => bound_refused(bound, *refusal),
+            Trouble::NoMemory => no_memory(),
             Trouble::Unexpected => unexpected(),
-        };
-        members.insert(0, ("command", Json::or_null(command, Json::text)));
-        Outcome {
-            status: TROUBLE,
-            text: String::new(),
-            complaint: format!("corfynnog: {complaint}\n"),
-            json: Json::Object(members),
+        }
+    }
+
+    /// The trouble with one file among several, in one line.
+    pub fn line(&self, file: &Path) -> String {
+        match self {
+            Trouble::Unreadable { path, why } => format!("Unreadable: {}: {why}.\n", shown(path)),
+            Trouble::Refused(file) => format!("Refused: {}\n", file.line()),
+            Trouble::RefusedText(text) => format!("Refused: {}\n", text.line()),
+            Trouble::WrongKind(file) => format!("Refused: {}\n", file.line()),
+            _ => format!("No answer: {}: {}\n", shown(file), self.told(None).0),
         }
     }
 }
 
 type Words = (String, Vec<(&'static str, Json)>);
 
-/// A command line that is not understood.
-fn misused(misuse: &Misuse) -> Words {
-    let help = match misuse.command {
+/// A command line that is not understood, and where to read more.
+fn misused(sentence: &str, command: Option<&str>) -> Words {
+    let help = match command {
         Some(command) => format!("corfynnog {command} --help"),
         None => "corfynnog --help".to_string(),
     };
-    let text = format!("{} Run '{help}' for help.", misuse.sentence);
+    let text = format!("{sentence} Run '{help}' for help.");
     let members = vec![
         ("result", Json::text("misused")),
-        ("text", Json::text(misuse.sentence.as_str())),
+        ("text", Json::text(sentence)),
     ];
     (text, members)
 }
@@ -79,31 +96,85 @@ fn misused(misuse: &Misuse) -> Words {
 fn unreadable(path: &Path, why: &str) -> Words {
     let text = format!(
         "Cannot read {}: {why}. Check the file's name and rights; run 'corfynnog --help' for help.",
-        path.display()
+        shown(path)
     );
     let members = vec![
         ("result", Json::text("unreadable")),
-        ("file", Json::text(path.to_string_lossy())),
+        ("file", Json::name(path)),
         ("text", Json::text(why)),
     ];
     (text, members)
 }
 
-/// A bound that the library refused.
-fn bound_refused(bound: u8, refusal: u8) -> Words {
-    let words = refusal_in_words(refusal);
+/// A file that cannot be written.
+fn unwritable(file: &Unwritable) -> Words {
     let text = format!(
-        "The bound {bound} is refused (refusal {refusal}).\n  rule:  {}\n  to do: {}",
-        words.rule, words.to_do
+        "Cannot write {}: {}. {}",
+        shown(&file.path),
+        file.why,
+        file.to_do
     );
     let members = vec![
-        ("result", Json::text("refused")),
-        ("refusal", Json::Number(refusal.into())),
-        ("bound", Json::Number(bound.into())),
-        ("rule", Json::text(words.rule)),
-        ("to_do", Json::text(words.to_do)),
+        ("result", Json::text("unwritable")),
+        ("file", Json::name(&file.path)),
+        ("text", Json::text(file.why.as_str())),
     ];
     (text, members)
+}
+
+/// A bound that the library refused.
+fn bound_refused(bound: &OsStr, refusal: u8) -> Words {
+    let words = refusal_in_words(refusal);
+    let text = format!(
+        "The bound '{}' is refused (refusal {refusal}).\n  rule:  {}\n  to do: {}",
+        shown(bound),
+        words.rule,
+        words.to_do
+    );
+    let members = refusal_members(vec![
+        ("refusal", Json::Number(refusal.into())),
+        ("bound", Json::name(bound)),
+        ("text", Json::text("the bound is no digit from 0 to 8")),
+        ("rule", Json::text(words.rule)),
+        ("to_do", Json::text(words.to_do)),
+    ]);
+    (text, members)
+}
+
+/// The members of every refusal, null but for these.
+pub fn refusal_members(own: Vec<(&'static str, Json)>) -> Vec<(&'static str, Json)> {
+    let names = [
+        "refusal",
+        "file",
+        "kind",
+        "form",
+        "field",
+        "tag",
+        "field_name",
+        "field_start",
+        "line",
+        "column",
+        "byte",
+        "bound",
+        "looks_like",
+        "text",
+        "rule",
+        "to_do",
+    ];
+    let known = |name| own.iter().find(|(own, _)| *own == name);
+    let value = |name| known(name).map_or(Json::Null, |(_, value)| value.clone());
+    let mut members = vec![("result", Json::text("refused"))];
+    members.extend(names.map(|name| (name, value(name))));
+    members
+}
+
+/// No memory, or no thread, to run the library with.
+fn no_memory() -> Words {
+    let members = vec![
+        ("result", Json::text("no memory")),
+        ("text", Json::text(NO_MEMORY)),
+    ];
+    (NO_MEMORY.to_string(), members)
 }
 
 /// A reply that this program has no place for.
@@ -115,114 +186,4 @@ fn unexpected() -> Words {
         ("text", Json::text(text)),
     ];
     (text.to_string(), members)
-}
-
-/// The kind of file that it looks like by its start.
-pub fn look_of(file: &[u8]) -> Option<&'static str> {
-    match file.first() {
-        Some(&first) if first == DIAGRAM.first_tag() => Some("diagram file"),
-        Some(&first) if first == RECORD.first_tag() => Some("record file"),
-        _ => starts_as_text(file).then_some("diagram text"),
-    }
-}
-
-/// What to do about a file of another kind.
-pub fn other_kind_advice(look: &str) -> String {
-    format!("this looks like a {look}: check the order of the arguments")
-}
-
-impl RefusedFile {
-    /// A fault that is not of the library's number is left out.
-    pub fn of(
-        file: &Loaded,
-        kind: &'static FileKind,
-        refusal: u8,
-        fault: Option<Fault>,
-    ) -> RefusedFile {
-        let own = format!("{} file", kind.name);
-        RefusedFile {
-            path: file.path.clone(),
-            kind,
-            refusal,
-            fault: fault.filter(|fault| fault.refusal == refusal),
-            looks_like: look_of(&file.bytes).filter(|look| *look != own),
-        }
-    }
-
-    /// Which file, which field at which byte, the rule, and what to do.
-    fn words(&self) -> String {
-        let words = refusal_in_words(self.refusal);
-        format!(
-            "{} is not an acceptable {} file (refusal {}).\n  where: {}\n  fault: {}\n  rule:  {}\n  to do: {}",
-            self.path.display(),
-            self.kind.name,
-            self.refusal,
-            self.place(),
-            self.what(),
-            words.rule,
-            self.to_do()
-        )
-    }
-
-    /// Where the fault lies.
-    fn place(&self) -> String {
-        let Some(fault) = &self.fault else {
-            return "this program could not find the place; the refusal stands all the same".into();
-        };
-        let Some(field) = fault.field else {
-            return format!("byte {} (counted from 0), the end of the file", fault.byte);
-        };
-        let name = match self.kind.rule_of(field.tag) {
-            Some(rule) => rule.name,
-            None => "not of this kind of file",
-        };
-        let end = match fault.refusal {
-            1 => ", where the file ends",
-            _ => "",
-        };
-        format!(
-            "field {} ({name}, tag 0x{:02X}), which starts at byte {}; the fault is at byte {}{end} (bytes counted from 0)",
-            field.number, field.tag, field.start, fault.byte
-        )
-    }
-
-    /// What is wrong there.
-    fn what(&self) -> &str {
-        let found = self.fault.as_ref().map(|fault| fault.what.as_str());
-        found.unwrap_or("not known more closely")
-    }
-
-    /// A file of the other kind is the likeliest mistake where its start says so.
-    fn to_do(&self) -> String {
-        match self.looks_like {
-            Some(look) => other_kind_advice(look),
-            None => refusal_in_words(self.refusal).to_do.to_string(),
-        }
-    }
-
-    /// The refusal for scripts.
-    fn members(&self) -> Vec<(&'static str, Json)> {
-        let field = self.fault.as_ref().and_then(|fault| fault.field);
-        let byte = self.fault.as_ref().map(|fault| fault.byte);
-        vec![
-            ("result", Json::text("refused")),
-            ("refusal", Json::Number(self.refusal.into())),
-            ("file", Json::text(self.path.to_string_lossy())),
-            ("kind", Json::text(self.kind.name)),
-            ("field", Json::or_null(field, |f| Json::Number(f.number))),
-            ("tag", Json::or_null(field, |f| Json::Number(f.tag.into()))),
-            (
-                "field_name",
-                Json::or_null(field.and_then(|f| tag_name(f.tag)), Json::text),
-            ),
-            (
-                "field_start",
-                Json::or_null(field, |f| Json::Number(f.start)),
-            ),
-            ("byte", Json::or_null(byte, Json::Number)),
-            ("text", Json::text(self.what())),
-            ("rule", Json::text(refusal_in_words(self.refusal).rule)),
-            ("to_do", Json::Text(self.to_do())),
-        ]
-    }
 }

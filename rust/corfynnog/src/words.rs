@@ -1,5 +1,7 @@
 //! The nine rules and the refusals in words.
 
+use crate::text::TextRule;
+
 /// What a rule asks of a record.
 pub fn rule_in_words(rule: u8) -> &'static str {
     match rule {
@@ -42,6 +44,29 @@ pub fn text_refusal_in_words(number: u8) -> RefusalWords {
     RefusalWords { rule, to_do }
 }
 
+/// The words of a rule that a site text breaks.
+pub fn site_rule_in_words(rule: TextRule) -> RefusalWords {
+    let (rule, to_do) = match rule {
+        TextRule::Declared => (
+            "a link joins two objects of the text",
+            "declare the object, or correct the name",
+        ),
+        TextRule::Count => (
+            "a site has at most 8 objects, 256 values and 2,048 links",
+            "take some out",
+        ),
+        TextRule::Different => (
+            "objects have different names, an object has one value for an attribute, and a link stands once",
+            "rename one of the two, or take the second one out",
+        ),
+        TextRule::Grammar | TextRule::WholeOnTheLeft => (
+            "a site text follows the grammar, and names of types, attributes, constants and roles have at most 16 bytes",
+            "correct the text; 'corfynnog show --help' shows how it is written",
+        ),
+    };
+    RefusalWords { rule, to_do }
+}
+
 /// The words of a refusal of a file, or of one that only texts have.
 pub fn refusal_in_words(number: u8) -> RefusalWords {
     let (rule, to_do) = match number {
@@ -79,7 +104,7 @@ pub fn refusal_in_words(number: u8) -> RefusalWords {
         ),
         9 => (
             "the bound is 0 to 8, since a record has at most 8 objects",
-            "give a bound of at most 8",
+            "give one digit from 0 to 8",
         ),
         23 => (
             "a text follows the grammar, its names have at most 16 bytes, its limits are 0 to 100 with the lower one first",

@@ -33,7 +33,7 @@ fn compare_finds_a_difference() {
     );
     assert!(answer.contains("Why q.diagram forbids it:\n  Rule 6: "));
     assert!(answer.contains(
-        "  Shelf0 has 3 links of role cards; allowed: at most 2.\n    composition [1] Shelf (shelf) -> (cards) Card [0..2]\n"
+        "  Shelf0 has 3 links of role cards; allowed: at most 2.\n    q.diagram: composition [1] Shelf (shelf) -> (cards) Card [0..2]\n    p.diagram: composition [1] Shelf (shelf) -> (cards) Card [0..4]\n"
     ));
 }
 
@@ -41,11 +41,17 @@ fn compare_finds_a_difference() {
 fn compare_finds_no_difference() {
     let folder = folder("compare_none");
     for (line, sites) in [
-        ("compare p.diagram q.diagram --bound 3", "at most 3 objects"),
-        ("compare q.diagram p.diagram --bound 1", "at most 1 object"),
-        ("compare z.diagram e.diagram --bound 0", "no objects"),
+        (
+            "compare p.diagram q.diagram --bound 3",
+            "of at most 3 objects",
+        ),
+        (
+            "compare q.diagram p.diagram --bound 1",
+            "of at most 1 object",
+        ),
+        ("compare e.diagram p.diagram --bound 0", "without objects"),
     ] {
-        let first = format!("No difference: every site of {sites} that ");
+        let first = format!("No difference: every site {sites} that ");
         assert!(folder.answer(0, line).starts_with(&first), "{line}");
     }
 }
@@ -74,13 +80,6 @@ fn compare_writes_the_site() {
 
     folder.answer(0, "compare p.diagram p.diagram --bound 2 --out none.record");
     assert_eq!(folder.get("none.record"), None);
-
-    let ran = folder.line("compare s.diagram p.diagram --out no_folder/site.record");
-    assert_eq!(ran.status, 2);
-    assert!(ran.out.starts_with("Difference: "));
-    assert!(ran
-        .err
-        .starts_with("corfynnog: Cannot write no_folder/site.record: "));
 }
 
 #[test]

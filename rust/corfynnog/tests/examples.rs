@@ -6,6 +6,10 @@ mod common;
 mod builder;
 #[path = "../examples/write_examples/pairs.rs"]
 mod pairs;
+#[path = "../examples/write_examples/record_builder.rs"]
+mod record_builder;
+#[path = "../examples/write_examples/shelf_and_card.rs"]
+mod shelf_and_card;
 
 use std::fs;
 use std::path::{Path, PathBuf};
@@ -49,13 +53,22 @@ fn the_files_are_those_that_the_program_writes() {
     let pairs = pairs::pairs();
     assert_eq!(pairs.len(), 3);
     for (name, old, new) in pairs {
-        for (file, bytes) in [("old.diagram", old), ("new.diagram", new)] {
-            let found = fs::read(example(name).join(file)).expect(name);
-            assert_eq!(
-                found, bytes,
-                "{name}/{file}: run 'cargo run --example write_examples'"
-            );
-        }
+        expect_files(name, "diagram", vec![("old", old), ("new", new)]);
+    }
+    let folder = shelf_and_card::FOLDER;
+    expect_files(folder, "diagram", shelf_and_card::diagrams());
+    expect_files(folder, "record", shelf_and_card::records());
+}
+
+/// The folder's files of one suffix are these.
+fn expect_files(folder: &str, suffix: &str, files: Vec<shelf_and_card::Named>) {
+    assert!(files.len() > 1);
+    for (name, bytes) in files {
+        let found = fs::read(example(folder).join(name).with_extension(suffix)).expect(name);
+        assert_eq!(
+            found, bytes,
+            "{folder}/{name}.{suffix}: run 'cargo run --example write_examples'"
+        );
     }
 }
 
@@ -68,14 +81,59 @@ fn the_texts_are_those_of_show() {
             let text = fs::read_to_string(path.with_extension("cd")).expect(name);
             assert!(readme.contains(&text), "{name}: {release}.cd");
             for suffix in ["cd", "diagram"] {
-                let path = path.with_extension(suffix);
-                let folder = Folder::of(&format!("shown_{name}"));
-                let ran = folder.run(&["show", &path.to_string_lossy()]);
-                assert_eq!((ran.status, ran.err.as_str()), (0, ""), "{name}");
-                assert_eq!(ran.out, text, "{name}: {release}.{suffix}");
+                assert_eq!(
+                    shown(&path.with_extension(suffix)),
+                    text,
+                    "{name}: {release}"
+                );
             }
         }
     }
+}
+
+/// What `show` prints of a file.
+fn shown(path: &Path) -> String {
+    let name = path.file_name().expect("a name").to_string_lossy();
+    let ran = Folder::of(&format!("shown_{name}")).run(&["show", &path.to_string_lossy()]);
+    assert_eq!((ran.status, ran.err.as_str()), (0, ""), "{name}");
+    ran.out
+}
+
+/// A text of the folder `shelf_and_card`.
+fn shelf_text(file: &str) -> String {
+    fs::read_to_string(example(shelf_and_card::FOLDER).join(file)).expect(file)
+}
+
+#[test]
+fn the_texts_of_shelf_and_card_are_those_of_show() {
+    let folder = example(shelf_and_card::FOLDER);
+    let accepted = |name: &str| !name.ends_with("_17");
+    for (name, _) in shelf_and_card::diagrams() {
+        if accepted(name) {
+            let text = shelf_text(&format!("{name}.cd"));
+            assert_eq!(shown(&folder.join(format!("{name}.diagram"))), text);
+            assert_eq!(shown(&folder.join(format!("{name}.cd"))), text);
+        }
+    }
+    for (name, _) in shelf_and_card::records() {
+        let text = shelf_text(&format!("{name}.od"));
+        assert_eq!(shown(&folder.join(format!("{name}.record"))), text);
+    }
+}
+
+#[test]
+fn the_texts_that_are_refused_have_one_more_than_those_accepted() {
+    let one_more = |text: String| text.replace("_16", "_17");
+    let names = one_more(shelf_text("name_16.cd")).replace("Card_", "Cards_");
+    assert_eq!(shelf_text("name_17.cd"), names);
+    let accepted = shelf_text("associations_16.cd");
+    let last = accepted.lines().rev().nth(1).expect("an association");
+    let longer = accepted.replace(last, &format!("{last}\n{}", one_more(last.to_string())));
+    let named = longer.replace(
+        "classdiagram associations_16",
+        "classdiagram associations_17",
+    );
+    assert_eq!(shelf_text("associations_17.cd"), named);
 }
 
 #[test]

@@ -3,6 +3,7 @@
 mod common;
 
 use common::{sites, Folder};
+use std::process::Command;
 
 #[test]
 fn one_sentence_and_how_to_get_help() {
@@ -16,7 +17,6 @@ fn one_sentence_and_how_to_get_help() {
         ("show a b", "'show' takes FILE only; 'b' is too much. Run 'corfynnog show --help' for help."),
         ("compile a --fast", "There is no option '--fast'. Run 'corfynnog compile --help' for help."),
         ("compare a b --bound", "The option --bound needs a value behind it. Run 'corfynnog compare --help' for help."),
-        ("compare a b --bound -1", "The bound '-1' is not a number from 0 to 8. Run 'corfynnog compare --help' for help."),
     ];
     for (line, sentence) in cases {
         let told = folder.complaint(line);
@@ -47,7 +47,9 @@ fn files_that_cannot_be_read() {
 fn help_has_an_example_of_each_command() {
     let folder = Folder::of("help");
     let help = folder.answer(0, "--help");
-    for command in ["compare", "judge", "compile", "evaluate", "check", "show"] {
+    for command in [
+        "compare", "judge", "compile", "evaluate", "check", "show", "make",
+    ] {
         assert!(
             help.contains(&format!("  corfynnog {command} ")),
             "{command}"
@@ -62,17 +64,46 @@ fn help_has_an_example_of_each_command() {
         assert!(own.contains("\nJSON: "), "{command}");
         assert_eq!(folder.answer(0, &format!("help {command}")), own);
     }
-    for line in ["help", "help compare", "help check", "help show"] {
+    for line in [
+        "help",
+        "help compare",
+        "help judge",
+        "help evaluate",
+        "help check",
+        "help show",
+        "help make",
+    ] {
         let text = folder.answer(0, line);
         let is_short = |line: &str| line.len() <= 104;
         assert!(text.lines().all(is_short), "{line}: lines are short");
     }
 }
 
+/// The commit that the repository's checkout is at, if there is one and git tells.
+fn commit() -> Option<String> {
+    let git = Command::new("git")
+        .args(["-C", env!("CARGO_MANIFEST_DIR"), "rev-parse", "HEAD"])
+        .env_remove("GIT_DIR")
+        .output();
+    let output = git.ok().filter(|output| output.status.success())?;
+    String::from_utf8(output.stdout).ok()
+}
+
 #[test]
-fn version() {
-    assert_eq!(
-        Folder::of("version").answer(0, "--version"),
-        format!("corfynnog {}\n", env!("CARGO_PKG_VERSION"))
-    );
+fn version_commit_and_kit_in_one_line() {
+    let line = Folder::of("version").answer(0, "--version");
+    let start = format!("corfynnog {} (commit ", env!("CARGO_PKG_VERSION"));
+    let end = format!(", proved by {})\n", boundary::KIT);
+    assert!(!boundary::KIT.is_empty() && !boundary::KIT.contains('\n'));
+    let told = line
+        .strip_prefix(&start)
+        .and_then(|rest| rest.strip_suffix(&end));
+    let told = told.unwrap_or_else(|| panic!("{line}"));
+    let told = told.strip_suffix(", changed").unwrap_or(told);
+    if told != "unknown" {
+        let is_digit = |letter: char| letter.is_ascii_hexdigit();
+        assert!(told.len() >= 7 && told.chars().all(is_digit), "{line}");
+        let head = commit();
+        assert!(head.is_none_or(|head| head.starts_with(told)), "{line}");
+    }
 }

@@ -59,9 +59,15 @@ fn texts_and_files_are_compared_with_each_other() {
         let first =
             format!("Difference: {old} allows this site of 4 objects, and {new} forbids it.");
         assert!(answer.starts_with(&first), "{answer}");
-        assert!(answer.contains(
-            "  Shelf0 has 3 links of role cards; allowed: at most 2.\n    composition [1] Shelf (shelf) -> (cards) Card [0..2]\n"
-        ));
+        let place = "  Shelf0 has 3 links of role cards; allowed: at most 2.\n";
+        let (_, lines) = answer.split_once(place).expect("a place");
+        let mut lines = lines.lines();
+        for (name, limits) in [(new, "[0..2]"), (old, "[0..4]")] {
+            let line = lines.next().expect("a declaration").trim_start();
+            assert!(line.starts_with(&format!("{name}: ")), "{line}");
+            let declared = format!(" composition [1] Shelf (shelf) -> (cards) Card {limits}");
+            assert!(line.ends_with(&declared), "{line}");
+        }
     }
     folder.answer(1, "compare s.cd p.cd --out site.record");
     assert_eq!(folder.get("site.record"), Some(sites::card()));

@@ -17,6 +17,7 @@ pub const SINGLETON: u8 = 3;
 /// Arrows, by their bytes.
 pub const RIGHT: u8 = 1;
 pub const BOTH: u8 = 3;
+pub const NO_ARROWHEAD: u8 = 4;
 
 /// The limit byte for "no upper limit".
 pub const MANY: u8 = 255;
@@ -67,9 +68,14 @@ impl DiagramFile {
         self.link_field(0, left, arrow, right)
     }
 
+    /// A composition: the whole, then the part.
+    pub fn composition(self, whole: End, part: End) -> DiagramFile {
+        self.link_field(1, whole, RIGHT, part)
+    }
+
     /// A composition whose parts have exactly one whole: the whole's type and role, then the part.
     pub fn parts(self, (whole, role): (&'static str, &'static str), part: End) -> DiagramFile {
-        self.link_field(1, (whole, 1, 1, role), RIGHT, part)
+        self.composition((whole, 1, 1, role), part)
     }
 
     /// An association of either form.
@@ -85,10 +91,7 @@ impl DiagramFile {
 
     /// Appends a field.
     fn field(&mut self, tag: u8, content: Vec<u8>) {
-        let length = u16::try_from(content.len()).expect("a content is short");
-        self.bytes.push(tag);
-        self.bytes.extend(length.to_be_bytes());
-        self.bytes.extend(content);
+        self.bytes.extend(field(tag, &content));
     }
 
     /// The finished file.
@@ -97,8 +100,17 @@ impl DiagramFile {
     }
 }
 
+/// A field: tag, length and content.
+pub fn field(tag: u8, content: &[u8]) -> Vec<u8> {
+    let length = u16::try_from(content.len()).expect("a content is short");
+    let mut bytes = vec![tag];
+    bytes.extend(length.to_be_bytes());
+    bytes.extend(content);
+    bytes
+}
+
 /// A name with its length byte.
-fn coded(name: &str) -> Vec<u8> {
+pub fn coded(name: &str) -> Vec<u8> {
     let mut bytes = vec![name.len() as u8];
     bytes.extend(name.as_bytes());
     bytes

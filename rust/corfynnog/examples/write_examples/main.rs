@@ -1,7 +1,9 @@
-//! Writes the diagram files of the folder `examples` of the repository.
+//! Writes the diagram files and record files of the folder `examples` of the repository.
 
 mod builder;
 mod pairs;
+mod record_builder;
+mod shelf_and_card;
 
 use std::fs;
 use std::io;
@@ -10,11 +12,21 @@ use std::path::Path;
 fn main() -> io::Result<()> {
     let root = Path::new(env!("CARGO_MANIFEST_DIR")).join("../../examples");
     for (folder, old, new) in pairs::pairs() {
-        let folder = root.join(folder);
-        fs::create_dir_all(&folder)?;
-        fs::write(folder.join("old.diagram"), old)?;
-        fs::write(folder.join("new.diagram"), new)?;
-        println!("wrote {}", folder.display());
+        let files = [("old", old), ("new", new)];
+        write(&root.join(folder), files.into(), "diagram")?;
+    }
+    let folder = root.join(shelf_and_card::FOLDER);
+    write(&folder, shelf_and_card::diagrams(), "diagram")?;
+    write(&folder, shelf_and_card::records(), "record")
+}
+
+/// Writes files of one suffix into a folder.
+fn write(folder: &Path, files: Vec<shelf_and_card::Named>, suffix: &str) -> io::Result<()> {
+    fs::create_dir_all(folder)?;
+    for (name, bytes) in files {
+        let path = folder.join(name).with_extension(suffix);
+        fs::write(&path, bytes)?;
+        println!("wrote {}", path.display());
     }
     Ok(())
 }

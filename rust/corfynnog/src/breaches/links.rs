@@ -1,41 +1,54 @@
 //! Rules 5 to 8: links and the limits of associations.
 
 use super::{instances, Breach};
-use crate::diagram::{Arrow, Association, Diagram, Way};
+use crate::diagram::{Arrow, Diagram, Way};
+use crate::lists::{distinct, listed};
 use crate::names::{count_of, limits_in_words};
+use crate::parts::Part;
 use crate::record::{Link, Record};
 
 /// Rule 5: links that no association carries.
 pub fn not_carried(diagram: &Diagram, record: &Record) -> Vec<Breach> {
-    let stray = record.links.iter().filter(|link| {
-        let mut associations = diagram.associations.iter();
-        !associations.any(|association| carries(diagram, record, association, link))
-    });
+    let is_stray = |link: &&Link| {
+        let (from, to) = (&record.types[link.from], &record.types[link.to]);
+        diagram.carriers(from, &link.role, to).is_empty()
+    };
+    let stray = record.links.iter().filter(is_stray);
     let words = |link: &Link| {
         let (from, to) = (record.object_name(link.from), record.object_name(link.to));
-        let (start, end) = (&record.types[link.from], &record.types[link.to]);
-        let role = &link.role;
+        let (role, why) = (&link.role, why_not_carried(diagram, record, link));
+        let associations = diagram.ways(role).into_iter().map(|way| way.association);
+        let parts = distinct(associations).into_iter().map(Part::Association);
         Breach {
-            sentence: format!(
-                "{from} has a link of role {role} to {to}, but no association carries {role} from {start} to {end}."
-            ),
+            sentence: format!("{from} has a link of role {role} to {to}, but {why}."),
             objects: vec![link.from, link.to],
             role: Some(role.clone()),
+            declared: parts.collect(),
             ..Breach::default()
         }
     };
     stray.map(words).collect()
 }
 
-/// An association carries a link on one of its sides.
-fn carries(diagram: &Diagram, record: &Record, by: &Association, link: &Link) -> bool {
-    [0, 1].into_iter().any(|side| {
-        let way = by.way(side);
-        by.carries(side)
-            && way.role == link.role
-            && diagram.is_instance(&record.types[link.from], way.from)
-            && diagram.is_instance(&record.types[link.to], way.to)
-    })
+/// What a role does join, where it does not join the objects of a link.
+fn why_not_carried(diagram: &Diagram, record: &Record, link: &Link) -> String {
+    let (role, name) = (&link.role, |of: usize| &diagram.types[of].name);
+    let leads = diagram.carried_ways(role).into_iter().map(|of| {
+        let way = diagram.way(of);
+        format!("from {} to {}", name(way.from), name(way.to))
+    });
+    let leads = distinct(leads);
+    if diagram.ways(role).is_empty() {
+        return format!("no association of this diagram has the role {role}");
+    }
+    if leads.is_empty() {
+        return format!("{role} is only the role at the start of a one-way association");
+    }
+    let (start, end) = (&record.types[link.from], &record.types[link.to]);
+    format!(
+        "no association carries {role} from {start} to {end}; {role} leads {}",
+        listed(&leads)
+    )
 }
 
 /// Rule 6: targets of another type, or too few or too many.
@@ -49,6 +62,7 @@ pub fn wrong_targets(diagram: &Diagram, record: &Record) -> Vec<Breach> {
                 found.extend(breaches.into_iter().map(|breach| Breach {
                     association: Some(index),
                     side: Some(side),
+                    declared: vec![Part::Association(index)],
                     ..breach
                 }));
             }
@@ -122,6 +136,7 @@ pub fn wrong_sources(diagram: &Diagram, record: &Record) -> Vec<Breach> {
                 association: Some(index),
                 side: Some(side),
                 role: Some(way.role.to_string()),
+                declared: vec![Part::Association(index)],
                 ..Breach::default()
             });
         }
@@ -141,15 +156,17 @@ pub fn not_mirrored(diagram: &Diagram, record: &Record) -> Vec<Breach> {
             for right in instances(diagram, record, there.to) {
                 let forth = record.has_link(left, there.role, right);
                 let counter = record.has_link(right, back.role, left);
-                let sentence = match (forth, counter) {
-                    (true, false) => one_sided(record, left, there.role, right, back.role),
-                    (false, true) => one_sided(record, right, back.role, left, there.role),
+                let (from, role, to, other) = match (forth, counter) {
+                    (true, false) => (left, there.role, right, back.role),
+                    (false, true) => (right, back.role, left, there.role),
                     _ => continue,
                 };
                 found.push(Breach {
-                    sentence,
-                    objects: vec![left, right],
+                    sentence: one_sided(record, from, role, to, other),
+                    objects: vec![from, to],
                     association: Some(index),
+                    role: Some(role.to_string()),
+                    declared: vec![Part::Association(index)],
                     ..Breach::default()
                 });
             }

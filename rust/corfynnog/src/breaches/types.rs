@@ -2,6 +2,7 @@
 
 use super::{object_names, Breach};
 use crate::diagram::{Diagram, Kind};
+use crate::parts::Part;
 use crate::record::Record;
 
 /// Rule 1: objects whose type is unknown, abstract or an interface.
@@ -9,7 +10,8 @@ pub fn not_a_class(diagram: &Diagram, record: &Record) -> Vec<Breach> {
     let mut found = Vec::new();
     for (object, type_name) in record.types.iter().enumerate() {
         let name = record.object_name(object);
-        let why = match diagram.type_named(type_name) {
+        let known = diagram.type_named(type_name);
+        let why = match known {
             None => "which the diagram does not have".to_string(),
             Some(index) => match diagram.types[index].kind {
                 Kind::Class | Kind::Singleton => continue,
@@ -21,6 +23,7 @@ pub fn not_a_class(diagram: &Diagram, record: &Record) -> Vec<Breach> {
             sentence: format!("{name} is of type {type_name}, {why}."),
             objects: vec![object],
             type_name: Some(type_name.clone()),
+            declared: known.map(Part::Type).into_iter().collect(),
             ..Breach::default()
         });
     }
@@ -30,7 +33,10 @@ pub fn not_a_class(diagram: &Diagram, record: &Record) -> Vec<Breach> {
 /// Rule 2: singleton classes with no object or with several.
 pub fn not_single(diagram: &Diagram, record: &Record) -> Vec<Breach> {
     let mut found = Vec::new();
-    for singleton in diagram.types.iter().filter(|t| t.kind == Kind::Singleton) {
+    for (index, singleton) in diagram.types.iter().enumerate() {
+        if singleton.kind != Kind::Singleton {
+            continue;
+        }
         let all = record.types.iter().enumerate();
         let own = all.filter(|(_, type_name)| **type_name == singleton.name);
         let objects: Vec<usize> = own.map(|(object, _)| object).collect();
@@ -47,6 +53,7 @@ pub fn not_single(diagram: &Diagram, record: &Record) -> Vec<Breach> {
             sentence,
             objects,
             type_name: Some(name.clone()),
+            declared: vec![Part::Type(index)],
             ..Breach::default()
         });
     }

@@ -1,11 +1,12 @@
-//! `check FILE`: is this an acceptable diagram file, diagram text or record file?
+//! `check FILE...`: is this an acceptable diagram file, diagram text, record file or site text?
 
-use std::path::Path;
+use std::path::{Path, PathBuf};
 
+use super::several::{several, Told};
 use crate::disk::load;
 use crate::json::Json;
 use crate::kinds::{accepted_kind, FileIs};
-use crate::names::count_of;
+use crate::names::counts_in_words;
 use crate::outcome::{Outcome, FINE};
 use crate::proved::{diagram_of, record_of};
 use crate::trouble::Trouble;
@@ -13,11 +14,19 @@ use crate::trouble::Trouble;
 /// Counts of what a file holds: one, several, and how many.
 type Counts = Vec<(&'static str, &'static str, usize)>;
 
-/// Checks one file as what its first byte says it is.
-pub fn run(path: &Path) -> Result<Outcome, Trouble> {
+/// Checks one file, or several.
+pub fn run(files: &[PathBuf]) -> Result<Outcome, Trouble> {
+    match files {
+        [file] => check(file),
+        _ => Ok(several("check", files, Told::InLines, check)),
+    }
+}
+
+/// Checks one file as what its start says it is.
+fn check(path: &Path) -> Result<Outcome, Trouble> {
     let file = load(path)?;
     let is = accepted_kind(&file)?;
-    let (kind, counts) = match is {
+    let counts = match is {
         FileIs::DiagramFile | FileIs::DiagramText => {
             let diagram = diagram_of(&file)?;
             let counts: Counts = vec![
@@ -26,36 +35,22 @@ pub fn run(path: &Path) -> Result<Outcome, Trouble> {
                 ("attribute", "attributes", diagram.attributes.len()),
                 ("association", "associations", diagram.associations.len()),
             ];
-            ("diagram", counts)
+            counts
         }
-        FileIs::Record => {
-            let record = record_of(&file.bytes)?;
-            let counts: Counts = vec![
-                ("object", "objects", record.types.len()),
-                ("value", "values", record.values.len()),
-                ("link", "links", record.links.len()),
-            ];
-            ("record", counts)
-        }
+        FileIs::RecordFile | FileIs::SiteText => record_of(&file)?.counts().to_vec(),
     };
-    let words: Vec<String> = counts
-        .iter()
-        .map(|(one, more, n)| count_of(*n, one, more))
-        .collect();
     let text = format!(
         "Accepted: {} is a {} with {}.\n",
         file.name(),
         is.words(),
-        words.join(", ")
+        counts_in_words(&counts)
     );
-    let mut members = vec![
+    let members = vec![
         ("command", Json::text("check")),
-        ("file", Json::Text(file.name())),
-        ("kind", Json::text(kind)),
+        ("file", file.json_name()),
+        ("kind", Json::text(is.holds().name)),
+        ("form", Json::text(is.form())),
         ("result", Json::text("accepted")),
     ];
-    if is == FileIs::DiagramText {
-        members.insert(3, ("form", Json::text("text")));
-    }
     Ok(Outcome::answer(FINE, text, members))
 }

@@ -28,7 +28,7 @@ pub fn run(diagram: &Path) -> Result<Outcome, Trouble> {
     }
     let members = vec![
         ("command", Json::text("compile")),
-        ("diagram", Json::Text(file.name())),
+        ("diagram", file.json_name()),
         ("result", Json::text("compiled")),
         ("number", Json::Number(predicates.len())),
         (

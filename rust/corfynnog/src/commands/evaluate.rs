@@ -7,23 +7,26 @@ use crate::json::Json;
 use crate::names::count_of;
 use crate::outcome::{Outcome, FINE, FOUND};
 use crate::proved;
-use crate::reasons::{places_json, places_text};
+use crate::reasons::{Forbidden, TOLD};
 use crate::trouble::Trouble;
 
-/// Evaluates one diagram file's predicates on one record file.
+/// Evaluates one diagram's predicates on one record.
 pub fn run(diagram: &Path, record: &Path) -> Result<Outcome, Trouble> {
     let (diagram_file, record_file) = (load(diagram)?, load(record)?);
     let judged = proved::judge(&diagram_file, &record_file)?;
     let number = judged.predicates.len();
-    let mut members = vec![
+    let members = vec![
         ("command", Json::text("evaluate")),
-        ("diagram", Json::Text(diagram_file.name())),
-        ("record", Json::Text(record_file.name())),
+        ("diagram", diagram_file.json_name()),
+        ("record", record_file.json_name()),
         ("number", Json::Number(number)),
+        ("result", Json::text("all hold")),
+        ("first_false", Json::Null),
+        ("predicate", Json::Null),
+        ("places", Json::Null),
     ];
     let (by, site) = (diagram_file.name(), record_file.name());
     let Some(predicate) = judged.false_predicate() else {
-        members.push(("result", Json::text("all hold")));
         let all = match number {
             0 => format!("{by} has no predicates, so that all hold on {site}.\n"),
             _ => {
@@ -34,21 +37,25 @@ pub fn run(diagram: &Path, record: &Path) -> Result<Outcome, Trouble> {
         return Ok(Outcome::answer(FINE, all, members));
     };
     let diagram = proved::diagram_of(&diagram_file)?;
-    let record = proved::record_of(&record_file.bytes)?;
+    let record = proved::record_of(&record_file)?;
     let places = predicate.breaches(&diagram, &record);
+    let forbidden = Forbidden::by(&diagram, &record);
     let index = judged.first_false;
     let text = format!(
         "Not all hold: predicate {index} of {by} is the first that does not hold on {site} ({} in all, counted from 0).\n  {}: {}.\n{}",
         number,
         predicate.name(),
         predicate.in_words(&diagram),
-        places_text(&diagram, &places)
+        forbidden.places_text(&places, TOLD)
     );
-    members.extend([
+    let mut outcome = Outcome::answer(FOUND, text, members);
+    for (name, value) in [
         ("result", Json::text("not all hold")),
         ("first_false", Json::Number(index)),
         ("predicate", predicate.json(Some(&diagram))),
-        ("places", places_json(&diagram, &record, &places)),
-    ]);
-    Ok(Outcome::answer(FOUND, text, members))
+        ("places", forbidden.places_json(&places)),
+    ] {
+        outcome.json.set(name, value);
+    }
+    Ok(outcome)
 }

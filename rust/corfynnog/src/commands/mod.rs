@@ -5,6 +5,9 @@ mod compare;
 mod compile;
 mod evaluate;
 mod judge;
+mod make;
+mod marked;
+mod several;
 mod show;
 
 use crate::args::Command;
@@ -21,6 +24,8 @@ impl Command {
             Command::Evaluate { .. } => "evaluate",
             Command::Check { .. } => "check",
             Command::Show { .. } => "show",
+            Command::Make { .. } => "make",
+            Command::Marked => "marked",
         }
     }
 
@@ -32,12 +37,28 @@ impl Command {
                 new,
                 bound,
                 out,
-            } => compare::run(old, new, *bound, out.as_deref()),
-            Command::Judge { diagram, record } => judge::run(diagram, record),
+                all,
+                timeout,
+            } => {
+                let options = compare::Options {
+                    bound: bound.as_deref(),
+                    out: out.as_deref(),
+                    all: *all,
+                    timeout: *timeout,
+                };
+                compare::run(old, new, &options)
+            }
+            Command::Judge {
+                diagram,
+                records,
+                all,
+            } => judge::run(diagram, records, *all),
             Command::Compile { diagram } => compile::run(diagram),
             Command::Evaluate { diagram, record } => evaluate::run(diagram, record),
-            Command::Check { file } => check::run(file),
+            Command::Check { files } => check::run(files),
             Command::Show { file } => show::run(file),
+            Command::Make { site, out } => make::run(site, out),
+            Command::Marked => marked::run(),
         }
     }
 }

@@ -1,4 +1,4 @@
-//! `show FILE`: a diagram as diagram text, a record as object diagram text.
+//! `show FILE`: a diagram as diagram text, a record as site text.
 
 use std::path::Path;
 
@@ -9,12 +9,13 @@ use crate::json::Json;
 use crate::kinds::{accepted_kind, FileIs};
 use crate::object_diagram::object_diagram;
 use crate::outcome::{Outcome, FINE};
-use crate::proved::{named_diagram_of, record_of};
+use crate::proved::{named_diagram_of, named_record_of};
+use crate::site::NamedRecord;
 use crate::text::NamedDiagram;
 use crate::trouble::Trouble;
 use crate::unwritable::unwritable;
 
-/// Shows one file as what its first byte says it is.
+/// Shows one file as what its start says it is.
 pub fn run(path: &Path) -> Result<Outcome, Trouble> {
     let file = load(path)?;
     let mut remarks = Vec::new();
@@ -25,23 +26,27 @@ pub fn run(path: &Path) -> Result<Outcome, Trouble> {
             let text = diagram_text(&name, &diagram);
             ("diagram", text, diagram_json(&diagram))
         }
-        FileIs::Record => {
-            let record = record_of(&file.bytes)?;
-            let text = object_diagram(&file.stem_or("record"), &record);
+        FileIs::RecordFile | FileIs::SiteText => {
+            let NamedRecord { name, record } = named_record_of(&file)?;
+            let text = object_diagram(&name, &record);
             ("record", text, record_json(&record))
         }
     };
-    let mut members = vec![
+    let members = vec![
         ("command", Json::text("show")),
-        ("file", Json::Text(file.name())),
+        ("file", file.json_name()),
         ("kind", Json::text(kind)),
         ("result", Json::text("shown")),
-        (kind, content),
+        ("diagram", Json::Null),
+        ("record", Json::Null),
+        ("remarks", Json::Null),
     ];
-    if kind == "diagram" {
-        members.push(("remarks", Json::list(&remarks, |r| Json::text(r.as_str()))));
-    }
     let mut outcome = Outcome::answer(FINE, text, members);
+    outcome.json.set(kind, content);
+    if kind == "diagram" {
+        let remarks = Json::list(&remarks, |r| Json::text(r.as_str()));
+        outcome.json.set("remarks", remarks);
+    }
     let remark = |remark: &String| format!("corfynnog: Remark: {remark}\n");
     outcome.complaint = remarks.iter().map(remark).collect();
     Ok(outcome)

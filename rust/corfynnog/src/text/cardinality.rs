@@ -2,7 +2,7 @@
 
 use crate::diagram::Limits;
 
-use super::fault::TextFault;
+use super::fault::{TextFault, TextRule};
 use super::reader::{name_of, Found, Reader};
 use super::spelling::quoted;
 use super::tokens::{Read, Token};
@@ -51,7 +51,7 @@ fn limit(token: Token) -> Found<usize> {
         "the limit {} is too large, at most {LIMIT_MOST} is allowed",
         quoted(digits)
     );
-    Err(TextFault::of(23, token.at, what)
+    Err(TextFault::of(TextRule::Grammar, token.at, what)
         .with("lower the limit, or write * where there is no upper limit"))
 }
 
@@ -62,6 +62,6 @@ fn upper_limit(low: usize, token: Token) -> Found<usize> {
         return Ok(up);
     }
     let what = format!("the upper limit {up} is below the lower limit {low}");
-    Err(TextFault::of(23, token.at, what)
+    Err(TextFault::of(TextRule::Grammar, token.at, what)
         .with("write the smaller number first, as in [0..4], or raise the upper limit"))
 }

@@ -4,7 +4,7 @@ use crate::diagram::Arrow;
 
 use super::counts::too_many;
 use super::declarations::Declarations;
-use super::fault::TextFault;
+use super::fault::{TextFault, TextRule};
 use super::references::unknown;
 use super::twice::twice;
 
@@ -26,5 +26,9 @@ fn whole_on_the_right(all: &Declarations) -> Option<TextFault> {
     let mut associations = all.associations.iter();
     let found = associations.find(|a| a.composition && a.arrow == Arrow::Left)?;
     let what = "a composition has its whole on the left, so that its arrow is not \"<-\"";
-    Some(TextFault::of(8, found.arrow_at, what.to_string()))
+    Some(TextFault::of(
+        TextRule::WholeOnTheLeft,
+        found.arrow_at,
+        what.to_string(),
+    ))
 }

@@ -4,7 +4,7 @@ use std::collections::HashSet;
 
 use super::checks::earliest;
 use super::declarations::Declarations;
-use super::fault::TextFault;
+use super::fault::{TextFault, TextRule};
 use super::spelling::quoted;
 
 /// The first declaration, constant or parent that is one too many.
@@ -30,7 +30,7 @@ pub fn too_many(all: &Declarations) -> Option<TextFault> {
     ])
 }
 
-const TEXT: &str = "the text has";
+pub const TEXT: &str = "the text has";
 
 const VALUE_TYPES: &str = "value types (enumerations and further types of attributes)";
 
@@ -47,7 +47,7 @@ fn value_types(all: &Declarations) -> Vec<usize> {
 }
 
 /// The first of these that is one too many.
-fn over(
+pub fn over(
     whose: &str,
     what: &str,
     most: usize,
@@ -59,5 +59,5 @@ fn over(
         "{whose} {count} {what}, at most {most} are allowed; this is number {}",
         most + 1
     );
-    Some(TextFault::of(4, at, what))
+    Some(TextFault::of(TextRule::Count, at, what))
 }

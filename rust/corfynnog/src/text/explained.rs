@@ -52,7 +52,7 @@ fn told(text: &[u8]) -> (String, String) {
         Ok(_) => ("none".to_string(), String::new()),
         Err(fault) => {
             let place = place_of(text, fault.at);
-            let place = format!("{} {}:{}", fault.refusal, place.line, place.column);
+            let place = format!("{} {}:{}", fault.rule.refusal(), place.line, place.column);
             (place, fault.what)
         }
     }

@@ -4,6 +4,7 @@
 use crate::diagram::Kind;
 
 use super::declarations::{Attribute, Declarations, Enumeration, Type};
+use super::language::DIAGRAM_TEXT;
 use super::reader::{name_of, Found, Reader};
 use super::tokens::Read;
 use super::wanted::Wanted::{self, Mark, Name, Word};
@@ -22,7 +23,7 @@ const BODY: [Wanted; 8] = [
 
 /// The declarations of a text that belongs to the grammar.
 pub fn read(text: &[u8]) -> Found<Declarations<'_>> {
-    Reader::of(text).text()
+    Reader::of(text, &DIAGRAM_TEXT).text()
 }
 
 impl<'a> Reader<'a> {

@@ -1,39 +1,29 @@
-//! Advice for the likeliest slips against the grammar.
+//! Advice for the likeliest slips against the grammar of diagram texts.
 
-use super::tokens::{is_name, Read};
+use super::language::is_name;
+use super::stray::ENDS_EARLY;
+use super::tokens::Read;
 use super::wanted::Wanted::{self, End, Mark, Word};
 
-/// What to do where this was read and that was wanted; none where nothing special is known.
-pub fn hint(read: Read, wanted: &[Wanted]) -> Option<&'static str> {
-    match read {
-        Read::Stray(rest) => stray(rest).or_else(|| at_place(read, wanted)),
-        Read::Word(word) if !is_name(word) => at_place(read, wanted).or_else(|| keyword(wanted)),
-        _ => at_place(read, wanted),
-    }
-}
-
-/// A byte that starts neither a word nor a mark.
-fn stray(rest: &[u8]) -> Option<&'static str> {
+/// What to do about a byte that starts neither a word nor a mark.
+pub fn stray(rest: &[u8]) -> Option<&'static str> {
     let starts = |front: &[u8]| rest.starts_with(front);
-    if starts(b"\xEF\xBB\xBF") {
-        return Some("save the file without a byte order mark");
-    }
-    if starts(b"\xFF\xFE") || starts(b"\xFE\xFF") || starts(b"\x00") {
-        return Some("save the file as plain ASCII text, or check the file's name");
-    }
-    if starts(b"//") || starts(b"/*") || starts(b"#") {
-        return Some("a diagram text has no comments: take it out");
-    }
     if starts("«".as_bytes()) || starts("»".as_bytes()) {
         return Some("write the stereotype as <<singleton>>");
     }
     if starts(b"-") || starts(b"<") || starts(b">") || starts(b"=") {
         return Some("the arrows are ->, <-, <-> and --, and the stereotype is <<singleton>>");
     }
-    if starts(b".") {
-        return Some("a type is one name without dots, and a cardinality is written as [0..4]");
+    let to_do = "a type is one name without dots, and a cardinality is written as [0..4]";
+    starts(b".").then_some(to_do)
+}
+
+/// What to do where this was read and that was wanted.
+pub fn slip(read: Read, wanted: &[Wanted]) -> Option<&'static str> {
+    match read {
+        Read::Word(word) if !is_name(word) => at_place(read, wanted).or_else(|| keyword(wanted)),
+        _ => at_place(read, wanted),
     }
-    (!rest[0].is_ascii()).then_some("names are made of A-Z, a-z, 0-9 and _ alone")
 }
 
 /// By what was wanted.
@@ -43,12 +33,13 @@ fn at_place(read: Read, wanted: &[Wanted]) -> Option<&'static str> {
     let to_do = match read {
         _ if wants(Word("classdiagram")) => {
             "check the file's name: a diagram text starts with classdiagram NAME {, \
-             a diagram file with the byte 0x10, a record file with the byte 0x60"
+             a diagram file with the byte 0x10, a record file with the byte 0x60, \
+             a site text with objectdiagram NAME {"
         }
         _ if wants(End) => {
             "a file holds one diagram, which ends with this brace: take out the rest"
         }
-        Read::End => "the text ends too early: was it cut off, or is a closing brace missing?",
+        Read::End => ENDS_EARLY,
         _ if wants(Word("singleton")) => "the only stereotype is <<singleton>>",
         _ if wanted == [Word("class")] => {
             "abstract and <<singleton>> stand in front of class alone, and never together"

@@ -1,7 +1,8 @@
-//! Diagrams typed as text.
+//! Diagrams typed as text, and what texts of other kinds share with them: words and marks, places,
+//! faults and advice.
 //!
-//! Whether a text is accepted is the library's word alone. This reading finds the names in an
-//! accepted text, and the place and the words for the refusal of another.
+//! Whether a diagram text is accepted is the library's word alone. This reading finds the names in
+//! an accepted text, and the place and the words for the refusal of another.
 
 mod associations;
 mod cardinality;
@@ -14,21 +15,34 @@ mod explained;
 mod fault;
 mod grammar;
 mod hints;
+mod language;
 mod place;
 mod reader;
 mod references;
 mod similar;
 mod spelling;
+mod stray;
 mod tokens;
 mod twice;
 mod wanted;
 #[cfg(test)]
 mod worked_cases;
 
-pub use declarations::lowered;
-pub use fault::TextFault;
+pub use checks::earliest;
+pub use counts::{over, TEXT};
+pub use declarations::{lowered, Name};
+pub use fault::{TextFault, TextRule};
+pub use language::{is_name, Language};
 pub use place::{excerpt, place_of, Place};
-pub use tokens::{is_name, NAME_MOST};
+pub use reader::{name_of, try_length, Found, Reader};
+pub use similar::{advice, similar};
+pub use spelling::{can_be_shown, quoted};
+pub use stray::{encoding, ENDS_EARLY};
+#[cfg(test)]
+pub use tokens::Tokens;
+pub use tokens::{Read, NAME_MOST};
+pub use twice::{again, repeated, second};
+pub use wanted::Wanted;
 
 use crate::diagram::Diagram;
 
@@ -51,8 +65,10 @@ pub fn read_text(text: &[u8]) -> Result<NamedDiagram, TextFault> {
     }
 }
 
-/// The text starts as a diagram does, whatever comes then.
-pub fn starts_as_text(text: &[u8]) -> bool {
-    let first = tokens::Tokens::of(text).next();
-    first.read == tokens::Read::Word("classdiagram")
+/// The word that a text starts with, blanks before it passed over.
+pub fn first_word(text: &[u8]) -> Option<&str> {
+    match tokens::Tokens::of(text, &[]).next().read {
+        Read::Word(word) => Some(word),
+        _ => None,
+    }
 }

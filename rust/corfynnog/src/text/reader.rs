@@ -1,8 +1,8 @@
 //! Goes through a text word by word, and says what was expected where it finds something else.
 
 use super::declarations::Name;
-use super::fault::TextFault;
-use super::hints::hint;
+use super::fault::{TextFault, TextRule};
+use super::language::Language;
 use super::spelling::{front, read_in_words};
 use super::tokens::{Read, Token, Tokens, NAME_MOST};
 use super::wanted::{any_of, Wanted};
@@ -12,26 +12,32 @@ pub type Found<T> = Result<T, TextFault>;
 
 /// The words and marks that are ahead.
 pub struct Reader<'a> {
+    language: &'static Language,
     tokens: Tokens<'a>,
     next: Token<'a>,
 }
 
 impl<'a> Reader<'a> {
     /// The whole text is ahead.
-    pub fn of(text: &'a [u8]) -> Reader<'a> {
-        let mut tokens = Tokens::of(text);
+    pub fn of(text: &'a [u8], language: &'static Language) -> Reader<'a> {
+        let mut tokens = Tokens::of(text, language.marks);
         let next = tokens.next();
-        Reader { tokens, next }
+        Reader {
+            language,
+            tokens,
+            next,
+        }
     }
 
     /// Takes the next word or mark, which is one of those wanted.
     pub fn step(&mut self, wanted: &[Wanted]) -> Found<Token<'a>> {
         let token = self.next;
-        let Some(fitting) = wanted.iter().find(|w| w.fits(token.read)) else {
-            return Err(outside(token, wanted));
+        let mut fitting = wanted.iter().filter(|w| w.fits(token.read, self.language));
+        let Some(fitting) = fitting.next() else {
+            return Err(self.outside(token, wanted));
         };
         if fitting.is_name() {
-            try_length(token)?;
+            try_length(name_of(token))?;
         }
         self.next = self.tokens.next();
         Ok(token)
@@ -47,6 +53,17 @@ impl<'a> Reader<'a> {
     pub fn mark(&mut self, mark: &'static str) -> Found<()> {
         self.step(&[Wanted::Mark(mark)]).map(|_| ())
     }
+
+    /// What stands there is not what the grammar allows there.
+    fn outside(&self, token: Token, wanted: &[Wanted]) -> TextFault {
+        let (read, expected) = (read_in_words(token.read), any_of(wanted));
+        let what = format!("{read}, expected {expected}");
+        let fault = TextFault::of(TextRule::Grammar, token.at, what);
+        match self.language.hint(token.read, wanted) {
+            Some(to_do) => fault.with(to_do),
+            None => fault,
+        }
+    }
 }
 
 /// A word that is known to be a name.
@@ -58,23 +75,12 @@ pub fn name_of(token: Token) -> Name {
     Name { text, at: token.at }
 }
 
-/// What stands there is not what the grammar allows there.
-fn outside(token: Token, wanted: &[Wanted]) -> TextFault {
-    let (read, expected) = (read_in_words(token.read), any_of(wanted));
-    let fault = TextFault::of(23, token.at, format!("{read}, expected {expected}"));
-    match hint(token.read, wanted) {
-        Some(to_do) => fault.with(to_do),
-        None => fault,
-    }
-}
-
 /// A name has at most 16 bytes.
-fn try_length(token: Token) -> Found<()> {
-    let name = name_of(token);
+pub fn try_length(name: Name) -> Found<()> {
     if name.text.len() <= NAME_MOST {
         return Ok(());
     }
     let (shown, length) = (front(name.text), name.text.len());
     let what = format!("the name {shown} has {length} bytes, at most {NAME_MOST} are allowed");
-    Err(TextFault::of(23, name.at, what).with("choose a shorter name"))
+    Err(TextFault::of(TextRule::Grammar, name.at, what).with("choose a shorter name"))
 }

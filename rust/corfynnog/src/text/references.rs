@@ -7,9 +7,9 @@ use crate::diagram::Kind;
 
 use super::checks::earliest;
 use super::declarations::{Declarations, Name, Type};
-use super::fault::TextFault;
+use super::fault::{TextFault, TextRule};
 use super::place::place_of;
-use super::similar::similar;
+use super::similar::{advice, similar};
 use super::spelling::quoted;
 
 /// The first end or parent that names nothing that it may name.
@@ -67,11 +67,11 @@ impl<'t, 'a> Known<'t, 'a> {
                 "declare a class {}, or make it an attribute's type",
                 end.text
             );
-            return Some(TextFault::of(24, end.at, what).with(to_do));
+            return Some(TextFault::of(TextRule::Declared, end.at, what).with(to_do));
         }
         let what = format!("{name} is no class or interface of this text");
         let meant = similar(end.text, self.types.iter().map(|t| t.name.text));
-        Some(TextFault::of(24, end.at, what).with(advice(end.text, meant)))
+        Some(TextFault::of(TextRule::Declared, end.at, what).with(advice(end.text, meant)))
     }
 
     /// All parents of a type.
@@ -94,7 +94,7 @@ impl<'t, 'a> Known<'t, 'a> {
             Some(parent) => self.declared_later(name, parent),
             None => self.not_of_kind(child, name, interface),
         };
-        Some(TextFault::of(24, name.at, what).with(to_do))
+        Some(TextFault::of(TextRule::Declared, name.at, what).with(to_do))
     }
 
     /// The first interface, or the first class, of each name.
@@ -165,13 +165,5 @@ fn keyword_advice(child: Kind, interface: bool) -> &'static str {
         (Kind::Interface, _) => "an interface extends interfaces alone: take the class out",
         (_, true) => "write it behind extends",
         (_, false) => "write it behind implements",
-    }
-}
-
-/// The name that may have been meant, or that a declaration is missing.
-fn advice(name: &str, meant: Option<&str>) -> String {
-    match meant {
-        Some(meant) => format!("perhaps {meant} is meant; else declare {name}"),
-        None => format!("declare {name}, or correct the name"),
     }
 }

@@ -25,9 +25,14 @@ pub fn quoted(word: &str) -> String {
 
 /// A word in quotation marks; of a long one its front.
 pub fn front(word: &str) -> String {
+    format!("\"{}\"", shortened(word))
+}
+
+/// A word; of a long one its front.
+pub fn shortened(word: &str) -> String {
     match word.get(..TOLD).filter(|_| word.len() > TOLD) {
-        Some(front) => format!("\"{front}...\""),
-        None => format!("\"{word}\""),
+        Some(front) => format!("{front}..."),
+        None => word.to_string(),
     }
 }
 
@@ -46,7 +51,7 @@ fn stray(rest: &[u8]) -> String {
 }
 
 /// Neither a control character nor one that changes how others look.
-fn can_be_shown(letter: char) -> bool {
+pub fn can_be_shown(letter: char) -> bool {
     letter == '"' || letter == '\'' || letter == '\\' || letter.escape_debug().count() == 1
 }
 

@@ -3,24 +3,6 @@
 /// The longest name.
 pub const NAME_MOST: usize = 16;
 
-/// The words that the grammar quotes; none of them is a name.
-const QUOTED: [&str; 9] = [
-    "classdiagram",
-    "class",
-    "extends",
-    "implements",
-    "interface",
-    "enum",
-    "association",
-    "composition",
-    "abstract",
-];
-
-/// The marks, longest first.
-const MARKS: [&str; 16] = [
-    "<->", "->", "<-", "--", "<<", ">>", "..", "{", "}", ";", ",", "(", ")", "[", "]", "*",
-];
-
 /// What stands at a place of a text.
 #[derive(Clone, Copy, Debug, PartialEq, Eq)]
 pub enum Read<'a> {
@@ -40,21 +22,18 @@ pub struct Token<'a> {
     pub read: Read<'a>,
 }
 
-/// A word that the grammar does not quote.
-pub fn is_name(word: &str) -> bool {
-    !QUOTED.contains(&word)
-}
-
 /// Goes through a text from left to right.
 pub struct Tokens<'a> {
     text: &'a [u8],
+    /// Longest first.
+    marks: &'static [&'static str],
     at: usize,
 }
 
 impl<'a> Tokens<'a> {
     /// The whole text is ahead.
-    pub fn of(text: &'a [u8]) -> Tokens<'a> {
-        Tokens { text, at: 0 }
+    pub fn of(text: &'a [u8], marks: &'static [&'static str]) -> Tokens<'a> {
+        Tokens { text, marks, at: 0 }
     }
 
     /// The next word or mark. A stray byte and the end stay where they are.
@@ -62,7 +41,7 @@ impl<'a> Tokens<'a> {
         let blanks = length_of(&self.text[self.at..], |b| b" \t\n\r".contains(&b));
         self.at += blanks;
         let (at, rest) = (self.at, &self.text[self.at..]);
-        let read = first_of(rest);
+        let read = first_of(rest, self.marks);
         self.at += match read {
             Read::Word(word) => word.len(),
             Read::Mark(mark) => mark.len(),
@@ -73,7 +52,7 @@ impl<'a> Tokens<'a> {
 }
 
 /// What stands at the front.
-fn first_of(rest: &[u8]) -> Read<'_> {
+fn first_of<'a>(rest: &'a [u8], marks: &[&'static str]) -> Read<'a> {
     if rest.is_empty() {
         return Read::End;
     }
@@ -81,7 +60,7 @@ fn first_of(rest: &[u8]) -> Read<'_> {
     if !word.is_empty() {
         return Read::Word(std::str::from_utf8(word).unwrap_or_default());
     }
-    match MARKS.iter().find(|mark| rest.starts_with(mark.as_bytes())) {
+    match marks.iter().find(|mark| rest.starts_with(mark.as_bytes())) {
         Some(mark) => Read::Mark(mark),
         None => Read::Stray(rest),
     }
@@ -96,18 +75,11 @@ fn length_of(bytes: &[u8], is_of: impl Fn(u8) -> bool) -> usize {
 #[cfg(test)]
 mod tests {
     use super::*;
-    use generators::text_damage;
-
-    /// The generators have lists of their own.
-    #[test]
-    fn words_and_marks_are_those_of_the_generators() {
-        assert_eq!(QUOTED, text_damage::KEYWORDS);
-        assert_eq!(MARKS, text_damage::MARKS);
-    }
+    use crate::text::language::DIAGRAM_TEXT;
 
     /// Words and marks with a blank between, a stray byte as `!`.
     fn told(text: &str) -> String {
-        let mut tokens = Tokens::of(text.as_bytes());
+        let mut tokens = Tokens::of(text.as_bytes(), DIAGRAM_TEXT.marks);
         let mut told = Vec::new();
         loop {
             match tokens.next().read {
@@ -145,7 +117,7 @@ mod tests {
 
     #[test]
     fn a_token_knows_its_first_byte() {
-        let mut tokens = Tokens::of(b" ab\n<->");
+        let mut tokens = Tokens::of(b" ab\n<->", DIAGRAM_TEXT.marks);
         let places: Vec<usize> = (0..4).map(|_| tokens.next().at).collect();
         assert_eq!(places, [1, 4, 7, 7]);
     }

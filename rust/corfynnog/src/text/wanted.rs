@@ -1,6 +1,7 @@
 //! What the grammar allows at a place.
 
-use super::tokens::{is_name, Read};
+use super::language::Language;
+use super::tokens::Read;
 
 /// One thing that may come next.
 #[derive(Clone, Copy, Debug, PartialEq, Eq)]
@@ -9,16 +10,19 @@ pub enum Wanted {
     Mark(&'static str),
     /// A name, and what for: "a name for the class".
     Name(&'static str),
+    /// A word of any length that serves as a name, and what for.
+    AnyWord(&'static str),
     Integer,
     End,
 }
 
 impl Wanted {
-    /// This is what stands there.
-    pub fn fits(self, read: Read) -> bool {
+    /// This is what stands there in a text of that kind.
+    pub fn fits(self, read: Read, language: &Language) -> bool {
         match (self, read) {
             (Wanted::Word(wanted), Read::Word(word)) => wanted == word,
-            (Wanted::Name(_), Read::Word(word)) => is_name(word),
+            (Wanted::Name(_), Read::Word(word)) => language.is_name(word),
+            (Wanted::AnyWord(_), Read::Word(_)) => true,
             (Wanted::Integer, Read::Word(word)) => word.bytes().all(|b| b.is_ascii_digit()),
             (Wanted::Mark(wanted), Read::Mark(mark)) => wanted == mark,
             (Wanted::End, Read::End) => true,
@@ -26,7 +30,7 @@ impl Wanted {
         }
     }
 
-    /// It is a name, whatever for.
+    /// It is a name of limited length, whatever for.
     pub fn is_name(self) -> bool {
         matches!(self, Wanted::Name(_))
     }
@@ -35,7 +39,7 @@ impl Wanted {
     fn words(self) -> String {
         match self {
             Wanted::Word(text) | Wanted::Mark(text) => format!("\"{text}\""),
-            Wanted::Name(purpose) => format!("a name {purpose}"),
+            Wanted::Name(purpose) | Wanted::AnyWord(purpose) => format!("a name {purpose}"),
             Wanted::Integer => "a number".to_string(),
             Wanted::End => "the end of the text".to_string(),
         }

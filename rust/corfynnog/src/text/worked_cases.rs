@@ -8,7 +8,9 @@ use super::read_text;
 
 /// The refusal of a text, 0 for none.
 fn refusal(text: &[u8]) -> u8 {
-    read_text(text).err().map_or(0, |fault| fault.refusal)
+    read_text(text)
+        .err()
+        .map_or(0, |fault| fault.rule.refusal())
 }
 
 #[test]

@@ -5,6 +5,7 @@ use std::collections::BTreeMap;
 #[derive(Clone, Debug, PartialEq)]
 pub enum Value {
     Null,
+    Bool(bool),
     Number(u64),
     Text(String),
     List(Vec<Value>),
@@ -46,6 +47,14 @@ impl Value {
         }
     }
 
+    /// True or false.
+    pub fn is_true(&self) -> bool {
+        match self {
+            Value::Bool(value) => *value,
+            _ => panic!("neither true nor false: {self:?}"),
+        }
+    }
+
     /// How many items or members.
     pub fn len(&self) -> usize {
         match self {
@@ -75,6 +84,11 @@ fn value(rest: &mut &str) -> Value {
         'n' => {
             expect(rest, "null");
             Value::Null
+        }
+        't' | 'f' => {
+            let value = first == 't';
+            expect(rest, &value.to_string());
+            Value::Bool(value)
         }
         _ => {
             let digits = rest.len() - rest.trim_start_matches(|c: char| c.is_ascii_digit()).len();

@@ -3,8 +3,10 @@
 
 pub mod constructs;
 pub mod json;
+pub mod promised;
 pub mod sites;
 
+use std::ffi::OsStr;
 use std::fs;
 use std::path::{Path, PathBuf};
 use std::process::{Command, Stdio};
@@ -31,8 +33,13 @@ impl Folder {
     }
 
     /// Puts a file into it.
-    pub fn put(&self, name: &str, bytes: &[u8]) {
+    pub fn put(&self, name: impl AsRef<Path>, bytes: &[u8]) {
         fs::write(self.path.join(name), bytes).expect("a file for the test");
+    }
+
+    /// The path of a file of it.
+    pub fn path(&self, name: &str) -> PathBuf {
+        self.path.join(name)
     }
 
     /// A file of it.
@@ -41,17 +48,20 @@ impl Folder {
     }
 
     /// Runs the program there. Neither of its outputs is a terminal.
-    pub fn run(&self, words: &[&str]) -> Ran {
+    pub fn run(&self, words: &[impl AsRef<OsStr>]) -> Ran {
         self.start(words, Stdio::null())
     }
 
-    fn start(&self, words: &[&str], input: Stdio) -> Ran {
-        let done = Command::new(env!("CARGO_BIN_EXE_corfynnog"))
-            .args(words)
-            .current_dir(&self.path)
-            .stdin(input)
-            .output()
-            .expect("the program starts");
+    fn start(&self, words: &[impl AsRef<OsStr>], input: Stdio) -> Ran {
+        let mut program = Command::new(env!("CARGO_BIN_EXE_corfynnog"));
+        program.args(words).stdin(input);
+        self.end_of(program)
+    }
+
+    /// Runs a program there.
+    fn end_of(&self, mut program: Command) -> Ran {
+        program.current_dir(&self.path);
+        let done = program.output().expect("the program starts");
         Ran {
             status: done.status.code().expect("the program ends by itself"),
             out: String::from_utf8(done.stdout).expect("text"),
@@ -64,6 +74,14 @@ impl Folder {
         self.put("input", input);
         let input = fs::File::open(self.path.join("input")).expect("the input");
         self.start(&line.split_whitespace().collect::<Vec<_>>(), input.into())
+    }
+
+    /// Runs a line of a shell, in which $P is the program.
+    pub fn shell(&self, line: &str) -> Ran {
+        let mut shell = Command::new("sh");
+        shell.args(["-c", line]);
+        shell.env("P", env!("CARGO_BIN_EXE_corfynnog"));
+        self.end_of(shell)
     }
 
     /// Runs a line of words.
