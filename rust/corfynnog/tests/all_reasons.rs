@@ -279,6 +279,12 @@ fn types_stand_below_others_as_in_old() {
         &["class A extends B becomes class A."],
     );
     expect_changes(
+        "below_another",
+        "abstract class Q; abstract class P extends Q {V a;} class X extends Q;",
+        "abstract class Q; abstract class P extends Q {V a;} class X extends P;",
+        &["class X extends P becomes class X extends Q."],
+    );
+    expect_changes(
         "below_again",
         "abstract class B; class A extends B; class E extends B; class T; association B -> (r) T;",
         "class A; class E; class T;",
@@ -469,6 +475,41 @@ fn without_a_difference_all_is_as_without() {
     ] {
         let without = folder.answer(0, line);
         assert_eq!(folder.answer(0, &format!("{line} --all")), without);
+    }
+}
+
+/// The sentences of the changes for an example, up to 8 objects.
+fn changes_of_example(name: &str, old: &str, new: &str) -> Vec<String> {
+    let root = concat!(env!("CARGO_MANIFEST_DIR"), "/../../examples");
+    let path = |file: &str| format!("{root}/{name}/{file}");
+    let folder = Folder::of(&format!("all_reasons_{name}"));
+    let ran = folder.run(&["compare", &path(old), &path(new), "--all", "--json"]);
+    assert_eq!((ran.status, ran.err.as_str()), (1, ""), "{name}");
+    let object = read(&ran.out);
+    assert_eq!(object.get("complete"), &Value::Bool(true), "{name}");
+    let list = object.get("changes");
+    (0..list.len())
+        .map(|i| list.at(i).text().to_string())
+        .collect()
+}
+
+#[test]
+fn the_examples() {
+    assert_eq!(
+        changes_of_example("line_cards", "old.cd", "new.cd"),
+        ["composition [1] Card (card) -> (lines) Line [1..32] becomes composition [1] Card (card) -> (lines) Line [0..32]."]
+    );
+    assert_eq!(
+        changes_of_example("card_states", "old.cd", "new.diagram"),
+        ["enum State {spare, working, testing;} becomes enum State {spare, working, testing, blocked;}."]
+    );
+    let families = changes_of_example("new_families", "new.cd", "old.cd");
+    for sentence in [
+        "class ClockCard extends Card is added.",
+        "composition [1] Shelf (shelf) -> (cards) Card [0..4] becomes composition [1] Shelf (shelf) -> (cards) Card [0..8].",
+        "composition [1] TrunkCard (trunkCard) -> (trunks) Trunk [1..4] becomes composition [1] TrunkCard (trunkCard) -> (trunks) Trunk [*].",
+    ] {
+        assert!(families.iter().any(|s| s == sentence), "{families:?}");
     }
 }
 

@@ -109,11 +109,12 @@ fn associations(before: &Diagram, changes: &[Change]) -> Vec<Association> {
 /// type becomes a class its children are written otherwise too.
 fn lines(before: &Diagram, after: &Diagram, changes: &[Change]) -> Vec<LineChange> {
     let (known, more) = after.types.split_at(before.types.len());
-    let head = |diagram: &Diagram, of: &Type| Line::of(type_head(diagram, of));
-    let added_types = more.iter().map(|of| LineChange::added(head(after, of)));
+    let added_types = more
+        .iter()
+        .map(|of| LineChange::added(type_line(after, of)));
     let mut lines: Vec<LineChange> = added_types.collect();
     for (earlier, of) in before.types.iter().zip(known) {
-        let (earlier, of) = (head(before, earlier), head(after, of));
+        let (earlier, of) = (type_line(before, earlier), type_line(after, of));
         if earlier != of {
             lines.push(LineChange::becomes(earlier, vec![of]));
         }
@@ -149,6 +150,23 @@ impl Change {
     }
 }
 
+/// A type's line; the order of its parents does not matter.
+fn type_line(diagram: &Diagram, of: &Type) -> Line {
+    let parent = |&parent: &usize| {
+        let Type { kind, name, .. } = &diagram.types[parent];
+        match kind {
+            Kind::Interface => format!("interface {name}"),
+            _ => format!("class {name}"),
+        }
+    };
+    let mut parents: Vec<String> = of.parents.iter().map(parent).collect();
+    parents.sort();
+    Line {
+        key: format!("{} {}: {}", of.kind.words(), of.name, parents.join(", ")),
+        text: type_head(diagram, of),
+    }
+}
+
 /// An attribute's line; what kind of type its owner is does not matter.
 fn attribute_line(diagram: &Diagram, of: &Attribute) -> Line {
     let owner = &diagram.types[of.owner].name;
@@ -162,7 +180,8 @@ fn attribute_line(diagram: &Diagram, of: &Attribute) -> Line {
 /// The keys of all lines of a diagram, in alphabetical order.
 #[cfg(test)]
 pub fn keys(diagram: &Diagram) -> Vec<String> {
-    let types = diagram.types.iter().map(|of| type_head(diagram, of));
+    let types = diagram.types.iter();
+    let types = types.map(|of| type_line(diagram, of).key);
     let value_types = diagram.value_types.iter().map(value_type_text);
     let attributes = diagram.attributes.iter();
     let attributes = attributes.map(|of| attribute_line(diagram, of).key);

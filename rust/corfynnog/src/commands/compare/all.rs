@@ -38,7 +38,8 @@ pub struct Difference {
 pub enum End {
     /// There is none: the last comparison found no difference.
     Complete,
-    TimeUp,
+    /// The time was up; with the changes there is no difference up to this many objects.
+    TimeUp(Option<u8>),
     NoChangeKnown,
     /// By the changes that are known new would have more parts than a diagram may have.
     TooLarge,
@@ -109,7 +110,7 @@ impl Rounds<'_> {
             let changed = file_of(self.draft.diagram());
             witness = match watch.search(Aim::Difference, old, &changed, bound)? {
                 Found::NoDifference => return Ok(End::Complete),
-                Found::NotSettled(_) => return Ok(End::TimeUp),
+                Found::NotSettled(settled) => return Ok(End::TimeUp(settled)),
                 Found::Difference(witness) => witness,
             };
         }

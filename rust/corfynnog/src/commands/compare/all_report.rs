@@ -24,6 +24,9 @@ pub fn differences(compared: &Compared, all: &All) -> Result<Outcome, Trouble> {
     Ok(Outcome::answer(FOUND, report.text(all), members))
 }
 
+/// What to do where the time was up.
+const LONGER: &str = "Give a longer --timeout, or a smaller --bound.";
+
 /// What the report is about.
 struct Report<'a> {
     compared: &'a Compared<'a>,
@@ -110,31 +113,32 @@ impl Report<'_> {
 
     /// What the changes come to.
     fn end_sentence(&self, all: &All) -> String {
+        let new = &self.new_name;
+        let further = "there may be further reasons.";
+        match all.end {
+            End::Complete => format!("{}:", self.enough(all, self.compared.bound)),
+            End::TimeUp(None) => format!("The time was up, so that {further} {LONGER}"),
+            End::TimeUp(Some(settled)) => format!(
+                "{}. The time was up before larger sites were settled, so that {further} {LONGER}",
+                self.enough(all, settled)
+            ),
+            End::NoChangeKnown => format!("This program knows no further change; {further}"),
+            End::TooLarge => format!(
+                "By the changes that this program knows {new} would have more parts than a \
+                 diagram may have; {further}"
+            ),
+            End::TooManyChanges => format!("This program makes no more changes; {further}"),
+        }
+    }
+
+    /// That the changes are enough for the sites of so many objects.
+    fn enough(&self, all: &All, settled: u8) -> String {
         let with = match all.changes.len() {
             1 => "this change".to_string(),
             count => format!("these {count} changes"),
         };
-        match all.end {
-            End::Complete => {
-                let (old, new) = (&self.old_name, &self.new_name);
-                let sites = sites_within(self.compared.bound);
-                format!("With {with} {new} would allow every site {sites} that {old} allows:")
-            }
-            End::TimeUp => "The time was up: the list is not complete, and there may be further \
-                            reasons. Give a longer --timeout, or a smaller --bound."
-                .to_string(),
-            End::NoChangeKnown => {
-                "This program knows no further change; there may be further reasons.".to_string()
-            }
-            End::TooLarge => format!(
-                "By the changes that this program knows {} would have more parts than a diagram \
-                 may have; there may be further reasons.",
-                self.new_name
-            ),
-            End::TooManyChanges => {
-                "This program makes no more changes; there may be further reasons.".to_string()
-            }
-        }
+        let (old, new, sites) = (&self.old_name, &self.new_name, sites_within(settled));
+        format!("With {with} {new} would allow every site {sites} that {old} allows")
     }
 
     /// The members of the answer for scripts that are not null.
@@ -222,7 +226,12 @@ mod tests {
     #[test]
     fn changes_that_may_not_be_enough() {
         for (end, first) in [
-            (End::TimeUp, "The time was up: the list is not complete, "),
+            (End::TimeUp(None), "The time was up, so that there may be "),
+            (
+                End::TimeUp(Some(4)),
+                "With this change new.cd would allow every site of at most 4 objects that old.cd \
+                 allows. The time was up before larger sites were settled, so that there may be ",
+            ),
             (End::NoChangeKnown, "This program knows no further change; "),
             (
                 End::TooLarge,
@@ -237,7 +246,7 @@ mod tests {
                 text.ends_with("\nThe changes so far:\n  1. class A is added.\n"),
                 "{text}"
             );
-            assert!(!told(end, &[]).contains("so far"));
+            assert!(!told(end, &[]).contains("so far"), "{end:?}");
         }
     }
 }
