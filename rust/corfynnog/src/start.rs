@@ -9,7 +9,7 @@ use boundary::has_room;
 use crate::early_end::end_without_memory;
 
 /// The memory that a run on small files takes, and more: stacks above all.
-const LEAST_ROOM: usize = 32 << 20;
+const LEAST_ROOM: usize = 16 << 20;
 
 /// The number of standard output.
 const OUTPUT: c_int = 1;
