@@ -2,7 +2,7 @@
 
 use crate::product;
 use brute::{compare_within, judge, read_diagram, read_record, Diagram};
-use generators::diagrams::{diagram, loosened, Size, LARGE, SMALL, TINY};
+use generators::diagrams::{diagram, loosened, Size, LARGE, LINKED, SMALL, TINY, WIDE};
 use generators::edits::{edited, redrawn};
 use generators::fillings::searched_soon;
 use generators::hex::hex;
@@ -13,22 +13,6 @@ const BOUND: usize = 3;
 
 /// Nodes that the independent search may visit for a pair.
 const BUDGET: u64 = 400_000;
-
-/// Few types and many links, where the rules on links are all that differs.
-const LINKED: Size = Size {
-    value_types: 0,
-    types: 2,
-    attributes: 0,
-    associations: 3,
-};
-
-/// Many types and few links: more names than objects.
-const WIDE: Size = Size {
-    value_types: 3,
-    types: 8,
-    attributes: 6,
-    associations: 4,
-};
 
 /// A size of pairs, and the bound up to which pairs of that size are compared.
 type SizeAndBound = (Size, usize);

@@ -37,6 +37,22 @@ pub const LARGE: Size = Size {
     associations: 16,
 };
 
+/// Few types and many links, where the rules on links are all that differs.
+pub const LINKED: Size = Size {
+    value_types: 0,
+    types: 2,
+    attributes: 0,
+    associations: 3,
+};
+
+/// Many types and few links: more names than objects.
+pub const WIDE: Size = Size {
+    value_types: 3,
+    types: 8,
+    attributes: 6,
+    associations: 4,
+};
+
 /// A diagram of at most this size that keeps every demand of the file format.
 pub fn diagram(random: &mut Random, size: Size) -> DiagramPlan {
     let mut plan = DiagramPlan::default();

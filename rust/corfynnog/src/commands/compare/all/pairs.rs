@@ -4,25 +4,9 @@
 use super::*;
 use crate::commands::compare::Smallest;
 use crate::loosening::keys;
-use generators::diagrams::{diagram, loosened, Size, LARGE, SMALL, TINY};
+use generators::diagrams::{diagram, loosened, Size, LARGE, LINKED, SMALL, TINY, WIDE};
 use generators::edits::{edited, redrawn};
 use generators::{DiagramPlan, Random};
-
-/// Few types and many links.
-const LINKED: Size = Size {
-    value_types: 0,
-    types: 2,
-    attributes: 0,
-    associations: 3,
-};
-
-/// Many types and few links.
-const WIDE: Size = Size {
-    value_types: 3,
-    types: 8,
-    attributes: 6,
-    associations: 4,
-};
 
 /// So many pairs of each size and kind are tried.
 const PAIRS: u64 = 10;
