@@ -1,5 +1,5 @@
 # make demo: the comparer on its first example, from nothing.
-# make marked: the cases of document 01's section "Shelf and card", a line each; it fails where one is not as 01 has it.
+# make marked: the cases of document 01's section "Shelf and card", as document 02 amends it, a line each; it fails where one comes otherwise.
 # make test: everything that must hold, from nothing. Its last line is 'N passed, M failed'.
 # make check: the proofs and programs again, only where something changed.
 # make library: what the Rust programs link to, target/staticlib/libreplay.a; what the prover says goes to target/library.log.

@@ -34,5 +34,5 @@ pub fn counted_left(arrow: u8) -> bool
 pub fn is_mirrored(arrow: u8) -> bool
     ensures { λ r. ⌜ r ≡ mirrors arrow ⌝ }
 {
-    arrow == 3
+    (arrow == 3) | (arrow == 4)
 }

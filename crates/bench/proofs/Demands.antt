@@ -2,7 +2,7 @@
 -- Assumes nothing.
 use mathlib.Core.List.{[]}
 use Rattle.steps.proofs.Demands as steps
-use Rattle.bench.specs.Demands.{RunsDemandOne, RunsDemandThree, RunsDemandTwo}
+use Rattle.bench.specs.Demands.{RunsDemandOne, RunsDemandThree, RunsDemandTwo, RunsSameHeads}
 use Rattle.bench.specs.Runs.{eventsOf, outcomeOf}
 use Rattle.bench.specs.View.{benchOf}
 use Rattle.bench.proofs.RunLaws.{made-refused, made-step, run-row, runs-reach, runs-valid}
@@ -23,3 +23,6 @@ demand-three b reached old new eo en bound h r m =
       none-overlooked = all;
       handed-out = λ n i ms c run k buffer p given o. all .handed-out n i (eventsOf ms) (benchOf c) (run-row (r .bench) ms c run) k buffer (outcomeOf p given) (o .step);
     }
+
+pub same-heads : RunsSameHeads
+same-heads b reached old new eo en h bound l r m = steps.same-heads (benchOf b) old new eo en h bound l (outcomeOf r []) (m .step)

@@ -9,8 +9,9 @@ use mathlib.Core.List.{List, []}
 use mathlib.Core.Option.{some}
 use mathlib.Core.Path.{_≡_}
 use Rattle.files.specs.Diagram.{Diagram}
+use Rattle.rules.specs.Heads.{allHeaded}
 use Rattle.smallest_records.specs.Difference.{Gap}
-use Rattle.steps.specs.Bench.{Compare, HandOut, difference, isRefusal}
+use Rattle.steps.specs.Bench.{Compare, HandOut, difference, isRefusal, noDifference}
 use Rattle.steps.specs.Demands.{Defined, Exact, NoneOverlooked}
 use Rattle.steps.specs.HandedOut.{HandedOut}
 use Rattle.steps.specs.Row.{KeepsWitness}
@@ -52,3 +53,10 @@ abbrev pub RunsDemandThree : Type 0
 RunsDemandThree =
     (b : Bench) → ReachedIn b → (old new : Diagram) → benchOf b .old ≡ some old → benchOf b .new ≡ some new
     → (bound : ℕ) → bound ≤ 8 → (r : Replied) → Does b (Compare bound) r [] → Compared old new bound r
+
+-- ---- 02 2/12: "Two diagrams that differ only in ↔ against no arrowhead have no difference at any bound."
+
+abbrev pub RunsSameHeads : Type 0
+RunsSameHeads =
+    (b : Bench) → ReachedIn b → (old new : Diagram) → benchOf b .old ≡ some old → benchOf b .new ≡ some new → allHeaded old ≡ allHeaded new
+    → (bound : ℕ) → bound ≤ 8 → (r : Replied) → Does b (Compare bound) r [] → outcomeOf r [] .reply ≡ noDifference

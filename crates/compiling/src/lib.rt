@@ -17,7 +17,7 @@ pub struct Compiled {
 }
 
 // Of each arrow, the kinds of its entries in order, 0 for none, and their sides. No arrow has the number 0.
-const KINDS: [[u8; 3]; 5] = [[0, 0, 0], [1, 3, 0], [1, 3, 0], [1, 1, 5], [1, 1, 0]];
+const KINDS: [[u8; 3]; 5] = [[0, 0, 0], [1, 3, 0], [1, 3, 0], [1, 1, 5], [1, 1, 5]];
 
 const SIDES: [[u8; 3]; 5] = [[0, 0, 0], [0, 0, 0], [1, 1, 0], [0, 1, 0], [0, 1, 0]];
 

@@ -30,7 +30,7 @@ use Rattle.steps.proofs.Demands as steps
 use Rattle.steps.proofs.RowLaws.{row-at}
 use Rattle.steps.proofs.StepLaws.{by-answer, compared-within, evaluate-accepted, judge-accepted, judge-refused, placed-accepted, placed-refused, replied}
 use Rattle.coding.specs.ReplyBytes.{bytesBy, four, headBytes, outcomeBytes, partsOf, replyBytes}
-use Rattle.replay.specs.Demands.{BytesDemandThree, BytesDemandTwo, EachReplied, HandedBytes, ReplayRuns}
+use Rattle.replay.specs.Demands.{BytesDemandThree, BytesDemandTwo, BytesSameHeads, EachReplied, HandedBytes, ReplayRuns}
 use Rattle.replay.specs.Replays.{CodesRow, rowBytes}
 use Rattle.replay.proofs.RowLaws.{replays-row}
 
@@ -184,3 +184,6 @@ demand-three b old new eo en bound h o s =
       least = λ n i. all .least n (some-iff n .0 i);
       handed-out = λ n i es c row k buffer l p t. handed-bytes (Gap old new) n c buffer p t l (all .handed-out n (some-iff n .0 i) es c row k buffer p t);
     }
+
+pub same-heads : BytesSameHeads
+same-heads b old new eo en h bound l o s = none-bytes b old new eo en bound l o s .1 (steps.same-heads b old new eo en h bound l o s)

@@ -17,6 +17,7 @@ use Rattle.files.specs.Refusal.{accepted}
 use Rattle.texts.specs.Grammar.{Belongs, Tree}
 use Rattle.texts.specs.TextChecks.{textRefusal}
 use Rattle.rules.specs.Compile.{compile, compiledBytes}
+use Rattle.rules.specs.Heads.{allHeaded}
 use Rattle.rules.specs.LinkRules.{rule6, rule7, rule8}
 use Rattle.rules.specs.Site.{siteOf}
 use Rattle.rules.specs.WholeRule.{rule9}
@@ -98,3 +99,10 @@ abbrev pub BytesDemandThree : Type 0
 BytesDemandThree =
     (b : Bench) (old new : Diagram) → b .old ≡ some old → b .new ≡ some new
     → (bound : ℕ) → bound ≤ 8 → (o : Outcome) → Step b (Compare bound) o → ComparedBytes old new bound o
+
+-- ---- 02 2/12: "Two diagrams that differ only in ↔ against no arrowhead have no difference at any bound."
+
+abbrev pub BytesSameHeads : Type 0
+BytesSameHeads =
+    (b : Bench) (old new : Diagram) → b .old ≡ some old → b .new ≡ some new → allHeaded old ≡ allHeaded new
+    → (bound : ℕ) → bound ≤ 8 → (o : Outcome) → Step b (Compare bound) o → outcomeBytes (Compare bound) o ≡ 0 ∷ 0 ∷ []

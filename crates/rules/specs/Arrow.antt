@@ -25,9 +25,9 @@ countedRight arrow = eqb arrow 1
 unfoldable pub countedLeft : ℕ → Bool
 countedLeft arrow = eqb arrow 2
 
--- rule 8: "Arrow 3"; "Arrow 4 has no mirror"
+-- rule 8: "Arrow 3", and by 02 "arrow 4 mirrors as arrow 3 does"
 unfoldable pub mirrors : ℕ → Bool
-mirrors arrow = eqb arrow 3
+mirrors arrow = either (eqb arrow 3) (eqb arrow 4)
 
 -- ---- sides: "side (0 for r2, 1 for r1)". Links of side r2 go from the left end to the right one, of r1 back.
 

@@ -26,14 +26,15 @@ pub data Asked : Type 0 where
   kind5 : Asked
 
 -- "Each arrow's row in a fixed table says which records come, in order: → side 0 by rule 6, side 0 by rule 7; ← side 1,
--- side 1; ↔ side 0 and 1 by rule 6, then kind 5; 4 as ↔ without kind 5." By arrow; none has the number 0.
+-- side 1; ↔ side 0 and 1 by rule 6, then kind 5"; by 02 "the compiled row of arrow 4 gains BidiAssoc in the same spot as ↔".
+-- By arrow; none has the number 0.
 abbrev pub arrowRows : List (List Asked)
 arrowRows =
     [] ∷
     (byRule6 r2 ∷ byRule7 r2 ∷ []) ∷
     (byRule6 r1 ∷ byRule7 r1 ∷ []) ∷
     (byRule6 r2 ∷ byRule6 r1 ∷ kind5 ∷ []) ∷
-    (byRule6 r2 ∷ byRule6 r1 ∷ []) ∷ []
+    (byRule6 r2 ∷ byRule6 r1 ∷ kind5 ∷ []) ∷ []
 
 unfoldable pub rowOf : Association → List Asked
 rowOf a = getD arrowRows (a .arrow) []

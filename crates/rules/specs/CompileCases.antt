@@ -60,7 +60,7 @@ compileCases =
     -- Line and Port, no arrowhead
     record {
       diagram = fileLP4;
-      entries = (1 ∷ 0 ∷ 0 ∷ 0 ∷ 1 ∷ 1 ∷ 0 ∷ 1 ∷ 0 ∷ 1 ∷ []);
+      entries = (1 ∷ 0 ∷ 0 ∷ 0 ∷ 1 ∷ 1 ∷ 0 ∷ 1 ∷ 0 ∷ 1 ∷ 5 ∷ 0 ∷ 0 ∷ 0 ∷ 0 ∷ []);
     } ∷
     -- A [2..255] l → r [3..4] B
     record {
@@ -82,10 +82,21 @@ compileCases =
       diagram = (0x10 ∷ 0 ∷ 1 ∷ 1 ∷ 0x30 ∷ 0 ∷ 4 ∷ 0 ∷ 1 ∷ 0x41 ∷ 0 ∷ 0x30 ∷ 0 ∷ 4 ∷ 0 ∷ 1 ∷ 0x42 ∷ 0 ∷ 0x50 ∷ 0 ∷ 0xC ∷ 1 ∷ 3 ∷ 0 ∷ 1 ∷ 1 ∷ 1 ∷ 0x6C ∷ 1 ∷ 0 ∷ 0xFF ∷ 1 ∷ 0x72 ∷ []);
       entries = (2 ∷ 0 ∷ 0 ∷ 0 ∷ 0 ∷ 1 ∷ 0 ∷ 1 ∷ 1 ∷ 1 ∷ 5 ∷ 0 ∷ 0 ∷ 0 ∷ 0 ∷ 6 ∷ 0 ∷ 0 ∷ 0 ∷ 0 ∷ []);
     } ∷
+    -- A [2..255] l -- r [3..4] B
+    record {
+      diagram = (0x10 ∷ 0 ∷ 1 ∷ 1 ∷ 0x30 ∷ 0 ∷ 4 ∷ 0 ∷ 1 ∷ 0x41 ∷ 0 ∷ 0x30 ∷ 0 ∷ 4 ∷ 0 ∷ 1 ∷ 0x42 ∷ 0 ∷ 0x50 ∷ 0 ∷ 0xC ∷ 0 ∷ 4 ∷ 0 ∷ 2 ∷ 0xFF ∷ 1 ∷ 0x6C ∷ 1 ∷ 3 ∷ 4 ∷ 1 ∷ 0x72 ∷ []);
+      entries = (1 ∷ 0 ∷ 0 ∷ 3 ∷ 4 ∷ 2 ∷ 0 ∷ 1 ∷ 2 ∷ 0 ∷ 5 ∷ 0 ∷ 0 ∷ 0 ∷ 0 ∷ []);
+    } ∷
     -- A [1..1] l -- r [0..255] B, composition
     record {
       diagram = (0x10 ∷ 0 ∷ 1 ∷ 1 ∷ 0x30 ∷ 0 ∷ 4 ∷ 0 ∷ 1 ∷ 0x41 ∷ 0 ∷ 0x30 ∷ 0 ∷ 4 ∷ 0 ∷ 1 ∷ 0x42 ∷ 0 ∷ 0x50 ∷ 0 ∷ 0xC ∷ 1 ∷ 4 ∷ 0 ∷ 1 ∷ 1 ∷ 1 ∷ 0x6C ∷ 1 ∷ 0 ∷ 0xFF ∷ 1 ∷ 0x72 ∷ []);
-      entries = (2 ∷ 0 ∷ 0 ∷ 0 ∷ 0 ∷ 1 ∷ 0 ∷ 1 ∷ 1 ∷ 1 ∷ 6 ∷ 0 ∷ 0 ∷ 0 ∷ 0 ∷ []);
+      entries = (2 ∷ 0 ∷ 0 ∷ 0 ∷ 0 ∷ 1 ∷ 0 ∷ 1 ∷ 1 ∷ 1 ∷ 5 ∷ 0 ∷ 0 ∷ 0 ∷ 0 ∷ 6 ∷ 0 ∷ 0 ∷ 0 ∷ 0 ∷ []);
+    } ∷
+    -- class A, sixteen compositions A [0..255] l -- r [0..255] A: all 64 entries
+    record {
+      diagram = 0x10 ∷ 0 ∷ 1 ∷ 1 ∷ 0x30 ∷ 0 ∷ 4 ∷ 0 ∷ 1 ∷ 0x41 ∷ 0 ∷
+          joined (λ a. 0x50 ∷ 0 ∷ 0xC ∷ 1 ∷ 4 ∷ 0 ∷ 0 ∷ 0xFF ∷ 1 ∷ 0x6C ∷ 0 ∷ 0 ∷ 0xFF ∷ 1 ∷ 0x72 ∷ []) 16;
+      entries = joined (λ a. 2 ∷ a ∷ 0 ∷ 0 ∷ 0 ∷ 2 ∷ a ∷ 1 ∷ 0 ∷ 0 ∷ 5 ∷ a ∷ 0 ∷ 0 ∷ 0 ∷ 6 ∷ a ∷ 0 ∷ 0 ∷ 0 ∷ []) 16;
     } ∷
     -- A [0..0] l → r [0..255] B
     record {
@@ -95,5 +106,5 @@ compileCases =
     []
 
 pub compile-cases-right : compilesRight compileCases ≡ true
-unfolding compilesRight
+unfolding compilesRight joined
 compile-cases-right = refl

@@ -1,6 +1,7 @@
 pub mod Site
 pub mod Instance
 pub mod Arrow
+pub mod Heads
 pub mod TypeRules
 pub mod ValueRules
 pub mod LinkRules
@@ -10,4 +11,5 @@ pub mod Compile
 pub mod Evaluate
 pub mod Marked
 pub mod RuleCases
+pub mod MirrorCases
 pub mod CompileCases

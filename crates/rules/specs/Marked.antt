@@ -1,4 +1,5 @@
--- 01 "Shelf and card": the marked cases (*), through bytes, as one table and one statement that computes.
+-- 01 "Shelf and card": the marked cases (*), through bytes, as one table and one statement that computes. The last is as 02 has it:
+-- "the Line and Port case with arrow 4 becomes 8".
 -- Assumes nothing.
 use Prim.Native.Nat.{ℕ}
 use mathlib.Core.Bool.{Bool, _&&_, false, true}
@@ -184,7 +185,7 @@ marked =
     record { diagram = fileP; site = shelfOfFive; rule = 6; first = 0 } ∷
     record { diagram = fileP; site = backwards; rule = 5; first = 1 } ∷
     record { diagram = fileLP3; site = oneWay; rule = 8; first = 2 } ∷
-    record { diagram = fileLP4; site = oneWay; rule = 0; first = 2 } ∷
+    record { diagram = fileLP4; site = oneWay; rule = 8; first = 2 } ∷
     []
 
 pub marked-right : casesRight marked ≡ true

@@ -92,12 +92,12 @@ ruleCases =
       rule = 2;
       first = 0;
     } ∷
-    -- arrow 4 composition, r1 links do not count
+    -- arrow 4 composition, links back to two wholes
     record {
       diagram = (0x10 ∷ 0 ∷ 1 ∷ 1 ∷ 0x30 ∷ 0 ∷ 4 ∷ 0 ∷ 1 ∷ 0x57 ∷ 0 ∷ 0x30 ∷ 0 ∷ 4 ∷ 0 ∷ 1 ∷ 0x58 ∷ 0 ∷ 0x50 ∷ 0 ∷ 0xC ∷ 1 ∷ 4 ∷ 0 ∷ 0 ∷ 0xFF ∷ 1 ∷ 0x77 ∷ 1 ∷ 0 ∷ 0xFF ∷ 1 ∷ 0x78 ∷ []);
       site = (0x60 ∷ 0 ∷ 1 ∷ 3 ∷ 0x61 ∷ 0 ∷ 2 ∷ 1 ∷ 0x57 ∷ 0x61 ∷ 0 ∷ 2 ∷ 1 ∷ 0x57 ∷ 0x61 ∷ 0 ∷ 2 ∷ 1 ∷ 0x58 ∷ 0x63 ∷ 0 ∷ 4 ∷ 0 ∷ 1 ∷ 0x78 ∷ 2 ∷ 0x63 ∷ 0 ∷ 4 ∷ 2 ∷ 1 ∷ 0x77 ∷ 0 ∷ 0x63 ∷ 0 ∷ 4 ∷ 2 ∷ 1 ∷ 0x77 ∷ 1 ∷ []);
-      rule = 0;
-      first = 3;
+      rule = 8;
+      first = 2;
     } ∷
     -- same role both sides, one way
     record {
@@ -145,7 +145,7 @@ ruleCases =
     record {
       diagram = fileLP4;
       site = (0x60 ∷ 0 ∷ 1 ∷ 3 ∷ 0x61 ∷ 0 ∷ 5 ∷ 4 ∷ 0x4C ∷ 0x69 ∷ 0x6E ∷ 0x65 ∷ 0x61 ∷ 0 ∷ 5 ∷ 4 ∷ 0x4C ∷ 0x69 ∷ 0x6E ∷ 0x65 ∷ 0x61 ∷ 0 ∷ 5 ∷ 4 ∷ 0x50 ∷ 0x6F ∷ 0x72 ∷ 0x74 ∷ 0x63 ∷ 0 ∷ 7 ∷ 0 ∷ 4 ∷ 0x70 ∷ 0x6F ∷ 0x72 ∷ 0x74 ∷ 2 ∷ 0x63 ∷ 0 ∷ 7 ∷ 1 ∷ 4 ∷ 0x70 ∷ 0x6F ∷ 0x72 ∷ 0x74 ∷ 2 ∷ []);
-      rule = 0;
+      rule = 8;
       first = 2;
     } ∷
     -- unnamed value of another plain type
@@ -238,6 +238,20 @@ ruleCases =
       site = (0x60 ∷ 0 ∷ 1 ∷ 1 ∷ 0x61 ∷ 0 ∷ 2 ∷ 1 ∷ 0x41 ∷ []);
       rule = 6;
       first = 0;
+    } ∷
+    -- wholes by r2 links only: the role back is carried by another association
+    record {
+      diagram = (0x10 ∷ 0 ∷ 1 ∷ 1 ∷ 0x30 ∷ 0 ∷ 4 ∷ 0 ∷ 1 ∷ 0x4C ∷ 0 ∷ 0x30 ∷ 0 ∷ 4 ∷ 0 ∷ 1 ∷ 0x52 ∷ 0 ∷ 0x50 ∷ 0 ∷ 0xC ∷ 1 ∷ 1 ∷ 0 ∷ 0 ∷ 0xFF ∷ 1 ∷ 0x78 ∷ 1 ∷ 0 ∷ 0xFF ∷ 1 ∷ 0x63 ∷ 0x50 ∷ 0 ∷ 0xC ∷ 0 ∷ 1 ∷ 1 ∷ 0 ∷ 0xFF ∷ 1 ∷ 0x79 ∷ 0 ∷ 0 ∷ 0xFF ∷ 1 ∷ 0x78 ∷ []);
+      site = (0x60 ∷ 0 ∷ 1 ∷ 3 ∷ 0x61 ∷ 0 ∷ 2 ∷ 1 ∷ 0x4C ∷ 0x61 ∷ 0 ∷ 2 ∷ 1 ∷ 0x4C ∷ 0x61 ∷ 0 ∷ 2 ∷ 1 ∷ 0x52 ∷ 0x63 ∷ 0 ∷ 4 ∷ 0 ∷ 1 ∷ 0x63 ∷ 2 ∷ 0x63 ∷ 0 ∷ 4 ∷ 2 ∷ 1 ∷ 0x78 ∷ 1 ∷ []);
+      rule = 0;
+      first = 5;
+    } ∷
+    -- the same where it is carried by none (evaluate)
+    record {
+      diagram = fileP;
+      site = (0x60 ∷ 0 ∷ 1 ∷ 3 ∷ 0x61 ∷ 0 ∷ 6 ∷ 5 ∷ 0x53 ∷ 0x68 ∷ 0x65 ∷ 0x6C ∷ 0x66 ∷ 0x61 ∷ 0 ∷ 6 ∷ 5 ∷ 0x53 ∷ 0x68 ∷ 0x65 ∷ 0x6C ∷ 0x66 ∷ 0x61 ∷ 0 ∷ 5 ∷ 4 ∷ 0x43 ∷ 0x61 ∷ 0x72 ∷ 0x64 ∷ 0x63 ∷ 0 ∷ 8 ∷ 0 ∷ 5 ∷ 0x63 ∷ 0x61 ∷ 0x72 ∷ 0x64 ∷ 0x73 ∷ 2 ∷ 0x63 ∷ 0 ∷ 8 ∷ 2 ∷ 5 ∷ 0x73 ∷ 0x68 ∷ 0x65 ∷ 0x6C ∷ 0x66 ∷ 0 ∷ 0x63 ∷ 0 ∷ 8 ∷ 2 ∷ 5 ∷ 0x73 ∷ 0x68 ∷ 0x65 ∷ 0x6C ∷ 0x66 ∷ 1 ∷ []);
+      rule = 5;
+      first = 3;
     } ∷
     []
 

@@ -1,6 +1,6 @@
 -- The tables of associations in memory, association by association.
 -- Assumes nothing.
-use Prim.Native.Nat.{_+_, _≤_, min, suc, zero, ℕ}
+use Prim.Native.Nat.{_*_, _+_, _≤_, min, suc, zero, ℕ}
 use native.Mathlib.Nat.{le-antisymm}
 use native.Mathlib.Numerals.{add-one}
 use native.Mathlib.Omega.{arith}
@@ -13,7 +13,7 @@ use borrow.Author.Tests.{eqb-false, eqb-true, le-ltb, lt-ltb}
 use Rattle.laws.proofs.ListLaws.{getD-set}
 use Rattle.laws.proofs.BoundedLaws.{ltb-skip}
 use Rattle.worlds.specs.declared.Lines.{Lines}
-use Rattle.sheets.specs.LinesBy.{counted, countedFrom, countedTo, elementIf, linesIn, noLines, stored, withColumn, withMirror, withWhole}
+use Rattle.sheets.specs.LinesBy.{counted, countedFrom, countedTo, elementIf, linesIn, mirrored, noLines, stored, withColumn, withMirror, withWhole}
 
 -- ---- an array filled from the front
 
@@ -53,6 +53,25 @@ pub column-with : (sets slots arrows lows ups : List ℕ) (x : Lines) (j : ℕ) 
       wholeto = x .wholeto;
     }) (withColumn sets slots arrows lows ups x j)
 column-with sets slots arrows lows ups x j a b c d e = cc
+
+-- in the mirrors
+pub mirror-with : (sets slots arrows : List ℕ) (x : Lines) (j : ℕ) {right left from to : ℕ} → right ≡ elementIf (mirrored arrows j) slots (j * 2 + 1)
+    → left ≡ elementIf (mirrored arrows j) slots (j * 2) → from ≡ elementIf (mirrored arrows j) sets (j * 2) → to ≡ elementIf (mirrored arrows j) sets (j * 2 + 1)
+    → _≡_ {A = Lines} (record {
+      columnslot = x .columnslot;
+      columnfrom = x .columnfrom;
+      columnto = x .columnto;
+      columnlow = x .columnlow;
+      columnhigh = x .columnhigh;
+      mirrorright = set (x .mirrorright) j right;
+      mirrorleft = set (x .mirrorleft) j left;
+      mirrorfrom = set (x .mirrorfrom) j from;
+      mirrorto = set (x .mirrorto) j to;
+      wholeslot = x .wholeslot;
+      wholefrom = x .wholefrom;
+      wholeto = x .wholeto;
+    }) (withMirror sets slots arrows x j)
+mirror-with sets slots arrows x j a b c d = cc
 
 module _ (sets slots arrows forms lows ups : List ℕ) where
   pub lines-begin : noLines ≡ linesIn sets slots arrows forms lows ups 0

@@ -40,8 +40,9 @@ fn with_column<'a>(
     requires { ⌜ j < 16 ⌝ }
     ensures { λ r. ⌜ r ≡ withColumn (now (sets .entry)) (now (slots .entry)) (now (arrows .entry)) (now (lows .entry)) (now (ups .entry)) x j ⌝ }
 {
-    let right = arrows[j] == 1;
-    let on = right | (arrows[j] == 2);
+    let arrow = arrows[j];
+    let right = arrows::counted_right(arrow);
+    let on = right | arrows::counted_left(arrow);
     let to = end_if(right, j);
     let from = end_if(!right, j);
     let slot = slot_if(on, slots, to);
@@ -69,7 +70,7 @@ fn with_mirror<'a>(
     requires { ⌜ j < 16 ⌝ }
     ensures { λ r. ⌜ r ≡ withMirror (now (sets .entry)) (now (slots .entry)) (now (arrows .entry)) x j ⌝ }
 {
-    let on = arrows[j] == 3;
+    let on = arrows::is_mirrored(arrows[j]);
     let right = slot_if(on, slots, j * 2 + 1);
     let left = slot_if(on, slots, j * 2);
     let from = set_if(on, sets, j * 2);

@@ -28,10 +28,11 @@ use Rattle.rules.specs.LinkRules.{rule6, rule7, rule8}
 use Rattle.rules.specs.Site.{siteOf}
 use Rattle.rules.specs.WholeRule.{rule9}
 use Rattle.rules.proofs.DemandTwo.{evaluate-iff}
+use Rattle.rules.proofs.HeadLaws.{heads-judge}
 use Rattle.smallest_records.specs.Difference.{Gap}
 use Rattle.smallest_records.specs.Smallest.{Chooses}
 use Rattle.steps.specs.Bench.{Bench, Evaluate, Judge, LoadText, Outcome, difference, done, firstFalse, gives, noDifference, placeOf, refusal, rule, withWitness}
-use Rattle.steps.specs.Demands.{DemandOne, DemandThree, DemandTwo, LowestBroken, NoneOverlooked, TextRefused}
+use Rattle.steps.specs.Demands.{DemandOne, DemandThree, DemandTwo, LowestBroken, NoneOverlooked, SameHeads, TextRefused}
 use Rattle.steps.specs.Row.{Reached}
 use Rattle.steps.specs.Step.{Choosing, Step, differs, placed, saying, settling}
 use Rattle.steps.proofs.ChoiceLaws.{differs-count, none-differs, one-reply}
@@ -153,3 +154,10 @@ demand-three b old new eo en bound h o s = by (whole .0) (whole .1) (whole .2)
               (subst (λ (k : ℕ). k ≤ bound) c (f .bounded), record { some-has = (writeRecord w, w, f .is, c); none-fewer = λ file x g. subst (λ (k : ℕ). k ≤ objectCount x) c (f .least file x g) });
           handed-out = λ n i es c row k buffer p t. hands-out b old new bound n o eo en s i es c row k buffer p t;
         }
+
+-- ---- lines with both arrowheads or none
+
+-- what old allows new allows, since they judge alike
+pub same-heads : SameHeads
+same-heads b old new eo en h bound l o s =
+    demand-three b old new eo en bound l o s .no-difference .1 (λ file x g n. g .illegal (sym (heads-judge old new h x) ∙ g .legal))

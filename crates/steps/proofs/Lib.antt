@@ -6,3 +6,4 @@ pub mod HeldLaws
 pub mod StepLaws
 pub mod LowestLaws
 pub mod Demands
+pub mod HeadCases

@@ -18,6 +18,7 @@ use Rattle.texts.specs.Declared.{declared}
 use Rattle.texts.specs.Grammar.{Belongs, Tree}
 use Rattle.texts.specs.TextChecks.{textRefusal}
 use Rattle.rules.specs.Compile.{compile, compiledBytes}
+use Rattle.rules.specs.Heads.{allHeaded}
 use Rattle.rules.specs.LinkRules.{rule5, rule6, rule7, rule8}
 use Rattle.rules.specs.Site.{siteOf}
 use Rattle.rules.specs.TypeRules.{rule1, rule2}
@@ -105,3 +106,11 @@ abbrev pub DemandThree : Type 0
 DemandThree =
     (b : Bench) (old new : Diagram) → b .old ≡ some old → b .new ≡ some new
     → (bound : ℕ) → bound ≤ 8 → (o : Outcome) → Step b (Compare bound) o → NoneOverlooked old new bound o
+
+-- ---- 02 2/12: "Two diagrams that differ only in ↔ against no arrowhead have no difference at any bound."
+
+-- either of the two may be old
+abbrev pub SameHeads : Type 0
+SameHeads =
+    (b : Bench) (old new : Diagram) → b .old ≡ some old → b .new ≡ some new → allHeaded old ≡ allHeaded new
+    → (bound : ℕ) → bound ≤ 8 → (o : Outcome) → Step b (Compare bound) o → o .reply ≡ noDifference

@@ -5,6 +5,7 @@ use brute::{compare_within, judge, read_diagram, read_record, Diagram};
 use generators::diagrams::{diagram, loosened, Size, LARGE, LINKED, SMALL, TINY, WIDE};
 use generators::edits::{edited, redrawn};
 use generators::fillings::searched_soon;
+use generators::heads::reheaded;
 use generators::hex::hex;
 use generators::{CallPlan, DiagramPlan, Random};
 
@@ -91,8 +92,8 @@ fn agrees(seed: u64, sizes: &[SizeAndBound], tally: &mut Tally) {
     }
 }
 
-/// A diagram and a small edit of it, in either order, that can be searched up to the bound beside
-/// them.
+/// A diagram and a small edit of it or its heads exchanged, in either order, that can be searched up
+/// to the bound beside them.
 fn pair(seed: u64, sizes: &[SizeAndBound]) -> (DiagramPlan, DiagramPlan, usize) {
     let mut random = Random::new(seed);
     loop {
@@ -101,9 +102,10 @@ fn pair(seed: u64, sizes: &[SizeAndBound]) -> (DiagramPlan, DiagramPlan, usize) 
         if random.chance(1, 2) {
             one = loosened(&mut random, &one);
         }
-        let other = match random.chance(1, 3) {
-            true => redrawn(&mut random, &one),
-            false => edited(&mut random, &one),
+        let other = match random.below(9) {
+            0 => reheaded(&mut random, &one),
+            1..=3 => redrawn(&mut random, &one),
+            _ => edited(&mut random, &one),
         };
         let (old, new) = match random.chance(1, 2) {
             true => (one, other),

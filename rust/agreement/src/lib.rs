@@ -8,6 +8,7 @@
 
 pub mod comparing;
 pub mod files;
+pub mod heads;
 pub mod judging;
 pub mod product;
 pub mod questions;

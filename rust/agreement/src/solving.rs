@@ -4,6 +4,7 @@ use crate::product;
 use brute::{compare_within, read_diagram};
 use generators::diagrams::{diagram, loosened, Size, SMALL, TINY};
 use generators::edits::{edited, redrawn};
+use generators::heads::reheaded;
 use generators::hex::hex;
 use generators::upper_limits::{tightened, widened};
 use generators::{CallPlan, DiagramPlan, Random};
@@ -82,7 +83,7 @@ pub fn solver_agrees(seed: u64, tally: &mut Tally) {
     assert_eq!(reply, least, "the product, bound {known}\n{shown}");
 }
 
-/// A diagram and a small edit of it, in either order.
+/// A diagram and a small edit of it or its heads exchanged, in either order.
 fn pair(seed: u64) -> (DiagramPlan, DiagramPlan) {
     let mut random = Random::new(seed);
     let size = *random.pick(&SIZES);
@@ -93,9 +94,10 @@ fn pair(seed: u64) -> (DiagramPlan, DiagramPlan) {
     if random.chance(1, 2) {
         one = widened(&mut random, &one);
     }
-    let other = match random.below(3) {
-        0 => redrawn(&mut random, &one),
-        1 => tightened(&mut random, &one),
+    let other = match random.below(7) {
+        0 => reheaded(&mut random, &one),
+        1 | 2 => redrawn(&mut random, &one),
+        3 | 4 => tightened(&mut random, &one),
         _ => edited(&mut random, &one),
     };
     match random.chance(1, 2) {

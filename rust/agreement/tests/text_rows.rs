@@ -7,7 +7,7 @@ use boundary::{decode, encode, room_for, Call, Reply};
 /// The function that runs a coded list of calls.
 type Side = fn(&[u8], &mut [u8]) -> usize;
 
-const ROWS: [fn(Side); 8] = [
+const ROWS: [fn(Side); 9] = [
     refusals_on_a_fresh_bench,
     a_load_drops_the_witness,
     refusals_change_nothing,
@@ -16,6 +16,7 @@ const ROWS: [fn(Side); 8] = [
     names_of_digits,
     an_enumeration_behind_its_use,
     parents_in_any_order,
+    lines_with_and_without_arrowheads,
 ];
 
 #[test]
@@ -180,4 +181,26 @@ fn parents_in_any_order(side: Side) {
             (judge(0, record), "2"),
         ],
     );
+}
+
+fn lines_with_and_without_arrowheads(side: Side) {
+    let line_and_port = |arrow: &str| {
+        let ends = ["[0..1] Line (line)", "(port) Port [0..1]"].join(arrow);
+        format!("classdiagram d {{class Line; class Port; association {ends};}}").into_bytes()
+    };
+    let (headless, headed) = (line_and_port(" -- "), line_and_port(" <-> "));
+    let file = b"\x60\x00\x01\x02\x61\x00\x05\x04Line\x61\x00\x05\x04Port\
+        \x63\x00\x07\x00\x04port\x01";
+    let compiled = "3 1 0 0 0 1 1 0 1 0 1 5 0 0 0 0";
+    for [old, new] in [[&headless, &headed], [&headed, &headless]] {
+        let mut steps = vec![(load_text(0, old), "0"), (load_text(1, new), "0")];
+        for place in [0, 1] {
+            steps.push((judge(place, file), "8"));
+            steps.push((Call::Evaluate { place, file }, "2"));
+            steps.push((Call::Compile { place }, compiled));
+        }
+        steps.extend((0..=8).map(|bound| (compare(bound), "no difference")));
+        steps.push((compare(9), "9"));
+        row(side, &steps);
+    }
 }

@@ -48,7 +48,7 @@ fn record_files() {
 #[test]
 fn records_judged_and_evaluated() {
     let cases = cases("J");
-    assert!(cases.len() >= 44);
+    assert!(cases.len() >= 78);
     for case in cases {
         let (file, place) = (case.files[1].as_slice(), 1);
         let diagram = load(1, &case.files[0]);
@@ -61,7 +61,7 @@ fn records_judged_and_evaluated() {
 #[test]
 fn compiled_lists() {
     let cases = cases("C");
-    assert!(cases.len() >= 14);
+    assert!(cases.len() >= 16);
     for case in cases {
         let replies = run(&[load(1, &case.files[0]), Call::Compile { place: 1 }]);
         assert_eq!(said(&replies[1]), case.answers[0], "{}", case.name);
@@ -71,7 +71,7 @@ fn compiled_lists() {
 #[test]
 fn diagrams_compared() {
     let cases = cases("FW");
-    assert!(cases.len() >= 45);
+    assert!(cases.len() >= 65);
     for case in cases {
         compared(&case);
     }

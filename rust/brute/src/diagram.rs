@@ -90,6 +90,11 @@ impl Association {
         }
     }
 
+    /// "Arrow 4 mirrors as arrow 3 does": rule 8 covers both.
+    pub fn is_mirrored(&self) -> bool {
+        [3, 4].contains(&self.arrow)
+    }
+
     /// The end where links of this side start.
     pub fn source(&self, side: Side) -> &End {
         match side {

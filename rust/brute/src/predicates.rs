@@ -16,15 +16,15 @@ pub fn compile(d: &Diagram) -> Vec<[u8; 5]> {
 }
 
 /// "→ side 0 by rule 6, side 0 by rule 7; ← side 1, side 1; ↔ side 0 and 1 by rule 6, then
-/// kind 5; 4 as ↔ without kind 5. A composition adds kind 6 last."
+/// kind 5"; "the compiled row of arrow 4 gains BidiAssoc in the same spot as ↔", which makes it
+/// the row of ↔. "A composition adds kind 6 last."
 fn compile_one(list: &mut Vec<[u8; 5]>, index: u8, a: &Association) {
     let rule_6 = |side: Side| limit_record([1, 2], index, side, a.target(side).limits);
     let rule_7 = |side: Side| limit_record([3, 4], index, side, a.source(side).limits);
     match a.arrow {
         1 => list.extend([rule_6(Side::R2), rule_7(Side::R2)]),
         2 => list.extend([rule_6(Side::R1), rule_7(Side::R1)]),
-        3 => list.extend([rule_6(Side::R2), rule_6(Side::R1), [5, index, 0, 0, 0]]),
-        _ => list.extend([rule_6(Side::R2), rule_6(Side::R1)]),
+        _ => list.extend([rule_6(Side::R2), rule_6(Side::R1), [5, index, 0, 0, 0]]),
     }
     if a.form == Form::Composition {
         list.push([6, index, 0, 0, 0]);

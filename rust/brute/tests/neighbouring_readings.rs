@@ -104,6 +104,41 @@ fn no_arrow_has_no_rule_7() {
 }
 
 #[test]
+fn mirrors_are_asked_of_pairs_of_instances_only() {
+    for arrow in [3, 4] {
+        let both = association(Form::Association, arrow, end("L", "l"), end("R", "r"));
+        let other = association(Form::Association, 1, end("M", "m"), end("T", "r"));
+        let mut under = diagram(&["L", "R", "M", "T", "S"], vec![both, other]);
+        under.types[4].parents.push(name("L"));
+        // M and T are no instances of the ends; S is one by its parent.
+        assert_eq!(judge(&under, &record(&["M", "T"], &[(0, "r", 1)])), 0);
+        assert_eq!(judge(&under, &record(&["S", "R"], &[(0, "r", 1)])), 8);
+        assert_eq!(judge(&under, &record(&["S", "R"], &[(1, "l", 0)])), 8);
+        let mirrored = record(&["S", "R"], &[(0, "r", 1), (1, "l", 0)]);
+        assert_eq!(judge(&under, &mirrored), 0);
+    }
+}
+
+#[test]
+fn roles_that_mirrors_join_are_searched_together() {
+    for arrows in [[3, 4], [4, 3], [4, 4]] {
+        let chain = |up| {
+            let mut last = end("N", "z");
+            last.limits.up = up;
+            let associations = vec![
+                association(Form::Association, arrows[0], end("N", "x"), end("N", "y")),
+                association(Form::Association, arrows[1], end("N", "y"), last),
+            ];
+            diagram(&["N"], associations)
+        };
+        // An x link needs a y link back, and that a z link back.
+        let all = record(&["N"], &[(0, "x", 0), (0, "y", 0), (0, "z", 0)]);
+        assert_eq!(compare(&chain(None), &chain(Some(0)), 2), Some(all));
+        assert_eq!(compare(&chain(Some(0)), &chain(None), 2), None);
+    }
+}
+
+#[test]
 fn a_budget_runs_out_or_changes_nothing() {
     let free = association(Form::Association, 4, end("N", "l"), end("N", "r"));
     let mut limited = free.clone();

@@ -134,15 +134,15 @@ fn record_files() {
 
 #[test]
 fn records_judged_and_evaluated() {
-    assert!(run("J") >= 2 * 44);
+    assert!(run("J") >= 2 * 78);
 }
 
 #[test]
 fn compiled_lists() {
-    assert!(run("C") >= 14);
+    assert!(run("C") >= 16);
 }
 
 #[test]
 fn diagrams_compared() {
-    assert!(run("FW") >= 45);
+    assert!(run("FW") >= 65);
 }

@@ -80,6 +80,11 @@ impl Arrow {
             Arrow::Plain => "--",
         }
     }
+
+    /// The links of its two roles come in pairs, one each way.
+    pub fn mirrors(self) -> bool {
+        matches!(self, Arrow::Both | Arrow::Plain)
+    }
 }
 
 /// An enumeration, or a plain type with one unnamed value where there are no constants.

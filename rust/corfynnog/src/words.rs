@@ -12,7 +12,7 @@ pub fn rule_in_words(rule: u8) -> &'static str {
         5 => "Every link is carried by an association with that role, in that direction and between such objects.",
         6 => "An object at the start of an association has only targets of the other end's type, as many as the limits there allow.",
         7 => "An object at the end of a one-way association is the target of as many objects as the limits at the start allow.",
-        8 => "Links of a two-way association come in pairs, one each way.",
+        8 => "Links of a two-way association, <-> or --, come in pairs, one each way.",
         9 => "An object is part of at most one whole, over all compositions.",
         _ => "This program knows no rule of that number.",
     }

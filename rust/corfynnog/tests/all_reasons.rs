@@ -222,12 +222,27 @@ fn rule_8_an_association_is_parted() {
         &One {
             objects: "1 object",
             site: "  A0:A {}\n  link A0 -> (r) A0;\n",
-            why: "  Rule 8: Links of a two-way association come in pairs, one each way.
+            why: "  Rule 8: Links of a two-way association, <-> or --, come in pairs, one each way.
   A0 has a link of role r to A0, but A0 has none of role q to A0.
     new.cd: composition [0..3] A (q) <-> (r) A [*]
     old.cd: composition [*] A (a) -> (r) A [*]
 ",
             change: "composition [0..3] A (q) <-> (r) A [*] becomes composition [*] A (q) -> (r) A [*] and association [0..3] A (q) <- (r) A [*].",
+        },
+    );
+    expect_one(
+        "rule_8_plain",
+        "class A; association A (q) <- (r) A;",
+        "class A; association [0..3] A (q) -- (r) A;",
+        &One {
+            objects: "1 object",
+            site: "  A0:A {}\n  link A0 -> (q) A0;\n",
+            why: "  Rule 8: Links of a two-way association, <-> or --, come in pairs, one each way.
+  A0 has a link of role q to A0, but A0 has none of role r to A0.
+    new.cd: association [0..3] A (q) -- (r) A [*]
+    old.cd: association [*] A (q) <- (r) A [*]
+",
+            change: "association [0..3] A (q) -- (r) A [*] becomes association [*] A (q) -> (r) A [*] and association [0..3] A (q) <- (r) A [*].",
         },
     );
 }

@@ -53,7 +53,7 @@ fn the_answers_of_the_examples() {
         ("card_states", 1),
         ("line_cards", 1),
         ("new_families", 2),
-        ("shelf_and_card", 5),
+        ("shelf_and_card", 8),
     ] {
         let document = format!("examples/{example}/README.md");
         expect_answers(&document, &copy_of(example, &document), number);

@@ -99,7 +99,7 @@ fn every_answer_has_what_the_help_of_its_command_lists() {
     let results = [
         "accepted",
         "all hold",
-        "as document 01 has them",
+        "as the documents have them",
         "compiled",
         "difference",
         "illegal",

@@ -1,4 +1,5 @@
-//! The cases of document 01's section "Shelf and card", as the program runs them.
+//! The cases of document 01's section "Shelf and card", as document 02 amends it and the program runs
+//! them.
 
 mod common;
 
@@ -6,14 +7,14 @@ use common::json::{read, Value};
 use common::Folder;
 
 #[test]
-fn every_case_is_as_the_document_has_it() {
+fn every_case_is_as_the_documents_have_it() {
     let answer = Folder::of("marked").answer(0, "marked");
     let rows = answer.lines().filter(|line| line.starts_with("* "));
     assert_eq!(rows.count(), 11);
     assert!(!answer.contains("NOT"), "{answer}");
     let (lines, last) = answer.trim_end().rsplit_once("\n\n").expect("a last line");
     let number = lines.lines().count() - 1;
-    let all = format!("{number} of {number} as document 01 has them");
+    let all = format!("{number} of {number} as the documents have them");
     assert_eq!(last, all);
 }
 
@@ -21,7 +22,7 @@ fn every_case_is_as_the_document_has_it() {
 fn the_cases_for_scripts() {
     let answer = read(&Folder::of("marked_json").answer(0, "marked --json"));
     assert_eq!(answer.get("command").text(), "marked");
-    assert_eq!(answer.get("result").text(), "as document 01 has them");
+    assert_eq!(answer.get("result").text(), "as the documents have them");
     let cases = answer.get("cases");
     let number = cases.len() as u64;
     assert_eq!(answer.get("number").number(), number);

@@ -152,7 +152,7 @@ fn attributes_and_enumerations() {
 
 #[test]
 fn associations() {
-    let cases: [Case; 7] = [
+    let cases: [Case; 8] = [
         (
             "no_role",
             "class A; association A -> (r) A;",
@@ -206,6 +206,15 @@ fn associations() {
             "class A; class B; association A (q) <-> (r) B;",
             &[
                 "newer.cd: association [*] A (q) <-> (r) B [*]",
+                "old.cd:   association [*] A (a) -> (r) B [*]",
+            ],
+        ),
+        (
+            "mirror_without_arrowhead",
+            "class A; class B; association A -> (r) B;",
+            "class A; class B; association A (q) -- (r) B;",
+            &[
+                "newer.cd: association [*] A (q) -- (r) B [*]",
                 "old.cd:   association [*] A (a) -> (r) B [*]",
             ],
         ),

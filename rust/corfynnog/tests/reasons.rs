@@ -139,6 +139,38 @@ fn rules_5_to_8_links() {
         "Rule 8",
         one_way,
     );
+    let plain = one_way.replace("<->", "--");
+    expect(
+        "rule_8_plain",
+        &sites::line_and_port(4),
+        &sites::one_way(),
+        "Rule 8",
+        &plain,
+    );
+}
+
+#[test]
+fn rule_8_a_role_at_both_ends_is_told_once() {
+    let record = bytes("60 00 01 02 61 00 02 01 4E 61 00 02 01 4E 63 00 04 01 01 72 00");
+    for (test, arrow) in [("rule_8_same", "<->"), ("rule_8_same_plain", "--")] {
+        let diagram = format!("classdiagram d {{ class N; association N (r) {arrow} (r) N; }}");
+        let places = format!(
+            "  N1 has a link of role r to N0, but N0 has none of role r to N1.\n    association [*] N (r) {arrow} (r) N [*]\n"
+        );
+        expect(test, diagram.as_bytes(), &record, "Rule 8", &places);
+    }
+}
+
+#[test]
+fn rule_8_comes_before_rule_9() {
+    let diagram = b"classdiagram d { class W; class X; composition W (w) -- (x) X; }";
+    let record = bytes(
+        "60 00 01 03 61 00 02 01 57 61 00 02 01 57 61 00 02 01 58 63 00 04 00 01 78 02 63 00 04 01 01 78 02",
+    );
+    let places = ["W0", "W1"].map(|whole| {
+        format!("  {whole} has a link of role x to X0, but X0 has none of role w to {whole}.\n    composition [*] W (w) -- (x) X [*]\n")
+    });
+    expect("rule_8_first", diagram, &record, "Rule 8", &places.concat());
 }
 
 #[test]

@@ -14,6 +14,7 @@ pub mod edits;
 pub mod faults;
 pub mod fields;
 pub mod fillings;
+pub mod heads;
 pub mod hex;
 pub mod instances;
 pub mod limits;

@@ -112,6 +112,11 @@ impl End {
 }
 
 impl Association {
+    /// Whether a link in one role goes with the link back in the other: arrows 3 and 4.
+    pub fn is_mirrored(&self) -> bool {
+        matches!(self.arrow, 3 | 4)
+    }
+
     /// The part's field.
     fn field(&self) -> Field {
         let mut content = vec![self.form, self.arrow];

@@ -110,9 +110,9 @@ fn instances(plan: &DiagramPlan, types: &[usize], c: &Carried) -> Vec<usize> {
         .collect()
 }
 
-/// Makes the links of two-headed arrows mirror each other, by adding or by taking away.
+/// Gives each link of a mirrored association its link back, or takes the link away.
 fn mirror(random: &mut Random, plan: &DiagramPlan, types: &[usize], record: &mut RecordPlan) {
-    for c in carried(plan).iter().filter(|c| c.association.arrow == 3) {
+    for c in carried(plan).iter().filter(|c| c.association.is_mirrored()) {
         let add = random.chance(1, 2);
         let links: Vec<Link> = record
             .links

@@ -2,10 +2,13 @@
 
 use generators::damage::{cuts, damaged};
 use generators::diagrams::{diagram, SMALL};
-use generators::edits::edited;
+use generators::edits::{edited, redrawn};
 use generators::fillings::fillings;
+use generators::heads::headed_pair;
 use generators::notation;
+use generators::records::record;
 use generators::{Association, DiagramPlan, End, Random, Type};
+use std::collections::BTreeSet;
 
 /// A class without parents.
 fn class(name: &str) -> Type {
@@ -58,6 +61,64 @@ fn most_edits_change_the_file() {
         edited(&mut random, &plan).file() != plan.file()
     });
     assert!(changed.count() >= 190);
+}
+
+/// The arrows of one diagram beside those of the other, where they differ.
+fn changed_arrows(one: &DiagramPlan, other: &DiagramPlan) -> Vec<(u8, u8)> {
+    let pairs = one.associations.iter().zip(&other.associations);
+    let arrows = pairs.map(|(a, b)| (a.arrow, b.arrow));
+    arrows.filter(|(a, b)| a != b).collect()
+}
+
+#[test]
+fn edits_change_every_arrow_to_every_other() {
+    let all = (1..=4).flat_map(|a| (1..=4).map(move |b| (a, b)));
+    let all: BTreeSet<(u8, u8)> = all.filter(|(a, b)| a != b).collect();
+    for edit in [edited, redrawn] {
+        let mut seen = BTreeSet::new();
+        for seed in 0..8000 {
+            let mut random = Random::new(seed);
+            let plan = diagram(&mut random, SMALL);
+            let mut other = edit(&mut random, &plan);
+            let changed = changed_arrows(&plan, &other);
+            // Nothing but arrows differs.
+            for (a, b) in other.associations.iter_mut().zip(&plan.associations) {
+                a.arrow = b.arrow;
+            }
+            if other == plan {
+                seen.extend(changed);
+            }
+        }
+        assert_eq!(seen, all);
+    }
+}
+
+#[test]
+fn heads_are_exchanged_and_nothing_else() {
+    let (mut to_and_fro, mut kept) = (0, 0);
+    for seed in 0..500 {
+        let (one, mut other) = headed_pair(&mut Random::new(seed), SMALL);
+        let changed = changed_arrows(&one, &other);
+        assert!(changed.iter().all(|pair| [(3, 4), (4, 3)].contains(pair)));
+        assert!(!changed.is_empty());
+        to_and_fro += usize::from(changed.contains(&(3, 4)) && changed.contains(&(4, 3)));
+        let mirrored = one.associations.iter().filter(|a| a.is_mirrored());
+        kept += mirrored.count() - changed.len();
+        for (a, b) in other.associations.iter_mut().zip(&one.associations) {
+            a.arrow = b.arrow;
+        }
+        assert_eq!(one, other);
+    }
+    assert!(to_and_fro >= 20 && kept >= 20, "{to_and_fro}, {kept}");
+}
+
+#[test]
+fn records_are_made_up_alike_whatever_the_heads() {
+    for seed in 0..200 {
+        let (one, other) = headed_pair(&mut Random::new(seed), SMALL);
+        let records = [one, other].map(|plan| record(&mut Random::new(seed), &plan, 8));
+        assert_eq!(records[0], records[1], "seed {seed}");
+    }
 }
 
 #[test]

@@ -7,6 +7,8 @@
 mod cadical;
 mod compare;
 mod formula;
+#[cfg(test)]
+mod heads;
 mod legal;
 mod limits;
 #[cfg(test)]

@@ -1,3 +1,4 @@
+use Rattle.laws.specs.Connective.{either}
 use Rattle.rules.specs.Arrow.{mirrors}
 use Rattle.arrows.proofs.is_mirrored.Statement.{statement}
 use Rattle.arrows.proofs.is_mirrored.Tie as tie
@@ -5,7 +6,7 @@ use Rattle.arrows.proofs.is_mirrored.Reads as reads
 use Rattle.arrows.proofs.is_mirrored.Lts as lts
 
 returns : tie.Need-returns
-unfolding mirrors
+unfolding mirrors either
 returns c = cc
 
 pub is-mirrored-spec : {M : Type 1} → statement M

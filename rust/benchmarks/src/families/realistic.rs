@@ -20,7 +20,7 @@ const NOT_BLOCKED: &[Change] = &[("working, blocked", "working, testing")];
 /// A state more.
 const TESTING: &[Change] = &[("working, blocked", "working, blocked, testing")];
 
-const VILLAGE_RELEASES: [Release; 7] = [
+const VILLAGE_RELEASES: [Release; 8] = [
     (
         "a card needs a line",
         SAME,
@@ -45,12 +45,17 @@ const VILLAGE_RELEASES: [Release; 7] = [
     (
         "subscribers not looked up",
         SAME,
-        &[("(line) <->", "(line) --")],
+        &[("(line) <->", "(line) ->")],
     ),
     (
         "subscribers looked up",
-        &[("(line) <->", "(line) --")],
+        &[("(line) <->", "(line) ->")],
         SAME,
+    ),
+    (
+        "subscribers without arrowheads",
+        SAME,
+        &[("(line) <->", "(line) --")],
     ),
 ];
 

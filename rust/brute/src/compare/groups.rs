@@ -4,11 +4,11 @@ use crate::diagram::{Diagram, Form};
 use crate::Name;
 
 /// Parts the roles. Rules 5, 6 and 7 look at one role at a time; rule 8 at the two roles of an
-/// association with arrow 3; rule 9 at the r2 roles of all compositions.
+/// association with arrow 3 or 4; rule 9 at the r2 roles of all compositions.
 pub fn role_groups(roles: &[Name], diagrams: [&Diagram; 2]) -> Vec<Vec<Name>> {
     let mut groups: Vec<Vec<Name>> = roles.iter().map(|role| vec![role.clone()]).collect();
     for diagram in diagrams {
-        for association in diagram.associations.iter().filter(|a| a.arrow == 3) {
+        for association in diagram.associations.iter().filter(|a| a.is_mirrored()) {
             join(&mut groups, &association.left.role, &association.right.role);
         }
         let associations = diagram.associations.iter();

@@ -157,10 +157,10 @@ impl Group<'_, '_> {
         sides.filter(|(a, side)| self.roles.contains(&a.target(*side).role))
     }
 
-    /// The associations with arrow 3 whose roles are of the group.
+    /// The associations of rule 8 whose roles are of the group.
     fn mirrored<'d>(&'d self, objects: &Objects<'d>) -> impl Iterator<Item = &'d Association> + 'd {
         let associations = objects.diagram.associations.iter();
-        associations.filter(|a| a.arrow == 3 && self.roles.contains(&a.right.role))
+        associations.filter(|a| a.is_mirrored() && self.roles.contains(&a.right.role))
     }
 
     /// Rows up to `depth` that break a rule of old whatever the later rows hold: a target with

@@ -105,9 +105,10 @@ pub fn source_count(
 }
 
 /// "Arrow 3: for o in L and p in R, o has the r2 link to p exactly when p has the r1 link to o."
+/// Arrow 4 likewise.
 pub fn rule_8(objects: &Objects, links: &[Link]) -> bool {
     let associations = objects.diagram.associations.iter();
-    let mut mirrored = associations.filter(|a| a.arrow == 3);
+    let mut mirrored = associations.filter(|a| a.is_mirrored());
     mirrored.all(|a| mirrors(objects, links, a))
 }
 

@@ -1,7 +1,7 @@
 //! The diagrams and records of the folder `shelf_and_card`: those of document 01's section "Shelf and
-//! card".
+//! card", and a line and a port with an arrow one way.
 
-use super::builder::{DiagramFile, BOTH, CLASS, MANY, NO_ARROWHEAD, SINGLETON};
+use super::builder::{DiagramFile, BOTH, CLASS, MANY, NO_ARROWHEAD, RIGHT, SINGLETON};
 use super::record_builder::RecordFile;
 
 /// The folder's name.
@@ -18,6 +18,7 @@ pub fn diagrams() -> Vec<Named> {
         ("s", shelf_and_card((0, 1), (0, 4))),
         ("e", DiagramFile::new().bytes()),
         ("z", one_type(SINGLETON, "Main")),
+        ("line_port_1", line_and_port(RIGHT)),
         ("line_port_3", line_and_port(BOTH)),
         ("line_port_4", line_and_port(NO_ARROWHEAD)),
         ("associations_16", associations(16)),

@@ -1,7 +1,7 @@
 //! Rules 5 to 8: links and the limits of associations.
 
 use super::{instances, Breach};
-use crate::diagram::{Arrow, Diagram, Way};
+use crate::diagram::{Diagram, Way};
 use crate::lists::{distinct, listed};
 use crate::names::{count_of, limits_in_words};
 use crate::parts::Part;
@@ -144,11 +144,12 @@ pub fn wrong_sources(diagram: &Diagram, record: &Record) -> Vec<Breach> {
     found
 }
 
-/// Rule 8: links of a two-way association without their counterpart.
+/// Rule 8: links of a two-way association without their counterpart. Where both ends have one type
+/// and one role, a link is met from either end and told once.
 pub fn not_mirrored(diagram: &Diagram, record: &Record) -> Vec<Breach> {
     let mut found = Vec::new();
     for (index, association) in diagram.associations.iter().enumerate() {
-        if association.arrow != Arrow::Both {
+        if !association.arrow.mirrors() {
             continue;
         }
         let (there, back) = (association.way(0), association.way(1));
@@ -172,7 +173,7 @@ pub fn not_mirrored(diagram: &Diagram, record: &Record) -> Vec<Breach> {
             }
         }
     }
-    found
+    distinct(found)
 }
 
 /// A link that is there and its counterpart that is not.

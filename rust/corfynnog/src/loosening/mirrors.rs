@@ -1,4 +1,5 @@
-//! Rule 8: a two-way association that is parted, so that its links need not come in pairs.
+//! Rule 8: a two-way association, `<->` or `--`, that is parted, so that its links need not come in
+//! pairs.
 
 use super::change::Change;
 use super::offers::Offers;

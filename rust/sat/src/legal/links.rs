@@ -69,11 +69,12 @@ impl Rules<'_> {
         }
     }
 
-    /// Arrow 3: an instance of the left end has the right role's link to one of the right end
+    /// Arrows 3 and 4: an instance of the left end has the right role's link to one of the right end
     /// exactly when that has the left role's link to it.
     pub fn rule_8(&mut self) {
         let (site, diagram) = (self.site, self.diagram);
-        for a in diagram.associations.iter().filter(|a| a.arrow == 3) {
+        let associations = diagram.associations.iter();
+        for a in associations.filter(|a| matches!(a.arrow, 3 | 4)) {
             for left in 0..site.count {
                 for right in 0..site.count {
                     let at_left = self.is_instance(left, &a.left.type_name);

@@ -1,10 +1,10 @@
 use Prim.Native.Nat.{min, ℕ}
-use mathlib.Core.Path.{_∙_, ap}
+use mathlib.Core.Bool.{Bool, not}
+use mathlib.Core.Path.{_∙_, ap, ap₂}
 use lib.ListN.{getD}
-use Rattle.sheets.specs.LinesBy.{counted, countedFrom, countedTo, elementIf}
+use Rattle.sheets.specs.LinesBy.{counted, countedFrom, countedTo, elementIf, endIf}
 use Rattle.sheets.proofs.LineLaws.{column-with}
 use Rattle.laws.specs.Connective.{either}
-use Rattle.rules.specs.Arrow.{countedLeft, countedRight}
 use borrow.Author.Needs.{needs}
 use Rattle.sheets.proofs.lines.with_column.Statement.{statement}
 use Rattle.sheets.proofs.lines.with_column.Tie as tie
@@ -15,11 +15,14 @@ use Rattle.sheets.proofs.lines.set_if.Reads as set-if-reads
 use Rattle.sheets.proofs.lines.slot_if.Reads as slot-if-reads
 use Rattle.type_tables.proofs.capped.Reads as capped-reads
 
-element-copy-out-right : tie.Need-element-copy-out-right
-element-copy-out-right c = search needs
+element-copy-out-arrow : tie.Need-element-copy-out-arrow
+element-copy-out-arrow c = search needs
 
-element-copy-out-on : tie.Need-element-copy-out-on
-element-copy-out-on c = search needs
+counted-right-requires : tie.Need-counted-right-requires
+counted-right-requires c κs = search needs
+
+counted-left-requires : tie.Need-counted-left-requires
+counted-left-requires c κs = search needs
 
 end-if-requires : tie.Need-end-if-requires
 end-if-requires c κs = search needs
@@ -76,22 +79,26 @@ element-write-y-5 : tie.Need-element-write-y-5
 element-write-y-5 c = search needs
 
 returns : tie.Need-returns
-unfolding counted countedTo countedFrom either countedRight countedLeft
-returns c = let a = c .before .before .before .before .before .before .before .before .before .before .before .args in
-    let to = c .before .before .before .before .before .before .before .before .end-if .ensures .0 in
-    let from = c .before .before .before .before .before .before .before .end-if2 .ensures .0 in
+unfolding counted countedTo countedFrom either
+returns c = let a = c .before .before .before .before .before .before .before .before .before .before .before .before .args in
+    let right = c .before .before .before .before .before .before .before .before .before .before .counted-right .ensures in
+    let left = c .before .before .before .before .before .before .before .before .before .counted-left .ensures in
+    let on = ap₂ either right left in
+    let to = c .before .before .before .before .before .before .before .before .end-if .ensures .0 ∙ ap (λ (b : Bool). endIf b (a .j)) right in
+    let from = c .before .before .before .before .before .before .before .end-if2 .ensures .0 ∙ ap (λ (b : Bool). endIf (not b) (a .j)) right in
     column-with (a .sets .now) (a .slots .now) (a .arrows .now) (a .lows .now) (a .ups .now) (a .x) (a .j)
-    (c .before .before .before .before .before .before .slot-if .ensures ∙ ap (elementIf (counted (a .arrows .now) (a .j)) (a .slots .now)) to)
-    (c .before .before .before .before .before .set-if .ensures ∙ ap (elementIf (counted (a .arrows .now) (a .j)) (a .sets .now)) from)
-    (c .before .before .before .before .set-if2 .ensures ∙ ap (elementIf (counted (a .arrows .now) (a .j)) (a .sets .now)) to)
+    (c .before .before .before .before .before .before .slot-if .ensures ∙ ap₂ (λ (b : Bool) (i : ℕ). elementIf b (a .slots .now) i) on to)
+    (c .before .before .before .before .before .set-if .ensures ∙ ap₂ (λ (b : Bool) (i : ℕ). elementIf b (a .sets .now) i) on from)
+    (c .before .before .before .before .set-if2 .ensures ∙ ap₂ (λ (b : Bool) (i : ℕ). elementIf b (a .sets .now) i) on to)
     (c .before .before .capped .ensures ∙ ap (λ (i : ℕ). min 9 (getD (a .lows .now) i 0)) from) (c .capped2 .ensures ∙ ap (λ (i : ℕ). min 8 (getD (a .ups .now) i 0)) from)
 
 pub with-column-spec : {M : Type 1} → statement M
 with-column-spec =
     tie.close
     (tie.spec
-    element-copy-out-right
-    element-copy-out-on
+    element-copy-out-arrow
+    counted-right-requires
+    counted-left-requires
     end-if-requires
     end-if-requires-2
     slot-if-requires

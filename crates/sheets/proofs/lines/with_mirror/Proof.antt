@@ -1,5 +1,8 @@
-use Rattle.sheets.specs.LinesBy.{mirrored}
-use Rattle.rules.specs.Arrow.{mirrors}
+use Prim.Native.Nat.{_*_, _+_}
+use mathlib.Core.Bool.{Bool}
+use mathlib.Core.Path.{_∙_, ap}
+use Rattle.sheets.specs.LinesBy.{elementIf, mirrored}
+use Rattle.sheets.proofs.LineLaws.{mirror-with}
 use borrow.Author.Needs.{needs}
 use Rattle.sheets.proofs.lines.with_mirror.Statement.{statement}
 use Rattle.sheets.proofs.lines.with_mirror.Tie as tie
@@ -8,8 +11,11 @@ use Rattle.sheets.proofs.lines.with_mirror.Lts as lts
 use Rattle.sheets.proofs.lines.set_if.Reads as set-if-reads
 use Rattle.sheets.proofs.lines.slot_if.Reads as slot-if-reads
 
-element-copy-out-on : tie.Need-element-copy-out-on
-element-copy-out-on c = search needs
+element-copy-out-is-mirrored : tie.Need-element-copy-out-is-mirrored
+element-copy-out-is-mirrored c = search needs
+
+is-mirrored-requires : tie.Need-is-mirrored-requires
+is-mirrored-requires c κs = search needs
 
 mul-slot-if : tie.Need-mul-slot-if
 mul-slot-if c = search needs
@@ -60,14 +66,20 @@ element-write-y-4 : tie.Need-element-write-y-4
 element-write-y-4 c = search needs
 
 returns : tie.Need-returns
-unfolding mirrored mirrors
-returns c = cc
+unfolding mirrored
+returns c = let a = c .before .before .before .before .before .before .args in
+    let on = c .before .before .before .before .is-mirrored .ensures in
+    mirror-with (a .sets .now) (a .slots .now) (a .arrows .now) (a .x) (a .j)
+    (c .before .before .before .slot-if .ensures ∙ ap (λ (b : Bool). elementIf b (a .slots .now) (a .j * 2 + 1)) on)
+    (c .before .before .slot-if2 .ensures ∙ ap (λ (b : Bool). elementIf b (a .slots .now) (a .j * 2)) on)
+    (c .before .set-if .ensures ∙ ap (λ (b : Bool). elementIf b (a .sets .now) (a .j * 2)) on) (c .set-if2 .ensures ∙ ap (λ (b : Bool). elementIf b (a .sets .now) (a .j * 2 + 1)) on)
 
 pub with-mirror-spec : {M : Type 1} → statement M
 with-mirror-spec =
     tie.close
     (tie.spec
-    element-copy-out-on
+    element-copy-out-is-mirrored
+    is-mirrored-requires
     mul-slot-if
     add-slot-if
     slot-if-requires

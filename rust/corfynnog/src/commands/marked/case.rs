@@ -13,7 +13,7 @@ const AS_TEXT: &str = ", as text ";
 pub struct Case<'a> {
     pub row: Row<'a>,
     pub came: String,
-    /// What came is what the document says.
+    /// What came is what the documents say.
     pub fits: bool,
 }
 
@@ -40,7 +40,7 @@ fn run(row: &Row) -> Result<(String, bool), String> {
     Ok((came, fits))
 }
 
-/// The answers that the document has for files and for texts.
+/// The answers that the documents have for files and for texts.
 fn expected(text: &str) -> Result<(Answer, Answer), String> {
     let (of_file, of_text) = text.split_once(AS_TEXT).unwrap_or((text, text));
     Ok((Answer::read(of_file)?, Answer::read(of_text)?))

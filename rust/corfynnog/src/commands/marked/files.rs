@@ -69,6 +69,7 @@ const DIAGRAMS: &[Diagram] = diagrams![
     "s",
     "e",
     "z",
+    "line_port_1",
     "line_port_3",
     "line_port_4",
     "associations_16",
@@ -123,7 +124,7 @@ mod tests {
     use super::*;
 
     #[test]
-    fn the_bytes_that_the_document_gives() {
+    fn the_bytes_that_document_01_gives() {
         assert_eq!(
             Diagram::named("e").map(|e| e.file),
             Ok(&[0x10, 0, 1, 1][..])

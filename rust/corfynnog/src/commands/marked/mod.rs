@@ -1,4 +1,5 @@
-//! `marked`: the cases of document 01's section "Shelf and card", run through the proved code.
+//! `marked`: the cases of document 01's section "Shelf and card", as document 02 amends it, run through
+//! the proved code.
 
 mod answer;
 mod asking;
@@ -45,7 +46,9 @@ mod tests {
             line(&outcome, "compare s p"),
             "  compare s p bound 1  difference, 1 object  difference, 1 object, record card (0 under s, 7 under p)"
         );
-        assert!(outcome.text.ends_with("\n2 of 2 as document 01 has them\n"));
+        assert!(outcome
+            .text
+            .ends_with("\n2 of 2 as the documents have them\n"));
     }
 
     #[test]
@@ -55,14 +58,16 @@ mod tests {
         assert_eq!(outcome.status, FOUND);
         let told = line(&outcome, "judge p shelf_5");
         assert!(
-            told.ends_with("5            6  <- NOT as document 01 has it"),
+            told.ends_with("5          6  <- NOT as the documents have it"),
             "{told}"
         );
         assert!(!line(&outcome, "judge p card").contains("NOT"));
-        assert!(outcome.text.ends_with("\n1 of 2 as document 01 has them\n"));
+        assert!(outcome
+            .text
+            .ends_with("\n1 of 2 as the documents have them\n"));
         let json = outcome.json.to_string();
         assert!(json.contains(
-            r#""result": "not all as document 01 has them", "number": 2, "as_asked": 1"#
+            r#""result": "not all as the documents have them", "number": 2, "as_asked": 1"#
         ));
         assert!(json.contains(r#""expected": "5", "came": "6", "marked": true, "fits": false"#));
     }

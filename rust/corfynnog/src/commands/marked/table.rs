@@ -1,9 +1,9 @@
 //! The table of cases, row by row.
 
-/// A row: what is asked, and what the document says.
+/// A row: what is asked, and what the documents say.
 #[derive(Debug, PartialEq, Eq)]
 pub struct Row<'a> {
-    /// The document has an asterisk there.
+    /// Document 01 has an asterisk there.
     pub marked: bool,
     pub asked: &'a str,
     pub expected: &'a str,

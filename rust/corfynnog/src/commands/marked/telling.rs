@@ -4,13 +4,13 @@ use super::case::Case;
 use crate::json::Json;
 use crate::outcome::{Outcome, FINE, FOUND};
 
-/// All cases, and how many are as the document has them.
+/// All cases, and how many are as the documents have them.
 pub fn outcome(cases: &[Case]) -> Outcome {
     let number = cases.len();
     let as_asked = cases.iter().filter(|case| case.fits).count();
     let (status, result) = match as_asked == number {
-        true => (FINE, "as document 01 has them"),
-        false => (FOUND, "not all as document 01 has them"),
+        true => (FINE, "as the documents have them"),
+        false => (FOUND, "not all as the documents have them"),
     };
     let members = vec![
         ("command", Json::text("marked")),
@@ -19,20 +19,20 @@ pub fn outcome(cases: &[Case]) -> Outcome {
         ("as_asked", Json::Number(as_asked)),
         ("cases", Json::list(cases, case_json)),
     ];
-    let last = format!("\n{as_asked} of {number} as document 01 has them\n");
+    let last = format!("\n{as_asked} of {number} as the documents have them\n");
     Outcome::answer(status, lines(cases) + &last, members)
 }
 
 /// A line for each case, in columns, below a heading.
 fn lines(cases: &[Case]) -> String {
     let asked = width("asked", cases.iter().map(|case| case.row.asked));
-    let expected = width("document 01", cases.iter().map(|case| case.row.expected));
-    let mut text = format!("  {:asked$}  {:expected$}  came\n", "asked", "document 01");
+    let expected = width("documents", cases.iter().map(|case| case.row.expected));
+    let mut text = format!("  {:asked$}  {:expected$}  came\n", "asked", "documents");
     for Case { row, came, fits } in cases {
         let mark = if row.marked { "*" } else { " " };
         let remark = match fits {
             true => "",
-            false => "  <- NOT as document 01 has it",
+            false => "  <- NOT as the documents have it",
         };
         text += &format!(
             "{mark} {:asked$}  {:expected$}  {came}{remark}\n",
