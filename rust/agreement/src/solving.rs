@@ -9,7 +9,7 @@ use generators::hex::hex;
 use generators::upper_limits::{tightened, widened};
 use generators::{CallPlan, DiagramPlan, Random};
 use sat::Found;
-use std::time::Duration;
+use std::time::{Duration, Instant};
 
 /// Objects up to which the solver looks.
 const BOUND: usize = 8;
@@ -20,6 +20,10 @@ const BRUTE_BUDGET: u64 = 400_000;
 
 /// The solver's time for a pair.
 const LIMIT: Duration = Duration::from_secs(20);
+
+/// Larger bounds are left out where the growth of the product's time so far says that the next one
+/// would take this long.
+const TOO_LONG: Duration = Duration::from_secs(5);
 
 /// Sizes of pairs.
 const SIZES: [Size; 4] = [
@@ -40,13 +44,15 @@ const SIZES: [Size; 4] = [
 ];
 
 /// How many pairs had a difference, by its object count, or none; at how many the solver ran out
-/// of time, so that they were compared up to the bound before; how many brute force answered too.
+/// of time, so that they were compared up to the bound before; how many brute force answered too;
+/// at how many the product's larger bounds were left out.
 #[derive(Default, Debug)]
 pub struct Tally {
     pub differences: [usize; BOUND + 1],
     pub no_difference: usize,
     pub timed_out: usize,
     pub by_brute_force: usize,
+    pub left_out: usize,
 }
 
 /// Compares the pair of a seed in all three ways.
@@ -79,8 +85,25 @@ pub fn solver_agrees(seed: u64, tally: &mut Tally) {
         assert_eq!(count, expected, "brute force, bound {bound}\n{shown}");
         tally.by_brute_force += 1;
     }
-    let reply = compared([old_file, new_file], known);
-    assert_eq!(reply, least, "the product, bound {known}\n{shown}");
+    let mut before = Duration::ZERO;
+    for bound in 0..=known {
+        let begun = Instant::now();
+        let reply = compared([&old_file, &new_file], bound);
+        let expected = least.filter(|count| *count <= bound);
+        assert_eq!(reply, expected, "the product, bound {bound}\n{shown}");
+        let time = begun.elapsed();
+        if bound < known && expected_next(before, time) > TOO_LONG {
+            tally.left_out += 1;
+            break;
+        }
+        before = time;
+    }
+}
+
+/// The time that the next bound will take if it grows as it did from the bound before to this one.
+fn expected_next(before: Duration, time: Duration) -> Duration {
+    let growth = time.as_secs_f64() / before.as_secs_f64().max(0.001);
+    time.mul_f64(growth.max(1.0))
 }
 
 /// A diagram and a small edit of it or its heads exchanged, in either order.
@@ -107,8 +130,11 @@ fn pair(seed: u64) -> (DiagramPlan, DiagramPlan) {
 }
 
 /// The object count of the product's difference, if it finds one.
-fn compared([old, new]: [Vec<u8>; 2], bound: usize) -> Option<usize> {
-    let load = |place, file| CallPlan::Load { place, file };
+fn compared([old, new]: [&Vec<u8>; 2], bound: usize) -> Option<usize> {
+    let load = |place, file: &Vec<u8>| CallPlan::Load {
+        place,
+        file: file.clone(),
+    };
     let bound = bound as u8;
     let calls = [load(0, old), load(1, new), CallPlan::Compare { bound }];
     let reply = product::replies(&calls).pop().expect("a reply to compare");
