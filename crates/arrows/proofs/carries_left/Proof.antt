@@ -1,3 +1,4 @@
+use mathlib.Core.Path.{refl}
 use Rattle.laws.specs.Connective.{either}
 use Rattle.rules.specs.Arrow.{carriesLeft}
 use Rattle.arrows.proofs.carries_left.Statement.{statement}
@@ -7,7 +8,7 @@ use Rattle.arrows.proofs.carries_left.Lts as lts
 
 returns : tie.Need-returns
 unfolding carriesLeft either
-returns c = cc
+returns c = refl
 
 pub carries-left-spec : {M : Type 1} → statement M
 carries-left-spec = tie.close (tie.spec returns)

@@ -1,3 +1,4 @@
+use mathlib.Core.Path.{refl}
 use Rattle.rules.specs.Arrow.{countedLeft}
 use Rattle.arrows.proofs.counted_left.Statement.{statement}
 use Rattle.arrows.proofs.counted_left.Tie as tie
@@ -6,7 +7,7 @@ use Rattle.arrows.proofs.counted_left.Lts as lts
 
 returns : tie.Need-returns
 unfolding countedLeft
-returns c = cc
+returns c = refl
 
 pub counted-left-spec : {M : Type 1} → statement M
 counted-left-spec = tie.close (tie.spec returns)

@@ -1,3 +1,4 @@
+use mathlib.Core.Path.{refl}
 use Rattle.rules.specs.Arrow.{countedRight}
 use Rattle.arrows.proofs.counted_right.Statement.{statement}
 use Rattle.arrows.proofs.counted_right.Tie as tie
@@ -6,7 +7,7 @@ use Rattle.arrows.proofs.counted_right.Lts as lts
 
 returns : tie.Need-returns
 unfolding countedRight
-returns c = cc
+returns c = refl
 
 pub counted-right-spec : {M : Type 1} → statement M
 counted-right-spec = tie.close (tie.spec returns)

@@ -1,3 +1,4 @@
+use mathlib.Core.Path.{refl}
 use Rattle.laws.specs.Connective.{either}
 use Rattle.rules.specs.Arrow.{mirrors}
 use Rattle.arrows.proofs.is_mirrored.Statement.{statement}
@@ -7,7 +8,7 @@ use Rattle.arrows.proofs.is_mirrored.Lts as lts
 
 returns : tie.Need-returns
 unfolding mirrors either
-returns c = cc
+returns c = refl
 
 pub is-mirrored-spec : {M : Type 1} → statement M
 is-mirrored-spec = tie.close (tie.spec returns)
