@@ -81,9 +81,9 @@ module _ (x : Lines) (w : World) (p o j : ℕ) where
   whole-link : whole_by x w p o j ≡ true → w.link (get_or x.wholeslot j 0) o p ≡ true
   whole-link e = and_right (bit (w.kind p) (get_or x.wholeto j 0)) (w.link (get_or x.wholeslot j 0) o p) (rest e)
 
-  whole_by : bit (w.kind o) (get_or x.wholefrom j 0) ≡ true → bit (w.kind p) (get_or x.wholeto j 0) ≡ true → w.link (get_or x.wholeslot j 0) o p ≡ true
+  whole-by : bit (w.kind o) (get_or x.wholefrom j 0) ≡ true → bit (w.kind p) (get_or x.wholeto j 0) ≡ true → w.link (get_or x.wholeslot j 0) o p ≡ true
       → whole_by x w p o j ≡ true
-  whole_by e f g =
+  whole-by e f g =
       and_both (bit (w.kind o) (get_or x.wholefrom j 0)) (bit (w.kind p) (get_or x.wholeto j 0) && w.link (get_or x.wholeslot j 0) o p) e
       (and_both (bit (w.kind p) (get_or x.wholeto j 0)) (w.link (get_or x.wholeslot j 0) o p) f g)
 
@@ -109,7 +109,7 @@ module _ (x : Sheet) (n : ℕ) (others : Lines) (i : ℕ) where
             let t = sym (both (w.kind p)) ∙ e in
             let first = bit (w.kind p) (get_or others.wholeto (i / 16) 0) in
             let second = bit (w.kind p) (get_or others.wholeto (i % 16) 0) in
-            k.at p o r lp lo lr ne l (whole_by others w p o (i / 16) f (and_left first second t) y) (whole_by others w p r (i % 16) g (and_right first second t) z);
+            k.at p o r lp lo lr ne l (whole-by others w p o (i / 16) f (and_left first second t) y) (whole-by others w p r (i % 16) g (and_right first second t) z);
       })
       (λ w h _ k.
       record {

@@ -20,9 +20,9 @@ use Rattle.worlds.specs.Kept.{ColumnsKept, MirrorsKept, RowsKept, WholesKept, wh
 use Rattle.clashes.specs.Clashes.{FirstSources, LinkedBack, Never, OtherSources, TurnedSources}
 
 -- an object that is a whole by one association is a whole
-pub whole_by : (x : Lines) (w : World) (p o j : ℕ) → j < 16 → whole_by x w p o j ≡ true → whole_of x w p o ≡ true
+pub whole-by : (x : Lines) (w : World) (p o j : ℕ) → j < 16 → whole_by x w p o j ≡ true → whole_of x w p o ≡ true
 unfolding whole_of
-whole_by x w p o j l e = any_of (whole_by x w p o) 16 j l e
+whole-by x w p o j l e = any_of (whole_by x w p o) 16 j l e
 
 -- each type of the mask a is one of b
 abbrev pub Inside : ℕ → ℕ → Type 0
@@ -112,7 +112,7 @@ module _ (first here s mask least most : ℕ) where
       where
         fewest : (w : World) → FirstSources first here s mask least most w → source_count w s (get_or x.wholefrom j 0) 0 ≤ tally (whole_of x w 0) w.size
         fewest w a = tally-mono (λ o. bit (w.kind o) (get_or x.wholefrom j 0) && w.link s o 0) (whole_of x w 0) w.size
-            (λ o l h. whole_by x w 0 o j small
+            (λ o l h. whole-by x w 0 o j small
             (and_both (bit (w.kind o) (get_or x.wholefrom j 0)) (bit (w.kind 0) (get_or x.wholeto j 0) && w.link (get_or x.wholeslot j 0) o 0)
             (and_left (bit (w.kind o) (get_or x.wholefrom j 0)) (w.link s o 0) h)
             (and_both (bit (w.kind 0) (get_or x.wholeto j 0)) (w.link (get_or x.wholeslot j 0) o 0) (ap (λ (t : ℕ). bit t (get_or x.wholeto j 0)) a.kind ∙ to)

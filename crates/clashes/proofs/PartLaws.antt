@@ -17,7 +17,7 @@ use Rattle.link_search.specs.Nets.{net_of}
 use Rattle.worlds.specs.declared.Lines.{Lines}
 use Rattle.worlds.specs.Kept.{Slotted, WholesKept, whole_of}
 use Rattle.clashes.specs.Refuted.{Begun, BitsKept, Refuted, must_whole, must_whole_by}
-use Rattle.clashes.proofs.ClashLaws.{whole_by}
+use Rattle.clashes.proofs.ClashLaws.{whole-by}
 
 module _ (x : Lines) (slotted : Slotted x) (must shut types : List ℕ) (seeds p : ℕ) (eight : seeds ≤ 8) (given : p < seeds) where
   must-whole : (w : World) → Begun types seeds w → BitsKept must shut w → (o : ℕ) → o < seeds → must_whole x must types p o ≡ true → whole_of x w p o ≡ true
@@ -28,7 +28,7 @@ module _ (x : Lines) (slotted : Slotted x) (must shut types : List ℕ) (seeds p
       let to = bit (get_or types p 0) (get_or x.wholeto j 0) in
       let net = net_of must (o * 32 + get_or x.wholeslot j 0) p in
       let front = and_left (from && to) net v.2 in
-      whole_by x w p o j v.1
+      whole-by x w p o j v.1
       (and_both (bit (w.kind o) (get_or x.wholefrom j 0)) (bit (w.kind p) (get_or x.wholeto j 0) && w.link (get_or x.wholeslot j 0) o p)
       (ap (λ (t : ℕ). bit t (get_or x.wholefrom j 0)) (b.kept o l) ∙ and_left from to front)
       (and_both (bit (w.kind p) (get_or x.wholeto j 0)) (w.link (get_or x.wholeslot j 0) o p)

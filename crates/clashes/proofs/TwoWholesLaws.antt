@@ -14,7 +14,7 @@ use Rattle.growing.specs.World.{World}
 use Rattle.worlds.specs.declared.Lines.{Lines}
 use Rattle.worlds.specs.Kept.{MirrorsKept, WholesKept, whole_of}
 use Rattle.clashes.specs.Clashes.{FirstTargets, Never}
-use Rattle.clashes.proofs.ClashLaws.{whole_by}
+use Rattle.clashes.proofs.ClashLaws.{whole-by}
 
 module _ (x : Lines) (t slot mask j : ℕ) (small : j < 16) (left : get_or x.mirrorleft j 0 ≡ slot) (right : get_or x.wholeslot j 0 ≡ get_or x.mirrorright j 0)
     (target : bit t (get_or x.mirrorto j 0) ≡ true) (part : bit t (get_or x.wholeto j 0) ≡ true)
@@ -22,7 +22,7 @@ module _ (x : Lines) (t slot mask j : ℕ) (small : j < 16) (left : get_or x.mir
   module _ (low high : ℕ) (w : World) (f : FirstTargets t slot mask low high w) (mirrors : MirrorsKept x w) where
     target-whole : (o : ℕ) → o < w.size → w.link slot 0 o ≡ true → whole_of x w 0 o ≡ true
     target-whole o l e =
-        whole_by x w 0 o j small
+        whole-by x w 0 o j small
         (and_both (bit (w.kind o) (get_or x.wholefrom j 0)) (bit (w.kind 0) (get_or x.wholeto j 0) && w.link (get_or x.wholeslot j 0) o 0)
         (and_right (bit (w.kind o) (get_or x.mirrorfrom j 0)) (bit (w.kind o) (get_or x.wholefrom j 0)) both)
         (and_both (bit (w.kind 0) (get_or x.wholeto j 0)) (w.link (get_or x.wholeslot j 0) o 0) (ap (λ (u : ℕ). bit u (get_or x.wholeto j 0)) f.kind ∙ part) back))

@@ -46,8 +46,8 @@ module _ (s : List ℕ) (room : ℕ) where
   abbrev known : Bool
   known = leb 1 (code_byte s) && ltb (code_byte s) (length codes)
 
-  whole_by : (t : Bool) → known && leb used (length s) && leb (x.buffers * 5 + lend) room ≡ t → (cond t read no_call).code ≢ 0 → Whole s room (cond t read no_call)
-  whole_by true e h =
+  whole-by : (t : Bool) → known && leb used (length s) && leb (x.buffers * 5 + lend) room ≡ t → (cond t read no_call).code ≢ 0 → Whole s room (cond t read no_call)
+  whole-by true e h =
       let within = leb used (length s) in
       let room-is = leb (x.buffers * 5 + lend) room in
       let most : known && within ≡ true = and_left (known && within) room-is e in
@@ -57,11 +57,11 @@ module _ (s : List ℕ) (room : ℕ) where
         little = leb-true used (length s) (and_right known within most);
         fits = leb-true (x.buffers * 5 + lend) room (and_right (known && within) room-is e);
       }
-  whole_by false e h = absurd (h refl)
+  whole-by false e h = absurd (h refl)
 
   whole-next : (next_of s room).code ≢ 0 → Whole s room (next_of s room)
   unfolding next_of next_by
-  whole-next h = whole_by _ refl h
+  whole-next h = whole-by _ refl h
 
   pub whole-call : {n : Next} → n ≡ next_of s room → n.code ≢ 0 → Whole s room n
   whole-call e h = subst (Whole s room) (sym e) (whole-next (subst (λ (n : Next). n.code ≢ 0) e h))

@@ -21,52 +21,52 @@ use Rattle.text_rows.proofs.MarkLaws.{mark-least}
 -- ---- the bytes that begin a mark of two or three
 
 -- <->, <- and <<
-after_less : (s : List ℕ) → mark_at (0x3_c ∷ s) ≡ cond (eqb 0x2_d (get_or s 0 0)) (cond (eqb 0x3_e (get_or s 1 0)) 0 2) (cond (eqb 0x3_c (get_or s 0 0)) 4 16)
+after_less : (s : List ℕ) → mark_at (0x3C ∷ s) ≡ cond (eqb 0x2D (get_or s 0 0)) (cond (eqb 0x3E (get_or s 1 0)) 0 2) (cond (eqb 0x3C (get_or s 0 0)) 4 16)
 unfolding mark_at first any starts
 after_less [] = refl
-after_less (y ∷ []) = go (eqb 0x2_d y) refl (eqb 0x3_c y) refl
+after_less (y ∷ []) = go (eqb 0x2D y) refl (eqb 0x3C y) refl
   where
-    go : (a : Bool) → eqb 0x2_d y ≡ a → (b : Bool) → eqb 0x3_c y ≡ b → mark_at (0x3_c ∷ y ∷ []) ≡ cond a 2 (cond b 4 16)
+    go : (a : Bool) → eqb 0x2D y ≡ a → (b : Bool) → eqb 0x3C y ≡ b → mark_at (0x3C ∷ y ∷ []) ≡ cond a 2 (cond b 4 16)
     go true e b f = rw e
     go false e true f = rw (e, f)
     go false e false f = rw (e, f)
-after_less (y ∷ z ∷ s) = go (eqb 0x2_d y) refl (eqb 0x3_e z) refl (eqb 0x3_c y) refl
+after_less (y ∷ z ∷ s) = go (eqb 0x2D y) refl (eqb 0x3E z) refl (eqb 0x3C y) refl
   where
-    go : (a : Bool) → eqb 0x2_d y ≡ a → (b : Bool) → eqb 0x3_e z ≡ b → (c : Bool) → eqb 0x3_c y ≡ c
-        → mark_at (0x3_c ∷ y ∷ z ∷ s) ≡ cond a (cond b 0 2) (cond c 4 16)
+    go : (a : Bool) → eqb 0x2D y ≡ a → (b : Bool) → eqb 0x3E z ≡ b → (c : Bool) → eqb 0x3C y ≡ c
+        → mark_at (0x3C ∷ y ∷ z ∷ s) ≡ cond a (cond b 0 2) (cond c 4 16)
     go true e true f c g = rw (e, f)
     go true e false f c g = rw (e, f)
     go false e b f true g = rw (e, g)
     go false e b f false g = rw (e, g)
 
 -- -> and --
-after-dash : (s : List ℕ) → mark_at (0x2_d ∷ s) ≡ cond (eqb 0x3_e (get_or s 0 0)) 1 (cond (eqb 0x2_d (get_or s 0 0)) 3 16)
+after-dash : (s : List ℕ) → mark_at (0x2D ∷ s) ≡ cond (eqb 0x3E (get_or s 0 0)) 1 (cond (eqb 0x2D (get_or s 0 0)) 3 16)
 unfolding mark_at first any starts
 after-dash [] = refl
-after-dash (y ∷ s) = go (eqb 0x3_e y) refl (eqb 0x2_d y) refl
+after-dash (y ∷ s) = go (eqb 0x3E y) refl (eqb 0x2D y) refl
   where
-    go : (a : Bool) → eqb 0x3_e y ≡ a → (b : Bool) → eqb 0x2_d y ≡ b → mark_at (0x2_d ∷ y ∷ s) ≡ cond a 1 (cond b 3 16)
+    go : (a : Bool) → eqb 0x3E y ≡ a → (b : Bool) → eqb 0x2D y ≡ b → mark_at (0x2D ∷ y ∷ s) ≡ cond a 1 (cond b 3 16)
     go true e b f = rw e
     go false e true f = rw (e, f)
     go false e false f = rw (e, f)
 
 -- >>
-after-greater : (s : List ℕ) → mark_at (0x3_e ∷ s) ≡ cond (eqb 0x3_e (get_or s 0 0)) 5 16
+after-greater : (s : List ℕ) → mark_at (0x3E ∷ s) ≡ cond (eqb 0x3E (get_or s 0 0)) 5 16
 unfolding mark_at first any starts
 after-greater [] = refl
-after-greater (y ∷ s) = go (eqb 0x3_e y) refl
+after-greater (y ∷ s) = go (eqb 0x3E y) refl
   where
-    go : (a : Bool) → eqb 0x3_e y ≡ a → mark_at (0x3_e ∷ y ∷ s) ≡ cond a 5 16
+    go : (a : Bool) → eqb 0x3E y ≡ a → mark_at (0x3E ∷ y ∷ s) ≡ cond a 5 16
     go true e = rw e
     go false e = rw e
 
 -- ..
-after-dot : (s : List ℕ) → mark_at (0x2_e ∷ s) ≡ cond (eqb 0x2_e (get_or s 0 0)) 6 16
+after-dot : (s : List ℕ) → mark_at (0x2E ∷ s) ≡ cond (eqb 0x2E (get_or s 0 0)) 6 16
 unfolding mark_at first any starts
 after-dot [] = refl
-after-dot (y ∷ s) = go (eqb 0x2_e y) refl
+after-dot (y ∷ s) = go (eqb 0x2E y) refl
   where
-    go : (a : Bool) → eqb 0x2_e y ≡ a → mark_at (0x2_e ∷ y ∷ s) ≡ cond a 6 16
+    go : (a : Bool) → eqb 0x2E y ≡ a → mark_at (0x2E ∷ y ∷ s) ≡ cond a 6 16
     go true e = rw e
     go false e = rw e
 
@@ -80,7 +80,7 @@ all-alone s = refl
 -- the bytes that begin a mark, in the code's order
 abbrev pub begins : List (List ℕ)
 begins =
-    (0x3_c ∷ []) ∷ (0x2_d ∷ []) ∷ (0x3_e ∷ []) ∷ (0x2_e ∷ []) ∷ (0x7_b ∷ []) ∷ (0x7_d ∷ []) ∷ (0x3_b ∷ []) ∷ (0x2_c ∷ []) ∷ (0x28 ∷ []) ∷ (0x29 ∷ []) ∷ (0x5_b ∷ []) ∷ (0x5_d ∷ []) ∷ (0x2_a ∷ []) ∷ []
+    (0x3C ∷ []) ∷ (0x2D ∷ []) ∷ (0x3E ∷ []) ∷ (0x2E ∷ []) ∷ (0x7B ∷ []) ∷ (0x7D ∷ []) ∷ (0x3B ∷ []) ∷ (0x2C ∷ []) ∷ (0x28 ∷ []) ∷ (0x29 ∷ []) ∷ (0x5B ∷ []) ∷ (0x5D ∷ []) ∷ (0x2A ∷ []) ∷ []
 
 all-begin : all (λ i. among_any (get_or (get_or marks i []) 0 0) begins) 16 ≡ true
 unfolding all among_any among either
@@ -101,24 +101,24 @@ module _ (s : List ℕ) (h : 0 < length s) where
   unfolding mark_at
   small e = let m = first-le (λ i. starts (get_or marks i []) s) 16 in (e, omega arith)
 
-  pub mark-less : get_or s 0 0 ≡ 0x3_c → {t u r : ℕ} → t ≡ cond (eqb 0x3_e (get_or s 2 0)) 0 2 → u ≡ cond (eqb 0x3_c (get_or s 1 0)) 4 16
-      → r ≡ cond (eqb 0x2_d (get_or s 1 0)) t u → (r ≡ mark_at s) × (r ≤ 16)
+  pub mark-less : get_or s 0 0 ≡ 0x3C → {t u r : ℕ} → t ≡ cond (eqb 0x3E (get_or s 2 0)) 0 2 → u ≡ cond (eqb 0x3C (get_or s 1 0)) 4 16
+      → r ≡ cond (eqb 0x2D (get_or s 1 0)) t u → (r ≡ mark_at s) × (r ≤ 16)
   mark-less e p q z =
       small
-      (z ∙ ap₂ (λ (x y : ℕ). cond (eqb 0x2_d (get_or s 1 0)) x y) p q
-      ∙ sym (front-is (λ s. mark_at s ≡ cond (eqb 0x2_d (get_or s 1 0)) (cond (eqb 0x3_e (get_or s 2 0)) 0 2) (cond (eqb 0x3_c (get_or s 1 0)) 4 16)) s 0x3_c h e after_less))
+      (z ∙ ap₂ (λ (x y : ℕ). cond (eqb 0x2D (get_or s 1 0)) x y) p q
+      ∙ sym (front-is (λ s. mark_at s ≡ cond (eqb 0x2D (get_or s 1 0)) (cond (eqb 0x3E (get_or s 2 0)) 0 2) (cond (eqb 0x3C (get_or s 1 0)) 4 16)) s 0x3C h e after_less))
 
-  pub mark-dash : get_or s 0 0 ≡ 0x2_d → {u r : ℕ} → u ≡ cond (eqb 0x2_d (get_or s 1 0)) 3 16 → r ≡ cond (eqb 0x3_e (get_or s 1 0)) 1 u → (r ≡ mark_at s) × (r ≤ 16)
+  pub mark-dash : get_or s 0 0 ≡ 0x2D → {u r : ℕ} → u ≡ cond (eqb 0x2D (get_or s 1 0)) 3 16 → r ≡ cond (eqb 0x3E (get_or s 1 0)) 1 u → (r ≡ mark_at s) × (r ≤ 16)
   mark-dash e q z =
       small
-      (z ∙ ap (λ (x : ℕ). cond (eqb 0x3_e (get_or s 1 0)) 1 x) q
-      ∙ sym (front-is (λ s. mark_at s ≡ cond (eqb 0x3_e (get_or s 1 0)) 1 (cond (eqb 0x2_d (get_or s 1 0)) 3 16)) s 0x2_d h e after-dash))
+      (z ∙ ap (λ (x : ℕ). cond (eqb 0x3E (get_or s 1 0)) 1 x) q
+      ∙ sym (front-is (λ s. mark_at s ≡ cond (eqb 0x3E (get_or s 1 0)) 1 (cond (eqb 0x2D (get_or s 1 0)) 3 16)) s 0x2D h e after-dash))
 
-  pub mark-greater : get_or s 0 0 ≡ 0x3_e → {r : ℕ} → r ≡ cond (eqb 0x3_e (get_or s 1 0)) 5 16 → (r ≡ mark_at s) × (r ≤ 16)
-  mark-greater e z = small (z ∙ sym (front-is (λ s. mark_at s ≡ cond (eqb 0x3_e (get_or s 1 0)) 5 16) s 0x3_e h e after-greater))
+  pub mark-greater : get_or s 0 0 ≡ 0x3E → {r : ℕ} → r ≡ cond (eqb 0x3E (get_or s 1 0)) 5 16 → (r ≡ mark_at s) × (r ≤ 16)
+  mark-greater e z = small (z ∙ sym (front-is (λ s. mark_at s ≡ cond (eqb 0x3E (get_or s 1 0)) 5 16) s 0x3E h e after-greater))
 
-  pub mark-dot : get_or s 0 0 ≡ 0x2_e → {r : ℕ} → r ≡ cond (eqb 0x2_e (get_or s 1 0)) 6 16 → (r ≡ mark_at s) × (r ≤ 16)
-  mark-dot e z = small (z ∙ sym (front-is (λ s. mark_at s ≡ cond (eqb 0x2_e (get_or s 1 0)) 6 16) s 0x2_e h e after-dot))
+  pub mark-dot : get_or s 0 0 ≡ 0x2E → {r : ℕ} → r ≡ cond (eqb 0x2E (get_or s 1 0)) 6 16 → (r ≡ mark_at s) × (r ≤ 16)
+  mark-dot e z = small (z ∙ sym (front-is (λ s. mark_at s ≡ cond (eqb 0x2E (get_or s 1 0)) 6 16) s 0x2E h e after-dot))
 
   pub mark-alone : (i : ℕ) → ltb i 9 ≡ true → get_or s 0 0 ≡ get_or (get_or marks (7 + i) []) 0 0 → (7 + i ≡ mark_at s) × (7 + i ≤ 16)
   mark-alone i b e =

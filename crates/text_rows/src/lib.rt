@@ -106,7 +106,7 @@ fn clear(row: &mut [usize])
 
 // A token of that class, at that byte and of so many bytes, leads to the state q.
 fn note_token(row: &mut [usize], q: u8, class: u8, at: usize, size: usize)
-    requires { (length row.old ≡ 188) × ((q ≤ 46) × (get_or row.old (47 + q) 0 + one (is_word_class class) ≤ 0x_f_f_f_f_f_f_f_f_f_f_f_f_f_f_f_f)) }
+    requires { (length row.old ≡ 188) × ((q ≤ 46) × (get_or row.old (47 + q) 0 + one (is_word_class class) ≤ 0xFFFFFFFFFFFFFFFF)) }
     ensures { row.new ≡ noted row.old q class at size }
 {
     let k = laws::wide(q);

@@ -22,7 +22,7 @@ fn by_byte(s: &[u8], i: usize, b: u8, yes: u8, no: u8) -> u8
 fn is_blank(b: u8) -> bool
     ensures { result ≡ is_blank b }
 {
-    (b == 0x20) | ((b == 0x09) | ((b == 0x0_a) | (b == 0x0_d)))
+    (b == 0x20) | ((b == 0x09) | ((b == 0x0A) | (b == 0x0D)))
 }
 
 // What follows the blanks at the front.

@@ -18,9 +18,9 @@ use Rattle.laws.proofs.BoundedLaws.{all-at, any_none}
 use Rattle.laws.proofs.FirstLaws.{first_holds, first-le, first-none}
 use Rattle.laws.proofs.OrderLaws.{is_equal-eq}
 
-same_word : (v w : Name) → same_word v w ≡ true → v ≡ w
+same-word : (v w : Name) → same_word v w ≡ true → v ≡ w
 unfolding same_word
-same_word v w e = is_equal-eq v w e
+same-word v w e = is_equal-eq v w e
 
 pub mark-class : (i : ℕ) → class_of (mark i) ≡ i
 unfolding class_of
@@ -43,7 +43,7 @@ no-integer : (v w : Name) → is_integer v ≡ false → is_integer w ≡ true �
 no-integer v w n i = go (same_word v w) refl
   where
     go : (b : Bool) → same_word v w ≡ b → b ≡ false
-    go true e = sym i ∙ ap is_integer (sym (same_word v w e)) ∙ n
+    go true e = sym i ∙ ap is_integer (sym (same-word v w e)) ∙ n
     go false e = refl
 
 quoted-no-integers : all (λ k. not (is_integer (get_or quoted_words k []))) 9 ≡ true
@@ -126,13 +126,13 @@ meant (word w) m = go (is_name w) refl (same_word singleton_word w) refl (is_int
 
     go : (n : Bool) → eqb (first p 9) 9 ≡ n → (s : Bool) → same_word singleton_word w ≡ s → (i : Bool) → is_integer w ≡ i
         → Meant (cond n (cond s 25 (cond i 26 27)) (16 + first p 9)) (word w)
-    go true e true f i g = ap word (sym (same_word singleton_word w f))
+    go true e true f i g = ap word (sym (same-word singleton_word w f))
     go true e false f true g = record { spelled = w; is = refl; digits = g }
     go true e false f false g = record { spelled = w; is = refl; fits = e }
     go false e s f i g =
         let l : first p 9 ≤ 9 = first-le p 9 in
         let ne : first p 9 ≡ 9 → ⊥ = eqb-false _ _ e in
         let k : first p 9 < 9 = omega arith in
-        quoted-meant w (first p 9) k (sym (same_word (get_or quoted_words (first p 9) []) w (first_holds p 9 k)))
+        quoted-meant w (first p 9) k (sym (same-word (get_or quoted_words (first p 9) []) w (first_holds p 9 k)))
 meant (mark i) m = rw m refl
 meant (stray b) m = tt

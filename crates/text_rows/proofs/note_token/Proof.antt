@@ -66,7 +66,7 @@ add_row : tie.Need-overflow-add-row
 unfolding both
 add_row c = let w = c.before.before.before.before.before.before.before in
     let b = w.before.before in
-    let h = noted-fits b.args.row.now 0x_f_f_f_f_f_f_f_f_f_f_f_f_f_f_f_f w.wide.ensures.0 c.number_of_lem.ensures.0 b.requires.1.1 in
+    let h = noted-fits b.args.row.now 0xFFFFFFFFFFFFFFFF w.wide.ensures.0 c.number_of_lem.ensures.0 b.requires.1.1 in
     omega arith
 
 add-row-2 : tie.Need-overflow-add-row-2
