@@ -1,4 +1,6 @@
 // The search for a world that a diagram's tables allow and that does not keep another diagram's tables: a short list of queries.
+#![tactic(auto)]
+
 ghost use Rattle.std.specs.Prelude.{◌≡◌, false, ◌<◌, ◌≤◌};
 ghost use Rattle.worlds.specs.Kept.{AllKept, Slotted, SourceTable, sheet};
 ghost use Rattle.worlds.specs.Asked.{Breaks, world_built};

@@ -1,4 +1,6 @@
 // What the arrow of an association says of the links of its two roles.
+#![tactic(auto)]
+
 ghost use Rattle.std.specs.Prelude.{◌≡◌};
 ghost use Rattle.rules.specs.Arrow.{carries_right, carries_left, counted_right, counted_left, mirrors};
 

@@ -21,7 +21,7 @@ demand-three b reached old new eo en bound h r m =
     let all = steps.demand-three (bench_of b) old new eo en bound h (outcome_of r []) m.step in
     record {
       none-overlooked = all;
-      handed_out = λ n i ms c run k buffer p given o. all.handed_out n i (events_of ms) (bench_of c) (run_row r.bench ms c run) k buffer (outcome_of p given) o.step;
+      handed-out = λ n i ms c run k buffer p given o. all.handed-out n i (events_of ms) (bench_of c) (run_row r.bench ms c run) k buffer (outcome_of p given) o.step;
     }
 
 pub same-heads : RunsSameHeads

@@ -42,7 +42,7 @@ RunsDemandTwo = (b : Bench) → ReachedIn b → (p : ℕ) → p ≤ 1 → Exact 
 pub record Compared (old new : Diagram) (bound : ℕ) (r : Replied) : Type 0 where
   pub none-overlooked : NoneOverlooked old new bound (outcome_of r [])
   -- what is handed out by the code, behind a run of its calls none of which drops or stores a witness
-  pub handed_out : (n : ℕ) → (outcome_of r []).reply ≡ difference n → (ms : List Made) (c : Bench) → Run r.bench ms c → KeepsWitness (events_of ms)
+  pub handed-out : (n : ℕ) → (outcome_of r []).reply ≡ difference n → (ms : List Made) (c : Bench) → Run r.bench ms c → KeepsWitness (events_of ms)
       → (buffer : List ℕ) (p : Replied) (given : List ℕ) → Does c (HandOut buffer) p given → HandedOut (Gap old new) n buffer (outcome_of p given)
 
 -- "Old and new are the diagrams in places 0 and 1 of the bench that compare gets."

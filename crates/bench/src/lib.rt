@@ -1,4 +1,6 @@
 // The bench: two places for diagrams, old and new, and at most one witness; and its calls.
+#![tactic(auto)]
+
 ghost use Rattle.std.specs.Prelude.{[], ◌≡◌, ◌<◌};
 ghost use Rattle.steps.specs.Bench.{Load, Clear, Judge, Compile, Evaluate, Compare, HandOut, LoadText};
 ghost use Rattle.bench.specs.View.{fresh_in, no_place, no_witness, place_in, place_no, settled_in, with_witness_in};

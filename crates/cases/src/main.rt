@@ -2,6 +2,8 @@
 // A line is a letter for what is asked, a blank, the case's name up to a colon, and bytes as pairs of hexadecimal digits, each
 // behind a blank; where two files are asked for, a blank and a slash stand between them. Before two diagrams to compare stands
 // the bound, one byte, with a blank and a slash behind it.
+#![tactic(auto)]
+
 mod differences; // differences.rt: two diagrams compared
 mod rows; // rows.rt: a row of calls
 

@@ -1,4 +1,6 @@
 // The reader of record files that keeps nothing of them but the answer. A record here holds names, and no diagram is asked.
+#![tactic(auto)]
+
 ghost use Rattle.std.specs.Prelude.{◌≡◌, cond, ◌≤◌, eqb, get_or};
 ghost use Rattle.laws.specs.Bounded.{one};
 ghost use Rattle.laws.specs.Connective.{imp, refuse};

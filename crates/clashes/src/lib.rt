@@ -1,4 +1,6 @@
 // Queries that contradict the tables: which of them have no solution, by the types of their seeds alone.
+#![tactic(auto)]
+
 ghost use Rattle.std.specs.Prelude.{◌≡◌, true, ℕ, ◌*◌, ◌<◌, ◌≤◌, get_or};
 ghost use Rattle.growing.specs.Growth.{Nowhere};
 ghost use Rattle.worlds.specs.Kept.{Slotted, SourceTable, sheet};

@@ -1,4 +1,6 @@
 // How calls and replies stand in bytes: the call at the front of a list of calls, and a reply at the front of the room for replies.
+#![tactic(auto)]
+
 ghost use Rattle.std.specs.Prelude.{◌≡◌, [], ◌++◌, ◌<◌, length};
 ghost use Rattle.bench.specs.View.{reply_of};
 ghost use Rattle.coding.specs.CallBytes.{length_at, long_at, next_of, row_at};
@@ -120,8 +122,8 @@ fn put(out: &mut [u8], xs: &[u8], ys: &[u8]) -> usize
     if out.len() - xs.len() < ys.len() {
         return 0;
     }
-    let n = bytes::copy(xs, out);
-    let m = bytes::copy(ys, &mut out[n..]);
+    let n = laws::copy(xs, out);
+    let m = laws::copy(ys, &mut out[n..]);
     n + m
 }
 

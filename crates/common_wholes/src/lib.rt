@@ -1,4 +1,6 @@
 // Parts whose whole is given by more than one composition: each asks for a whole, and there is only one.
+#![tactic(auto)]
+
 ghost use Rattle.std.specs.Prelude.{◌≡◌, true, ℕ, ◌<◌, get_or};
 ghost use Rattle.worlds.specs.declared.Lines.{Lines};
 ghost use Rattle.common_wholes.specs.Common.{Common};

@@ -1,5 +1,7 @@
 // Compare: whether some record of at most `bound` objects is legal for the old diagram and illegal for the new one, and one with
 // fewest objects.
+#![tactic(auto)]
+
 ghost use Rattle.std.specs.Prelude.{◌≡◌, ◌≤◌, min};
 ghost use Rattle.diagrams.specs.View.{diagram_of};
 ghost use Rattle.diagrams.specs.Held.{Held};

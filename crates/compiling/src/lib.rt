@@ -1,4 +1,6 @@
 // The compiler: the entries that a diagram in memory asks for, and their bytes.
+#![tactic(auto)]
+
 ghost use Rattle.std.specs.Prelude.{◌≡◌, [], ◌∷◌, ◌+◌, ◌<◌, ◌≤◌};
 ghost use Rattle.diagrams.specs.View.{association_in, upper_in};
 ghost use Rattle.diagrams.specs.Held.{Held};

@@ -1,4 +1,6 @@
 // The declarations of an attribute name for an object, by the tables of instances and slots.
+#![tactic(auto)]
+
 ghost use Rattle.std.specs.Prelude.{◌≡◌, ◌<◌};
 ghost use Rattle.laws.specs.Bounded.{all, any};
 ghost use Rattle.declarations.specs.Declares.{declares_at, agrees_at};

@@ -1,4 +1,6 @@
 // Which types one more object must have: what a search by types asks before it looks at links.
+#![tactic(auto)]
+
 ghost use Rattle.std.specs.Prelude.{ℕ, ◌<◌, ◌≤◌, ltb, get_or};
 ghost use Rattle.growing.specs.Growth.{Demanded};
 ghost use Rattle.worlds.specs.Kept.{Slotted, SourceTable, sheet};

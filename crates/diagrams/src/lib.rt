@@ -1,4 +1,6 @@
 // A diagram in memory: flat arrays, names in slots of 17 bytes.
+#![tactic(auto)]
+
 ghost use Rattle.std.specs.Prelude.{◌≡◌};
 ghost use Rattle.diagrams.specs.Empty.{empty_diagram};
 

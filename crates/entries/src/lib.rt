@@ -1,9 +1,11 @@
 // A list of entries in memory, from a compiler or not.
+#![tactic(auto)]
+
 ghost use Rattle.std.specs.Prelude.{◌≡◌, [], ◌∷◌, ◌+◌, ◌<◌};
 ghost use Rattle.entries.specs.View.{entry_of, no_entries, Appends};
 
 // Entry i, for i below the number, is kind, association, side, low and up at i.
-#[derive(Drop)]
+#[derive(Clone, Copy)]
 pub struct Entries {
     pub number: usize,
     pub kinds: [u8; 64],

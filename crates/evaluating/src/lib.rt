@@ -1,4 +1,6 @@
 // Evaluating: the first entry of a list that does not hold on a record in memory, and the first compiled one.
+#![tactic(auto)]
+
 ghost use Rattle.std.specs.Prelude.{◌≡◌, ◌<◌};
 ghost use Rattle.files.specs.Diagram.{association_at};
 ghost use Rattle.diagrams.specs.View.{diagram_of};

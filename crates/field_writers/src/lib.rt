@@ -1,4 +1,6 @@
 // Parts of a field, written into the unused rest of a buffer.
+#![tactic(auto)]
+
 ghost use Rattle.std.specs.Prelude.{◌≡◌, ◌+◌, ◌≤◌, ◌<◌, length};
 ghost use Rattle.files.specs.Content.{name_bytes};
 ghost use Rattle.field_writers.specs.Put.{Put, head};
@@ -29,6 +31,6 @@ pub fn put_name(out: &mut [u8], w: &[u8]) -> usize
 {
     let n = w.len();
     out[0] = narrow(n);
-    let m = bytes::copy(w, &mut out[1..]);
+    let m = laws::copy(w, &mut out[1..]);
     1 + m
 }

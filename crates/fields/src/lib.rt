@@ -1,4 +1,6 @@
 // Fields and names: read off the unread rest of a file, and written into the unused rest of a buffer.
+#![tactic(auto)]
+
 ghost use Rattle.std.specs.Prelude.{◌≡◌, ◌+◌, ◌*◌, ◌/◌, ◌%◌, ◌<◌, min, take, drop};
 ghost use Rattle.files.specs.Name.{name_byte, valid_name, same_name, before};
 ghost use Rattle.files.specs.Content.{name_in, past_name, starts_name, starts_constant};

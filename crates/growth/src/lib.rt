@@ -1,5 +1,7 @@
 // The search for a world that a query asks for: first the types of the seeds, then one extra object after the other, of the types that
 // a demand names, and at n objects the search for links.
+#![tactic(auto)]
+
 ghost use Rattle.std.specs.Prelude.{◌≡◌, not, ◌&&◌, ℕ, ◌<◌, ◌≤◌, get_or, set};
 ghost use Rattle.laws.specs.Bits.{bit};
 ghost use Rattle.growing.specs.Growth.{Grown};

@@ -1,4 +1,6 @@
 // Judging: the lowest rule that a record in memory breaks.
+#![tactic(auto)]
+
 ghost use Rattle.std.specs.Prelude.{◌≡◌};
 ghost use Rattle.laws.specs.Connective.{unless};
 ghost use Rattle.diagrams.specs.View.{diagram_of};

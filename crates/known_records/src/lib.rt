@@ -1,4 +1,6 @@
 // Whether a diagram has an index for everything in a record in memory.
+#![tactic(auto)]
+
 ghost use Rattle.std.specs.Prelude.{◌≡◌, ◌^◌, ◌<◌, ◌≤◌, ltb};
 ghost use Rattle.diagrams.specs.Held.{Held};
 ghost use Rattle.diagrams.specs.View.{diagram_of};

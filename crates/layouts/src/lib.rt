@@ -1,4 +1,6 @@
 // Refusal 3 for each tag: whether a content is on its layout. All reads are total, so that nothing is asked of the content.
+#![tactic(auto)]
+
 ghost use Rattle.std.specs.Prelude.{◌≡◌, not, ◌∷◌, []};
 ghost use Rattle.laws.specs.Bounded.{all, any};
 ghost use Rattle.laws.specs.Lists.{joined};

@@ -1,5 +1,7 @@
 // The search for the links of objects whose types are all given: what tables by types and a query ask of them, as arrays by object,
 // and the search over these.
+#![tactic(auto)]
+
 ghost use Rattle.std.specs.Prelude.{◌≡◌, cond, false, ℕ, ◌<◌, ◌≤◌, get_or};
 ghost use Rattle.laws.specs.Bits.{Marks};
 ghost use Rattle.growing.specs.Growth.{Ended};

@@ -1,5 +1,7 @@
 // Rules 6 to 9 on a record in memory, by its diagram's associations and the tables: for each type a mask of its instances, for
 // each end the slot of its role. The left end of association i is end i * 2, the right one end i * 2 + 1.
+#![tactic(auto)]
+
 ghost use Rattle.std.specs.Prelude.{◌≡◌, ◌<◌, ◌≤◌, ◌*◌, get_or};
 ghost use Rattle.laws.specs.Bits.{Marks};
 ghost use Rattle.masks.specs.Masks.{limits_of};

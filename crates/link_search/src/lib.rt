@@ -1,5 +1,7 @@
 // The search for the links of given objects: which of the links that may stand are added to those that must, so that the limits of
 // rows and columns, mirrors and wholes are right. It knows no diagram: all that is asked stands in arrays.
+#![tactic(auto)]
+
 ghost use Rattle.std.specs.Prelude.{◌≡◌, true, false, ◌<◌, ◌+◌, ◌*◌, length};
 ghost use Rattle.laws.specs.Bits.{bit};
 ghost use Rattle.laws.specs.Bounded.{tally};

@@ -1,4 +1,6 @@
 // The reader of diagram files.
+#![tactic(auto)]
+
 ghost use Rattle.loading.specs.WithField.{FieldPasses, WithField};
 ghost use Rattle.loading.specs.Loads.{Loads};
 

@@ -25,7 +25,7 @@ pub fn store_name(names: &mut [u8], i: usize, w: &[u8])
 {
     let at = i * 17;
     names[at] = narrow(w.len());
-    let n = bytes::copy(w, &mut names[at + 1..]);
+    let n = laws::copy(w, &mut names[at + 1..]);
 }
 
 // ---- value types
@@ -77,7 +77,7 @@ fn with_parents(parents: [u8; 96], t: usize, ps: &[u8]) -> [u8; 96]
     ensures { ParentsStored parents t ps.now result }
 {
     let mut out = parents;
-    let n = bytes::copy(ps, &mut out[t * 4..]);
+    let n = laws::copy(ps, &mut out[t * 4..]);
     out
 }
 

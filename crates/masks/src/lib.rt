@@ -1,4 +1,6 @@
 // The link rules on masks, one bit for each object. The links of object o for the role in slot s are the mask at o * 32 + s.
+#![tactic(auto)]
+
 ghost use Rattle.std.specs.Prelude.{◌≡◌, ℕ, ◌<◌, ◌≤◌, ltb};
 ghost use Rattle.laws.specs.Connective.{same};
 ghost use Rattle.laws.specs.Bits.{bit, Marks};

@@ -1,4 +1,6 @@
 // A list of at most 24 names in memory, in slots of 17 bytes.
+#![tactic(auto)]
+
 ghost use Rattle.std.specs.Prelude.{◌≡◌, ◌++◌, ◌∷◌, [], ◌+◌, ◌<◌, ◌≤◌, length, get_or};
 ghost use Rattle.laws.specs.Bounded.{first};
 ghost use Rattle.files.specs.Name.{same_name};

@@ -1,4 +1,6 @@
 // The table of targets without links that no allowed site has: from and to types that no object can have, and in rows that have none.
+#![tactic(auto)]
+
 ghost use Rattle.std.specs.Prelude.{◌≡◌, List, ℕ};
 ghost use Rattle.worlds.specs.declared.Lines.{Lines};
 ghost use Rattle.worlds.specs.Kept.{sheet};

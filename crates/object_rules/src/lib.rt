@@ -1,4 +1,6 @@
 // Rules 1 to 5 on a record in memory, by the tables of instances and slots.
+#![tactic(auto)]
+
 ghost use Rattle.std.specs.Prelude.{◌≡◌};
 ghost use Rattle.rules.specs.TypeRules.{rule1, rule2};
 ghost use Rattle.rules.specs.ValueRules.{rule4};

@@ -1,4 +1,6 @@
 // The associations that permit a link, by the tables of instances and slots.
+#![tactic(auto)]
+
 ghost use Rattle.std.specs.Prelude.{◌≡◌, ◌<◌, ◌≤◌};
 ghost use Rattle.laws.specs.Bounded.{any};
 ghost use Rattle.permits.specs.Permits.{joins, permits_at};

@@ -1,4 +1,6 @@
 // Questions to the search by types: sets of types, and queries built from nothing, one demand after the other.
+#![tactic(auto)]
+
 ghost use Rattle.std.specs.Prelude.{◌≡◌, true, false, ◌&&◌, ℕ, ◌<◌, eqb};
 ghost use Rattle.laws.specs.Bits.{bit};
 ghost use Rattle.queries.specs.Forms.{seeded, linked, barred, rowed, columned, avoiding};

@@ -1,4 +1,6 @@
 // A record in memory, as seen by one diagram: its types, values and links together, by that diagram's indices.
+#![tactic(auto)]
+
 ghost use Rattle.std.specs.Prelude.{◌≡◌};
 ghost use Rattle.records.specs.Empty.{empty_record};
 

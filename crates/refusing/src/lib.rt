@@ -1,4 +1,6 @@
 // The refusals of a diagram file's fields.
+#![tactic(auto)]
+
 ghost use Rattle.std.specs.Prelude.{◌≡◌, ◌&&◌, suc, ◌<◌, ◌≤◌, eqb, ltb, length, get_or};
 ghost use Rattle.laws.specs.Bounded.{any};
 ghost use Rattle.laws.specs.Connective.{refuse};

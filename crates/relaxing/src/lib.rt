@@ -1,5 +1,7 @@
 // Queries whose seeds cannot stand together, whatever other objects there are: the seeds alone, without any lower limit, have no links
 // that fit.
+#![tactic(auto)]
+
 ghost use Rattle.std.specs.Prelude.{◌≡◌, true, List, ℕ, ◌<◌, get_or};
 ghost use Rattle.growing.specs.Growth.{Nowhere};
 ghost use Rattle.worlds.specs.Kept.{Slotted, sheet};

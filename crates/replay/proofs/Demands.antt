@@ -179,10 +179,10 @@ demand-three b old new eo en bound h o s =
     let none-iff = none-bytes b old new eo en bound h o s in
     let some-iff = some_bytes b old new eo en bound h o s in
     record {
-      no_difference = iff-trans none-iff all.no_difference;
+      no-difference = iff-trans none-iff all.no-difference;
       otherwise = λ i. let k = all.otherwise (λ q. i (none-iff.1 q)) in (k.0, (some-iff k.0).1 k.1);
       least = λ n i. all.least n ((some-iff n).0 i);
-      handed_out = λ n i es c row k buffer l p t. handed-bytes (Gap old new) n c buffer p t l (all.handed_out n ((some-iff n).0 i) es c row k buffer p t);
+      handed-out = λ n i es c row k buffer l p t. handed-bytes (Gap old new) n c buffer p t l (all.handed-out n ((some-iff n).0 i) es c row k buffer p t);
     }
 
 pub same-heads : BytesSameHeads

@@ -82,12 +82,12 @@ pub record HandedBytes (S : List ℕ → Record → Type 0) (n : ℕ) (buffer re
 
 pub record ComparedBytes (old new : Diagram) (bound : ℕ) (o : Outcome) : Type 0 where
   -- 0 and 0 exactly when no site record of at most `bound` objects is legal for old and illegal for new
-  pub no_difference : (outcome_bytes (Compare bound) o ≡ 0 ∷ 0 ∷ []) ↔ ((file : List ℕ) (x : Record) → Gap old new file x → object_count x ≤ bound → ⊥)
+  pub no-difference : (outcome_bytes (Compare bound) o ≡ 0 ∷ 0 ∷ []) ↔ ((file : List ℕ) (x : Record) → Gap old new file x → object_count x ≤ bound → ⊥)
   -- otherwise 0, 1 and the least object count
   pub otherwise : (outcome_bytes (Compare bound) o ≡ 0 ∷ 0 ∷ [] → ⊥) → (n : ℕ) × (outcome_bytes (Compare bound) o ≡ 0 ∷ 1 ∷ n ∷ [])
   pub least : (n : ℕ) → outcome_bytes (Compare bound) o ≡ 0 ∷ 1 ∷ n ∷ [] → (n ≤ bound) × Smallest (Gap old new) n
   -- and what is handed out after it, behind calls none of which drops or stores a witness, is such a record of n objects
-  pub handed_out : (n : ℕ) → outcome_bytes (Compare bound) o ≡ 0 ∷ 1 ∷ n ∷ [] → (es : List Event) (c : Bench) → Row o.bench es c → KeepsWitness es
+  pub handed-out : (n : ℕ) → outcome_bytes (Compare bound) o ≡ 0 ∷ 1 ∷ n ∷ [] → (es : List Event) (c : Bench) → Row o.bench es c → KeepsWitness es
       → (buffer : List ℕ) → 60000 ≤ length buffer → (p : Outcome) → Step c (HandOut buffer) p → HandedBytes (Gap old new) n buffer (outcome_bytes (HandOut buffer) p)
 
 abbrev pub BytesDemandThree : Type 0

@@ -1,4 +1,6 @@
 // Runs a list of calls in bytes from a fresh bench, and writes the replies in bytes: the boundary to other programs.
+#![tactic(auto)]
+
 ghost use Rattle.std.specs.Prelude.{List, [], ◌≢◌, ◌≡◌, ℕ, ◌<◌, ◌≤◌, length};
 ghost use Rattle.bench.specs.Calls.{Does, Valid};
 ghost use Rattle.bench.specs.View.{reply_of};

@@ -1,4 +1,6 @@
 // Resolving a record file: the names of an accepted file turned into the indices of one diagram.
+#![tactic(auto)]
+
 ghost use Rattle.std.specs.Prelude.{◌≡◌, ◌^◌, ◌<◌, ◌≤◌};
 ghost use Rattle.std.specs.Int.Bits.{bit_or};
 ghost use Rattle.laws.specs.Bounded.{first};

@@ -1,5 +1,7 @@
 // The search for a record of n objects that is legal for the old diagram and illegal for the new one, by types: an allowed world that does
 // not keep the new diagram's tables, and values for its objects.
+#![tactic(auto)]
+
 ghost use Rattle.std.specs.Prelude.{◌≡◌, false, ◌≤◌};
 ghost use Rattle.diagrams.specs.View.{diagram_of};
 ghost use Rattle.diagrams.specs.Held.{Held};

@@ -1,4 +1,6 @@
 // The tables of a diagram by the types and role slots of another one, or by its own, that the search by types reads.
+#![tactic(auto)]
+
 ghost use Rattle.std.specs.Prelude.{◌≡◌, ℕ, ◌*◌, ◌+◌, ◌<◌, ◌≤◌, ltb, get_or};
 ghost use Rattle.laws.specs.Bits.{Marks, bit};
 ghost use Rattle.laws.specs.Connective.{both};

@@ -136,23 +136,23 @@ demand-three b old new eo en bound h o s = by whole.0 whole.1 whole.2
         let q : o.reply ≡ no_difference = replied e in
         let no : (n : ℕ) → o.reply ≡ difference n → ⊥ = λ n i. none-differs n (sym q ∙ i) in
         record {
-          no_difference = (λ i file x g l. absurd (omega (arith, f file x g, l)), λ i. q);
+          no-difference = (λ i file x g l. absurd (omega (arith, f file x g, l)), λ i. q);
           otherwise = λ i. absurd (i q);
           least = λ n i. absurd (no n i);
-          handed_out = λ n i. absurd (no n i);
+          handed-out = λ n i. absurd (no n i);
         }
     by (some w) f e =
         let q : o.reply ≡ difference (object_count w) = replied e in
         let count : (n : ℕ) → o.reply ≡ difference n → object_count w ≡ n = λ n i. differs-count n w (sym q ∙ i) in
         record {
-          no_difference = (
+          no-difference = (
             λ i. let y : no_difference ≡ difference (object_count w) = sym i ∙ q in let z : ◌≡◌ {A = ℕ} 0 1 = cc in absurd (omega (arith, z)),
             λ i. absurd (i (write_record w) w f.is f.bounded),
           );
           otherwise = λ i. (object_count w, q);
           least = λ n i. let c = count n i in
               (subst (λ (k : ℕ). k ≤ bound) c f.bounded, record { some-has = (write_record w, w, f.is, c); none-fewer = λ file x g. subst (λ (k : ℕ). k ≤ object_count x) c (f.least file x g) });
-          handed_out = λ n i es c row k buffer p t. hands_out b old new bound n o eo en s i es c row k buffer p t;
+          handed-out = λ n i es c row k buffer p t. hands_out b old new bound n o eo en s i es c row k buffer p t;
         }
 
 -- ---- lines with both arrowheads or none
@@ -160,4 +160,4 @@ demand-three b old new eo en bound h o s = by whole.0 whole.1 whole.2
 -- what old allows new allows, since they judge alike
 pub same-heads : SameHeads
 same-heads b old new eo en h bound l o s =
-    (demand-three b old new eo en bound l o s).no_difference.1 (λ file x g n. g.illegal (sym (heads-judge old new h x) ∙ g.legal))
+    (demand-three b old new eo en bound l o s).no-difference.1 (λ file x g n. g.illegal (sym (heads-judge old new h x) ∙ g.legal))

@@ -88,12 +88,12 @@ pub record Smallest (S : List ℕ → Record → Type 0) (n : ℕ) : Type 0 wher
 
 pub record NoneOverlooked (old new : Diagram) (bound : ℕ) (o : Outcome) : Type 0 where
   -- "no difference" exactly when no site record of at most `bound` objects is legal for old and illegal for new
-  pub no_difference : (o.reply ≡ no_difference) ↔ ((file : List ℕ) (x : Record) → Gap old new file x → object_count x ≤ bound → ⊥)
+  pub no-difference : (o.reply ≡ no_difference) ↔ ((file : List ℕ) (x : Record) → Gap old new file x → object_count x ≤ bound → ⊥)
   -- otherwise "difference", with the least object count
   pub otherwise : (o.reply ≡ no_difference → ⊥) → (n : ℕ) × (o.reply ≡ difference n)
   pub least : (n : ℕ) → o.reply ≡ difference n → (n ≤ bound) × Smallest (Gap old new) n
   -- and whatever is handed out after it, behind calls none of which drops or stores a witness, is such a record of n objects
-  pub handed_out : (n : ℕ) → o.reply ≡ difference n → (es : List Event) (c : Bench) → Row o.bench es c → KeepsWitness es
+  pub handed-out : (n : ℕ) → o.reply ≡ difference n → (es : List Event) (c : Bench) → Row o.bench es c → KeepsWitness es
       → (buffer : List ℕ) (p : Outcome) → Step c (HandOut buffer) p → HandedOut (Gap old new) n buffer p
 
 -- "Old and new are the diagrams in places 0 and 1 of the bench that compare gets."

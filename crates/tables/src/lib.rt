@@ -1,4 +1,6 @@
 // Tables that a record in memory is judged by.
+#![tactic(auto)]
+
 ghost use Rattle.std.specs.Prelude.{◌≡◌, ℕ, ◌<◌, ◌≤◌, get_or};
 ghost use Rattle.laws.specs.Bits.{Marks};
 ghost use Rattle.files.specs.Name.{same_name};

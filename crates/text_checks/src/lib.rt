@@ -1,5 +1,7 @@
 // The checks of a text that the table accepts, and the names that it declares: by the outline of its body, and from row to row where
 // the rows are read.
+#![tactic(auto)]
+
 ghost use Rattle.std.specs.Prelude.{◌≡◌, ℕ, ◌+◌, ◌≤◌, ◌<◌, ltb, length, take, get_or, [], ◌++◌};
 ghost use Rattle.laws.specs.Bounded.{one as one_of};
 ghost use Rattle.laws.specs.Lists.{only};

@@ -1,5 +1,7 @@
 // The reader of texts: what is left after the checks 23, 24 and 4 is written as the file of the diagram that it declares, and that
 // file is read.
+#![tactic(auto)]
+
 ghost use Rattle.std.specs.Prelude.{◌≡◌, ◌≤◌};
 ghost use Rattle.files.specs.DiagramBytes.{write_diagram};
 ghost use Rattle.loading.specs.Loads.{Loads};

@@ -1,4 +1,6 @@
 // The outline of a text's body, made in one walk, so that what comes after goes from declaration to declaration without another.
+#![tactic(auto)]
+
 ghost use Rattle.std.specs.Prelude.{◌≡◌, ◌<◌, ◌≤◌, drop, length, take};
 ghost use Rattle.texts.specs.Declaration.{declaration_at};
 ghost use Rattle.texts.specs.Declared.{parent_names};

@@ -1,4 +1,6 @@
 // The parts of the declaration at the front of what is left of a text.
+#![tactic(auto)]
+
 ghost use Rattle.std.specs.Prelude.{◌≡◌, [], min, ◌*◌, ◌+◌, ◌-◌, ◌≤◌, drop, get_or, length, take};
 ghost use Rattle.texts.specs.Declaration.{value};
 ghost use Rattle.texts.specs.Declared.{parent_names};

@@ -1,4 +1,6 @@
 // The rows of a text by the table of the grammar, read by a cursor: the unread rest of the text and a state.
+#![tactic(auto)]
+
 ghost use Rattle.std.specs.Prelude.{◌≡◌, cond, not, [], ◌+◌, ◌-◌, ◌<◌, ◌≤◌, ℕ, eqb, ltb, drop, get_or, length, take};
 ghost use Rattle.laws.specs.Bounded.{one};
 ghost use Rattle.laws.specs.Connective.{both, either};

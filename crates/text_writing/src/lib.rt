@@ -1,5 +1,7 @@
 // The file of the diagram that the declarations of a text declare, tag by tag into the unused rest of a buffer. What each declaration
 // is and where it starts is read from the outline o of the body, which has n declarations.
+#![tactic(auto)]
+
 ghost use Rattle.std.specs.Prelude.{[], ◌≡◌, ◌+◌, ◌-◌, ◌<◌, ◌≤◌, get_or, length};
 ghost use Rattle.laws.specs.Bounded.{one};
 ghost use Rattle.laws.specs.Lists.{joined};

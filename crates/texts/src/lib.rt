@@ -1,1 +1,2 @@
 // Definitions and theorems only: diagrams typed as text.
+#![tactic(auto)]

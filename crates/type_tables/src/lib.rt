@@ -1,4 +1,6 @@
 // What one diagram asks of values, by an object's type, as a table; and what tables of links are made of: types, ends and limits.
+#![tactic(auto)]
+
 ghost use Rattle.std.specs.Prelude.{◌≡◌, ◌&&◌, not, true, ℕ, ◌%◌, ◌/◌, ◌<◌, ◌≤◌, max, min, get_or};
 ghost use Rattle.laws.specs.Bits.{Marks, bit};
 ghost use Rattle.diagrams.specs.View.{diagram_of};

@@ -1,4 +1,6 @@
 // Rules 1, 3 and 4 of a diagram by the types of another one, and values for objects that are given by their types.
+#![tactic(auto)]
+
 ghost use Rattle.std.specs.Prelude.{◌≡◌, cond, not, ℕ, ◌+◌, ◌*◌, ◌<◌, ◌≤◌, ltb, get_or};
 ghost use Rattle.laws.specs.Bits.{Marks};
 ghost use Rattle.laws.specs.Bounded.{all, first};

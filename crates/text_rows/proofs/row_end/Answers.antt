@@ -1,0 +1,40 @@
+use Rattle.text_rows.proofs.BlankLaws.{unblank-bare}
+use Rattle.text_rows.proofs.EndLaws.{behind-drop, behind-is, behind-self, behind-unblank, continues-next, continues-self, row_ends, row_open}
+use Rattle.text_rows.proofs.RowLaws.{Step, rest-shorter}
+use Rattle.text_rows.proofs.row_end.Goals as goal
+
+step : (c : tie.After-next-state invariant-loop decreases-loop) → Step c.before.before.before.loop.rest.now c.before.token-at.result c.before.before.before.loop.state c.next-state.result
+step c = record { some = c.before.before.loop-test.true; bare = c.before.before.before.loop.invariant.0; is = c.before.token-at.ensures; to = c.next-state.ensures.0 }
+
+pub loop-rest-init : goal.loop-rest-init
+loop-rest-init c = let s = c.args.s.now in
+    let t = c.unblanked-rest.result.now in
+    let e = c.unblanked-rest.ensures in
+    (unblank-bare s t e, (c.requires, (behind-self s t e, continues-self c.args.q s t e)))
+
+pub overflow_sub-result : goal.overflow_sub-result
+overflow_sub-result c = let s = c.args.s.now in
+    (behind-is s c.past-after.result.now (behind-drop s c.loop-rest.rest.now c.past-after.result.now c.token_at-f.result.size c.loop-rest.invariant.1.1.0 c.past-after.ensures)).0
+
+pub returns-then-n-eq3 : goal.returns-then-n-eq3
+returns-then-n-eq3 c = row_ends (step c) c.loop-rest.invariant.1.1.1 c.past-after.ensures c.if-n-eq3.true c.loop-rest.invariant.1.1.0
+
+pub loop-rest-smaller : goal.loop-rest-smaller
+loop-rest-smaller c = rest-shorter (step c) c.past-after.ensures c.unblanked-next.ensures
+
+pub loop-rest-preserved : goal.loop-rest-preserved
+loop-rest-preserved c = let s = c.args.s.now in
+    let p = c.past-after in
+    let t = c.unblanked-next in (
+      unblank-bare p.result.now t.result.now t.ensures,
+      (
+        c.next_state-n.ensures.1,
+        (
+          behind-unblank s p.result.now t.result.now (behind-drop s c.loop-rest.rest.now p.result.now c.token_at-f.result.size c.loop-rest.invariant.1.1.0 p.ensures) t.ensures,
+          continues-next (step c) c.loop-rest.invariant.1.1.1 p.ensures c.if-n-eq3.false t.ensures,
+        ),
+      ),
+    )
+
+pub returns : goal.returns
+returns c = row_open c.args.q c.args.s.now c.loop-rest.rest.now c.loop-rest.state c.loop-rest.invariant.1.1.1 c.loop-rest-test.false
