@@ -9,13 +9,13 @@ ghost use Rattle.bench.specs.Calls.{Does, DoesWith, Valid};
 use diagrams::StoredDiagram;
 use records::MemoryRecord;
 
-#[derive(Drop)]
+#[derive(Clone, Copy)]
 pub struct Place {
     pub loaded: bool,
     pub diagram: StoredDiagram,
 }
 
-#[derive(Drop)]
+#[derive(Clone, Copy)]
 pub struct Witness {
     pub stored: bool,
     // The place of the diagram whose indices the record has.
@@ -23,14 +23,14 @@ pub struct Witness {
     pub found: MemoryRecord,
 }
 
-#[derive(Drop)]
+#[derive(Clone, Copy)]
 pub struct Bench {
     pub old: Place,
     pub new: Place,
     pub witness: Witness,
 }
 
-#[derive(Drop)]
+#[derive(Clone, Copy)]
 pub enum Reply {
     Done,
     Rule(u8),
@@ -42,14 +42,14 @@ pub enum Reply {
     Refused(u8),
 }
 
-#[derive(Drop)]
+#[derive(Clone, Copy)]
 pub struct Replied {
     pub bench: Bench,
     pub reply: Reply,
 }
 
 // What compile gives besides: 64 entries of five bytes, all zero where it was refused.
-#[derive(Drop)]
+#[derive(Clone, Copy)]
 pub struct Listed {
     pub bench: Bench,
     pub reply: Reply,

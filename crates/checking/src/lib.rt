@@ -10,7 +10,7 @@ ghost use Rattle.files.specs.Refusal.{misplaced, refusal_of};
 ghost use Rattle.checking.specs.Progress.{counted, end_no, field_no, link_no, object_no, value_no};
 
 // What the fields so far left: the last tag (0 before the first field), the count of 0x60, and how many of each have come.
-#[derive(Drop)]
+#[derive(Clone, Copy)]
 pub struct Progress {
     pub last: u8,
     pub count: u8,

@@ -16,7 +16,7 @@ use bench::Reply;
 // The call at the front of a list of calls: its code, a byte, where a file stands and how long it is, how long a buffer is to lend,
 // and how many bytes the call takes. The code is 0 where there is none: nothing is left, or a call is cut off or unknown, or has no
 // room for its reply.
-#[derive(Drop)]
+#[derive(Clone, Copy)]
 pub struct Next {
     pub code: u8,
     pub byte: u8,
@@ -27,7 +27,7 @@ pub struct Next {
 }
 
 // The operands of a call.
-#[derive(Drop)]
+#[derive(Clone, Copy)]
 struct Row {
     bytes: usize,
     files: usize,
@@ -129,7 +129,7 @@ fn put(out: &mut [u8], xs: &[u8], ys: &[u8]) -> usize
 
 // A reply taken apart: its status, how many bytes follow it and which, whether compile's list stands behind them, and the length
 // that was written.
-#[derive(Drop)]
+#[derive(Clone, Copy)]
 struct Parts {
     status: u8,
     many: u8,

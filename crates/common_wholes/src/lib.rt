@@ -6,7 +6,7 @@ ghost use Rattle.worlds.specs.declared.Lines.{Lines};
 ghost use Rattle.common_wholes.specs.Common.{Common};
 
 // some: each object of a type has a whole. Its whole has a type of the mask.
-#[derive(Drop)]
+#[derive(Clone, Copy)]
 pub struct Shared {
     pub some: bool,
     pub mask: u32,

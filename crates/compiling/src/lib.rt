@@ -12,7 +12,7 @@ ghost use Rattle.compiling.specs.Compiled.{Compiles, Gives, Small, bytes_to, wri
 
 use entries::Entries;
 
-#[derive(Drop)]
+#[derive(Clone, Copy)]
 pub struct Compiled {
     pub number: usize,
     pub list: [u8; 320],

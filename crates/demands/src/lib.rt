@@ -16,14 +16,14 @@ mod singles;
 mod weighing;
 
 // dead: no world that is looked for starts with the given types. Else one more object has a type of the mask g.
-#[derive(Drop)]
+#[derive(Clone, Copy)]
 pub struct Wish {
     pub dead: bool,
     pub g: u32,
 }
 
 // The types of the first k objects, how many more there can be, and the types that these can have.
-#[derive(Drop)]
+#[derive(Clone, Copy)]
 struct Start {
     types: [u8; 8],
     k: u8,

@@ -4,7 +4,7 @@
 ghost use Rattle.std.specs.Prelude.{◌≡◌};
 ghost use Rattle.diagrams.specs.Empty.{empty_diagram};
 
-#[derive(Drop)]
+#[derive(Clone, Copy)]
 pub struct ValueTypes {
     pub count: usize,
     pub names: [u8; 204],
@@ -13,7 +13,7 @@ pub struct ValueTypes {
     pub constants: [u8; 1632],
 }
 
-#[derive(Drop)]
+#[derive(Clone, Copy)]
 pub struct Types {
     pub count: usize,
     pub kinds: [u8; 24],
@@ -25,7 +25,7 @@ pub struct Types {
     pub sets: [u32; 24],
 }
 
-#[derive(Drop)]
+#[derive(Clone, Copy)]
 pub struct Attributes {
     pub count: usize,
     pub owners: [u8; 32],
@@ -34,7 +34,7 @@ pub struct Attributes {
 }
 
 // The left end of association a is end a * 2, the right one end a * 2 + 1.
-#[derive(Drop)]
+#[derive(Clone, Copy)]
 pub struct Associations {
     pub count: usize,
     pub forms: [u8; 16],
@@ -46,7 +46,7 @@ pub struct Associations {
     pub roles: [u8; 544],
 }
 
-#[derive(Drop)]
+#[derive(Clone, Copy)]
 pub struct StoredDiagram {
     pub values: ValueTypes,
     pub types: Types,

@@ -188,7 +188,7 @@ pub fn first_false(d: StoredDiagram, m: MemoryRecord) -> usize
 
 // ---- a record file
 
-#[derive(Drop)]
+#[derive(Clone, Copy)]
 pub struct Evaluation {
     // 0, or the refusal of the file.
     pub no: u8,

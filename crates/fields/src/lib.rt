@@ -10,7 +10,7 @@ ghost use Rattle.fields.specs.Slot.{slot_name};
 // ---- a field at the front
 
 // What stands at the front of the unread rest.
-#[derive(Drop)]
+#[derive(Clone, Copy)]
 pub enum Head {
     // A whole field: its tag, and the length of its content.
     Whole { tag: u8, len: usize },

@@ -131,7 +131,7 @@ pub fn lowest_broken(d: StoredDiagram, m: MemoryRecord) -> u8
 
 // ---- a record file
 
-#[derive(Drop)]
+#[derive(Clone, Copy)]
 pub struct Judgement {
     // 0, or the refusal of the file.
     pub no: u8,

@@ -14,14 +14,14 @@ mod fitting;
 mod rows;
 
 // The limits of all rows.
-#[derive(Drop)]
+#[derive(Clone, Copy)]
 struct RowArrays {
     pub low: [u8; 256],
     pub high: [u8; 256],
 }
 
 // The 16 columns of associations, and the query's.
-#[derive(Drop)]
+#[derive(Clone, Copy)]
 struct ColumnArrays {
     pub slot: [u8; 17],
     pub from: [u8; 17],

@@ -15,7 +15,7 @@ mod rows;
 mod wholes;
 
 // What a look says. kind 0: nothing is missing. 1: no net between is right. 2: the bit `target` of row `row` may stand, and is wanted.
-#[derive(Drop)]
+#[derive(Clone, Copy)]
 pub struct Sight {
     pub kind: u8,
     pub row: usize,

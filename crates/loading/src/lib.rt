@@ -8,7 +8,7 @@ pub mod storing; // storing.rt: a diagram in memory with one field more
 
 use diagrams::StoredDiagram;
 
-#[derive(Drop)]
+#[derive(Clone, Copy)]
 pub struct Loaded {
     // 0, or the refusal.
     pub no: u8,

@@ -6,7 +6,7 @@ ghost use Rattle.laws.specs.Bounded.{first};
 ghost use Rattle.files.specs.Name.{same_name};
 ghost use Rattle.name_lists.specs.Names.{names_in};
 
-#[derive(Drop)]
+#[derive(Clone, Copy)]
 pub struct Names {
     pub count: usize,
     pub names: [u8; 408],

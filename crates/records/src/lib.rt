@@ -5,7 +5,7 @@ ghost use Rattle.std.specs.Prelude.{◌≡◌};
 ghost use Rattle.records.specs.Empty.{empty_record};
 
 // Whether the record has something that the diagram has no index for.
-#[derive(Drop)]
+#[derive(Clone, Copy)]
 pub struct Strays {
     // A value of an attribute name that no type of the diagram declares.
     pub values: bool,
@@ -13,7 +13,7 @@ pub struct Strays {
     pub links: bool,
 }
 
-#[derive(Drop)]
+#[derive(Clone, Copy)]
 pub struct MemoryRecord {
     pub count: usize,
     // The index of each object's type, or the number of types where the diagram lacks it.

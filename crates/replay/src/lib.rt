@@ -14,7 +14,7 @@ use bench::{Bench, Replied};
 
 // What one call gave: the bench for the next, how many bytes of the calls it took, and how many its reply has; none where the list
 // of calls stops.
-#[derive(Drop)]
+#[derive(Clone, Copy)]
 pub struct Turn {
     pub bench: Bench,
     pub used: usize,

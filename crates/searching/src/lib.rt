@@ -13,7 +13,7 @@ use diagrams::StoredDiagram;
 use records::MemoryRecord;
 use worlds::Lines;
 
-#[derive(Drop)]
+#[derive(Clone, Copy)]
 pub struct Found {
     pub ok: bool,
     // Where none was found, any record.

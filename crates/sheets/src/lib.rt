@@ -161,7 +161,7 @@ pub fn ends_by(old: diagrams::StoredDiagram, d: diagrams::StoredDiagram) -> [u32
 // ---- rows
 
 // What is asked of the links of an object: the types that a target may have, and how many there are at least and at most.
-#[derive(Drop)]
+#[derive(Clone, Copy)]
 pub struct Rows {
     pub targets: [u32; 768],
     pub lows: [u8; 768],

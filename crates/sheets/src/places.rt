@@ -6,7 +6,7 @@ ghost use Rattle.laws.specs.Connective.{both};
 ghost use Rattle.sheets.specs.RowsBy.{Stepped, high_at, leads_at, low_at, mask_at, source_in, target_at};
 
 // The lower and the upper limit at each place.
-#[derive(Drop)]
+#[derive(Clone, Copy)]
 pub struct Limits {
     pub lows: [u8; 768],
     pub highs: [u8; 768],

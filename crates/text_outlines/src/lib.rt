@@ -11,7 +11,7 @@ ghost use Rattle.text_outlines.specs.Note.{Notes, Suffix};
 ghost use Rattle.text_outlines.specs.Outline.{Outlines};
 
 // How many declarations there are, and whether some cardinality is none that 01 allows.
-#[derive(Drop)]
+#[derive(Clone, Copy)]
 pub struct Walked {
     pub count: usize,
     pub forbidden: bool,

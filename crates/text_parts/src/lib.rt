@@ -12,7 +12,7 @@ ghost use Rattle.text_rows.specs.Scan.{Scans};
 ghost use Rattle.text_parts.specs.Ends.{Capped, end_on, role_given, role_word};
 
 // The limits of an end: above 100 each is 101, and up is 255 where there is no upper limit.
-#[derive(Drop)]
+#[derive(Clone, Copy)]
 pub struct Limits {
     pub low: u8,
     pub up: u8,

@@ -14,7 +14,7 @@ mod table; // table.rt: the state that a token leads to
 mod tokens; // tokens.rt: the word or mark at the front
 
 // Where a word starts, and of how many bytes it is.
-#[derive(Drop)]
+#[derive(Clone, Copy)]
 pub struct Word {
     pub start: usize,
     pub size: usize,

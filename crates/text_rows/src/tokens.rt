@@ -6,7 +6,7 @@ ghost use Rattle.texts.specs.Token.{is_blank, is_digit, is_integer, mark_at, mar
 ghost use Rattle.text_rows.specs.Front.{Fronts, NoOther, known_words, unblank};
 
 // Its class, and of how many bytes it is.
-#[derive(Drop)]
+#[derive(Clone, Copy)]
 pub(crate) struct Front {
     pub class: u8,
     pub size: usize,

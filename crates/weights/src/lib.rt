@@ -12,7 +12,7 @@ ghost use Rattle.weights.specs.Sums.{sum};
 ghost use Rattle.weights.specs.Weigh.{Gained, Gains, Lacks, Short};
 
 // At least c of the further objects have types of the mask g.
-#[derive(Drop)]
+#[derive(Clone, Copy)]
 pub struct Shortage {
     pub g: u32,
     pub c: u8,
@@ -21,7 +21,7 @@ pub struct Shortage {
 // A number for each type of the mask; the others have 0. For the first object `first` stands for `limit`.
 // way 0: if all targets in the slot are of `to`, the lower limit there, or `limit` where that is larger. 1: the upper limit in the slot,
 // or `limit` where that is smaller. 2: `limit`. 3: the largest lower limit for links to parts; in the slot, `limit` where that is larger.
-#[derive(Drop)]
+#[derive(Clone, Copy)]
 struct Weight {
     way: u8,
     mask: u32,
@@ -32,7 +32,7 @@ struct Weight {
 }
 
 // The numbers a of all objects are together not above the numbers b.
-#[derive(Drop)]
+#[derive(Clone, Copy)]
 struct Scale {
     a: Weight,
     b: Weight,
@@ -40,7 +40,7 @@ struct Scale {
 
 // What is asked of the first object besides the tables, if anything: how many targets it has in the slot `row`, and how many sources of
 // the types `from` in the slot `column`.
-#[derive(Drop)]
+#[derive(Clone, Copy)]
 struct Own {
     asked: bool,
     row: u8,
@@ -53,7 +53,7 @@ struct Own {
 }
 
 // Types for which one number is above another, and by how much at most.
-#[derive(Drop)]
+#[derive(Clone, Copy)]
 struct Gain {
     g: u32,
     most: u8,

@@ -4,7 +4,7 @@
 ghost use Rattle.std.specs.Prelude.{◌≡◌, false};
 
 // A question about the sites that one diagram allows. Its seeds are the first objects.
-#[derive(Drop)]
+#[derive(Clone, Copy)]
 pub struct Query {
     // How many objects are asked for, and of which types each may be, one bit for each type.
     pub seeds: u8,
@@ -26,7 +26,7 @@ pub struct Query {
 }
 
 // What a diagram asks by associations, in sets of types. Of association j, where it does not ask, the sets are empty and the slot is 0.
-#[derive(Drop)]
+#[derive(Clone, Copy)]
 pub struct Lines {
     // Rule 7: how many sources a target has.
     pub columnslot: [u8; 16],
@@ -46,7 +46,7 @@ pub struct Lines {
 }
 
 // A site that was found: the types of its objects, and their links as in a record. Where none was found, anything.
-#[derive(Drop)]
+#[derive(Clone, Copy)]
 pub struct Built {
     pub ok: bool,
     pub types: [u8; 8],

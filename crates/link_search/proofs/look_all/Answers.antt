@@ -13,5 +13,5 @@ returns-then-rows-eq1 c = looked-dead-part (λ w o. o.rows) c.if-rows-eq1.true c
 pub returns : goal.returns
 returns c =
     let a = c.args in
-    subst (Looked (NetFits a.row_low.now a.row-high.now a.column-slot.now a.column-from.now a.column-low.now a.column-high.now a.mirror-right.now a.mirror-left.now a.mirror-from.now a.mirror-to.now a.whole-slot.now a.whole_from.now a.whole_to.now) a.must.now a.may.now) (sym (c.join-3.ensures ∙ ap (λ (l : Sight). joined l c.look_wholes-wholes.result) (c.join-2.ensures ∙ ap (λ (l : Sight). joined l c.look_columns-columns.result) c.join.ensures)))
+    subst (Looked (NetFits a.row_low.now a.row_high.now a.column_slot.now a.column_from.now a.column_low.now a.column_high.now a.mirror_right.now a.mirror_left.now a.mirror_from.now a.mirror_to.now a.whole_slot.now a.whole_from.now a.whole_to.now) a.must.now a.may.now) (sym (c.join-3.ensures ∙ ap (λ (l : Sight). joined l c.look_wholes-wholes.result) (c.join-2.ensures ∙ ap (λ (l : Sight). joined l c.look_columns-columns.result) c.join.ensures)))
     (looked-fits c.look_rows-rows.ensures c.look_columns-columns.ensures c.look_mirrors-mirrors.ensures c.look_wholes-wholes.ensures)

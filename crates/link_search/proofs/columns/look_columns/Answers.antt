@@ -2,13 +2,14 @@
 -- Assumes nothing.
 use Prim.Native.Nat.{ℕ, ◌+◌, ◌*◌, ◌/◌, ◌%◌, ◌-◌}
 use mathlib.Core.Path.{ap₂, ◌∙◌}
-use mathlib.Core.Logic.{⊎_elim, inl, inr}
+use mathlib.Core.Logic.{inl, inr}
 use native.Mathlib.Omega.{arith}
 use Rattle.link_search.specs.Families.{Columns}
 use Rattle.link_search.proofs.SeenLaws.{sight_at, seen-begin, looked-dead}
 use Rattle.link_search.proofs.ColumnLaws.{column-dead, column-more, columns-done}
 use borrow.Author.Rules.{rules}
 use Rattle.link_search.proofs.columns.look_columns.Goals as goal
+use Rattle.link_search.proofs.columns.look_columns.Goals.{then-v-lt8, else-v-lt8}
 
 pub loop-x-init : goal.loop-x-init
 loop-x-init c = (search rules, seen-begin _ _)
@@ -28,7 +29,7 @@ loop-x-preserved c =
       omega (arith, c.loop-x-test.true),
       column-more a.slot.now a.from.now a.low.now a.high.now a.must.now a.may.now c.loop-x.x c.judge_column-v.result c.loop-x.best c.if-v-lt8.best
           (c.requires (c.loop-x.x / 8) (omega (arith, c.loop-x-test.true))) c.if-v-eq9.false c.judge_column-v.ensures c.loop-x.invariant.1
-          (⊎_elim (λ w. inl (w.0.taken, w.4 ∙ ap₂ (λ (v s : ℕ). sight_at (v * 32 + s) (c.loop-x.x % 8)) w.1.ensures.0 w.3.ensures.0)) (λ w. inr (w.0.left, w.1)) c.if-v-lt8.branch),
+          (elim c.if-v-lt8.branch [ then-v-lt8 w ↦ inl (w.if-v-lt8.true, w.4 ∙ ap₂ (λ (v s : ℕ). sight_at (v * 32 + s) (c.loop-x.x % 8)) w.1.ensures.0 w.3.ensures.0) | else-v-lt8 w ↦ inr (w.if-v-lt8.false, w.best-is) ]),
     )
 
 pub returns : goal.returns
