@@ -4,8 +4,8 @@ use Rattle.text_rows.proofs.BlankLaws.{unblank-bare}
 use Rattle.text_rows.proofs.RowLaws.{Step, accepted, accepted-begin, accepted-end, accepted-long, accepted-next, rest-shorter, rest-tokens}
 use Rattle.text_rows.proofs.is_accepted.Goals as goal
 
-step : (c : tie.After-next-state invariant-loop decreases-loop) → Step c.before.before.before.loop.rest.now c.before.token-at.result c.before.before.before.loop.q c.next-state.result
-step c = record { some = c.before.before.loop-test.true; bare = c.before.before.before.loop.invariant.0; is = c.before.token-at.ensures; to = c.next-state.ensures.0 }
+step : (c : goal.After-next_state-n) → Step c.loop-rest.rest.now c.token_at-f.result c.loop-rest.q c.next_state-n.result
+step c = record { some = c.loop-rest-test.true; bare = c.loop-rest.invariant.0; is = c.token_at-f.ensures; to = c.next_state-n.ensures.0 }
 
 pub loop-rest-init : goal.loop-rest-init
 loop-rest-init c = let s = c.args.text.now in
@@ -14,17 +14,17 @@ loop-rest-init c = let s = c.args.text.now in
     (unblank-bare s t e, (omega arith, accepted-begin s t e))
 
 pub returns-then-is_name_state-f : goal.returns-then-is_name_state-f
-returns-then-is_name_state-f c = accepted-long (step c) c.is_name_state.ensures c.if-is_name_state-f.true ∙ sym c.loop-rest.invariant.1.1
+returns-then-is_name_state-f c = accepted-long (step c.before.before.before) c.is_name_state.ensures c.if-is_name_state-f.true ∙ sym c.loop-rest.invariant.1.1
 
 pub loop-rest-smaller : goal.loop-rest-smaller
-loop-rest-smaller c = rest-shorter (step c) c.past.ensures c.unblanked-after.ensures
+loop-rest-smaller c = rest-shorter (step c.before.before.before.before.before) c.past.ensures c.unblanked-after.ensures
 
 pub loop-rest-preserved : goal.loop-rest-preserved
 loop-rest-preserved c = let p = c.past in (
       unblank-bare p.result.now c.unblanked-after.result.now c.unblanked-after.ensures,
       (
         c.next_state-n.ensures.1,
-        c.loop-rest.invariant.1.1 ∙ accepted-next (step c) c.is_name_state.ensures c.if-is_name_state-f.false ∙ ap (accepted c.next_state-n.result) (rest-tokens (step c) p.ensures c.unblanked-after.ensures),
+        c.loop-rest.invariant.1.1 ∙ accepted-next (step c.before.before.before.before.before) c.is_name_state.ensures c.if-is_name_state-f.false ∙ ap (accepted c.next_state-n.result) (rest-tokens (step c.before.before.before.before.before) p.ensures c.unblanked-after.ensures),
       ),
     )
 

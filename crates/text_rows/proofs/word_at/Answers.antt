@@ -9,8 +9,8 @@ use Rattle.text_rows.proofs.EndLaws.{behind-drop, behind-is, behind-self, behind
 use Rattle.text_rows.proofs.RowLaws.{Step, rest-shorter, rest-tokens, row-begin, word_end, word-here, word_next, word_none}
 use Rattle.text_rows.proofs.word_at.Goals as goal
 
-step : (c : tie.After-next-state invariant-loop decreases-loop) → Step c.before.before.before.loop.rest.now c.before.token-at.result c.before.before.before.loop.state c.next-state.result
-step c = record { some = c.before.before.loop-test.true; bare = c.before.before.before.loop.invariant.0; is = c.before.token-at.ensures; to = c.next-state.ensures.0 }
+step : (c : goal.After-next_state-n) → Step c.loop-rest.rest.now c.token_at-f.result c.loop-rest.state c.next_state-n.result
+step c = record { some = c.loop-rest-test.true; bare = c.loop-rest.invariant.0; is = c.token_at-f.ensures; to = c.next_state-n.ensures.0 }
 
 pub loop-rest-init : goal.loop-rest-init
 loop-rest-init c = let b = c.args in
@@ -23,14 +23,14 @@ overflow_sub-start c = (behind-is c.args.s.now c.loop-rest.rest.now c.loop-rest.
 
 pub returns-then-wanted-left : goal.returns-then-wanted-left
 returns-then-wanted-left c = let b = c.args in
-    ap (take c.token_at-f.result.size) (sym (behind-is b.s.now c.loop-rest.rest.now c.loop-rest.invariant.1.1.0).1) ∙ word-here (step c) b.a b.b b.c c.is_wanted-wanted.ensures c.loop-rest.left c.if-wanted-left.true ∙ sym c.loop-rest.invariant.1.1.1
+    ap (take c.token_at-f.result.size) (sym (behind-is b.s.now c.loop-rest.rest.now c.loop-rest.invariant.1.1.0).1) ∙ word-here (step c.before.before) b.a b.b b.c c.is_wanted-wanted.ensures c.loop-rest.left c.if-wanted-left.true ∙ sym c.loop-rest.invariant.1.1.1
 
 pub returns-then-n-eq3 : goal.returns-then-n-eq3
 returns-then-n-eq3 c = let b = c.args in
-    word_none (step c) b.a b.b b.c c.is_wanted-wanted.ensures c.loop-rest.left c.if-wanted-left.false c.counted_down-left.ensures c.if-n-eq3.true ∙ sym c.loop-rest.invariant.1.1.1
+    word_none (step c.before.before.before.before) b.a b.b b.c c.is_wanted-wanted.ensures c.loop-rest.left c.if-wanted-left.false c.counted_down-left.ensures c.if-n-eq3.true ∙ sym c.loop-rest.invariant.1.1.1
 
 pub loop-rest-smaller : goal.loop-rest-smaller
-loop-rest-smaller c = rest-shorter (step c) c.past.ensures c.unblanked-after.ensures
+loop-rest-smaller c = rest-shorter (step c.before.before.before.before.before.before) c.past.ensures c.unblanked-after.ensures
 
 pub loop-rest-preserved : goal.loop-rest-preserved
 loop-rest-preserved c = let b = c.args in
@@ -42,8 +42,8 @@ loop-rest-preserved c = let b = c.args in
         c.next_state-n.ensures.1,
         (
           behind-unblank b.s.now p.result.now t.result.now (behind-drop b.s.now c.loop-rest.rest.now p.result.now c.token_at-f.result.size c.loop-rest.invariant.1.1.0 p.ensures) t.ensures,
-          c.loop-rest.invariant.1.1.1 ∙ word_next (step c) b.a b.b b.c c.is_wanted-wanted.ensures c.loop-rest.left c.if-wanted-left.false d.ensures c.if-n-eq3.false
-              ∙ ap (λ (ts : List Token). get_or (words_for b.a b.b b.c (row_from c.next_state-n.result ts)) d.result []) (rest-tokens (step c) p.ensures t.ensures),
+          c.loop-rest.invariant.1.1.1 ∙ word_next (step c.before.before.before.before.before.before) b.a b.b b.c c.is_wanted-wanted.ensures c.loop-rest.left c.if-wanted-left.false d.ensures c.if-n-eq3.false
+              ∙ ap (λ (ts : List Token). get_or (words_for b.a b.b b.c (row_from c.next_state-n.result ts)) d.result []) (rest-tokens (step c.before.before.before.before.before.before) p.ensures t.ensures),
         ),
       ),
     )

@@ -29,7 +29,7 @@ loop-x-preserved c =
       omega (arith, c.loop-x-test.true),
       column-more a.slot.now a.from.now a.low.now a.high.now a.must.now a.may.now c.loop-x.x c.judge_column-v.result c.loop-x.best c.if-v-lt8.best
           (c.requires (c.loop-x.x / 8) (omega (arith, c.loop-x-test.true))) c.if-v-eq9.false c.judge_column-v.ensures c.loop-x.invariant.1
-          (elim c.if-v-lt8.branch [ then-v-lt8 w ↦ inl (w.if-v-lt8.true, w.4 ∙ ap₂ (λ (v s : ℕ). sight_at (v * 32 + s) (c.loop-x.x % 8)) w.1.ensures.0 w.3.ensures.0) | else-v-lt8 w ↦ inr (w.if-v-lt8.false, w.best-is) ]),
+          (elim c.if-v-lt8.branch [ then-v-lt8 w ↦ inl (w.if-v-lt8.true, w.best-is ∙ ap₂ (λ (v s : ℕ). sight_at (v * 32 + s) (c.loop-x.x % 8)) w.wide.ensures.0 w.wide-then-v-lt8.ensures.0) | else-v-lt8 w ↦ inr (w.if-v-lt8.false, w.best-is) ]),
     )
 
 pub returns : goal.returns

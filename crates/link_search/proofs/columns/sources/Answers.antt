@@ -20,7 +20,7 @@ loop-o-preserved c =
     let q = is_source a.rows.now a.slot a.from a.p in
     let f : c.has8.result && c.is_link.result ≡ q c.loop-o.o = ap₂ (λ (x y : Bool). x && y) c.has8.ensures c.is_link.ensures in (
       omega arith,
-      elim c.if-has8-is_link.branch [ then-has8-is_link w ↦ subst (Marks q (c.loop-o.o + 1)) (sym w.2) (mask-with q c.loop-o.o c.loop-o.m w.1.result c.loop-o.invariant.1 f w.if-has8-is_link.true w.1.ensures) | else-has8-is_link w ↦ subst (Marks q (c.loop-o.o + 1)) (sym w.m-is) (mask-miss q c.loop-o.o c.loop-o.m c.loop-o.invariant.1 f w.if-has8-is_link.false) ],
+      elim c.if-has8-is_link.branch [ then-has8-is_link w ↦ subst (Marks q (c.loop-o.o + 1)) (sym w.m-is) (mask-with q c.loop-o.o c.loop-o.m w.with8-m.result c.loop-o.invariant.1 f w.if-has8-is_link.true w.with8-m.ensures) | else-has8-is_link w ↦ subst (Marks q (c.loop-o.o + 1)) (sym w.m-is) (mask-miss q c.loop-o.o c.loop-o.m c.loop-o.invariant.1 f w.if-has8-is_link.false) ],
     )
 
 pub returns : goal.returns

@@ -45,4 +45,4 @@ pub returns-in-35 : goal.returns-in-35
 returns-in-35 c = arrives c.requires 27 refl 13 refl c.in-35.is
 
 pub returns-in_default : goal.returns-in_default
-returns-in_default c = outside c.requires 27 refl refl c.in_default.in_default-own refl
+returns-in_default c = outside c.requires 27 refl refl c.in_default.in_default-own.rest refl

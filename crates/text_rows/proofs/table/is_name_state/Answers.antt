@@ -9,4 +9,4 @@ pub returns-in-15 : goal.returns-in-15
 returns-in-15 c = name-state c.args.q 1 refl c.in-15.is
 
 pub returns-in_default : goal.returns-in_default
-returns-in_default c = no-name-state c.ranges.q.fits c.in_default.in_default-own
+returns-in_default c = no-name-state c.ranges.q.fits c.in_default.in_default-own.rest

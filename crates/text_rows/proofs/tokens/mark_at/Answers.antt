@@ -42,4 +42,4 @@ pub returns-in-42 : goal.returns-in-42
 returns-in-42 c = mark-alone _ c.requires 8 refl c.in-42.is
 
 pub returns-in_default : goal.returns-in_default
-returns-in_default c = mark-none _ c.requires c.in_default.in_default-own
+returns-in_default c = mark-none _ c.requires c.in_default.in_default-own.rest

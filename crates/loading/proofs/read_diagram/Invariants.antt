@@ -1,0 +1,13 @@
+use mathlib.Core.Path.{◌≡◌}
+use Rattle.files.specs.Field.{rows}
+use Rattle.files.specs.DiagramFile.{read_diagram, diagram_from}
+use Rattle.diagrams.specs.View.{diagram_of}
+use Rattle.diagrams.specs.Held.{Held}
+use lib.ListN.{length}
+use Rattle.loading.proofs.read_diagram.Given as goal
+
+abbrev pub invariant-loop-rest : goal.invariant-loop-rest
+invariant-loop-rest l = Held l.d × (read_diagram l.file ≡ diagram_from l.last (diagram_of l.d) (rows l.rest))
+
+abbrev pub decreases-loop-rest : goal.decreases-loop-rest
+decreases-loop-rest l = length l.rest

@@ -1,0 +1,5 @@
+use mathlib.Core.Path.{◌∙◌}
+use Rattle.masks.proofs.is_linked.Goals as goal
+
+pub returns : goal.returns
+returns c = c.has8.ensures ∙ c.row.ensures c.args.p

@@ -1,0 +1,4 @@
+use Rattle.refusing.proofs.is_interface.Goals as goal
+
+pub returns : goal.returns
+returns c = cc

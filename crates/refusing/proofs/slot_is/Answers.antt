@@ -1,0 +1,4 @@
+use Rattle.refusing.proofs.slot_is.Goals as goal
+
+pub returns : goal.returns
+returns c = cc

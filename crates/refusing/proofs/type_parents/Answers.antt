@@ -1,0 +1,6 @@
+use Rattle.files.specs.DiagramLayout.{type_of}
+use Rattle.refusing.proofs.type_parents.Goals as goal
+
+pub returns : goal.returns
+unfolding type_of
+returns c = cc

@@ -1,0 +1,9 @@
+use Rattle.refusing.specs.Numbers.{whole_right}
+use Rattle.files.specs.Diagram.{is_composition}
+use Rattle.files.specs.DiagramLayout.{association_of}
+use Rattle.laws.specs.Connective.{both}
+use Rattle.refusing.proofs.whole_right.Goals as goal
+
+pub returns : goal.returns
+unfolding whole_right association_of is_composition both
+returns c = cc
