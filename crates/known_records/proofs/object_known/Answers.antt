@@ -12,17 +12,17 @@ use Rattle.known_records.proofs.object_known.Goals as goal
 pub returns-then-not-is_below : goal.returns-then-not-is_below
 returns-then-not-is_below c =
     let a = c.args in
-    let e : false ≡ both (ltb (get_or a.t2.types a.o 0) a.d.types.count) (both (values_known (diagram_of a.d) a.t2 a.o) (targets_known (diagram_of a.d) a.t2 a.o)) = search tests depth 8 fits 20000 in
-    e ∙ object-stored a.d a.t2 a.o
+    let e : false ≡ both (ltb (get_or a.m.types a.o 0) a.d.types.count) (both (values_known (diagram_of a.d) a.m a.o) (targets_known (diagram_of a.d) a.m a.o)) = search tests depth 8 fits 20000 in
+    e ∙ object-stored a.d a.m a.o
 
 pub returns-then-not-values_known : goal.returns-then-not-values_known
 returns-then-not-values_known c =
     let a = c.args in
-    let e : false ≡ both (ltb (get_or a.t2.types a.o 0) a.d.types.count) (both (values_known (diagram_of a.d) a.t2 a.o) (targets_known (diagram_of a.d) a.t2 a.o)) = search tests depth 8 fits 20000 in
-    e ∙ object-stored a.d a.t2 a.o
+    let e : false ≡ both (ltb (get_or a.m.types a.o 0) a.d.types.count) (both (values_known (diagram_of a.d) a.m a.o) (targets_known (diagram_of a.d) a.m a.o)) = search tests depth 8 fits 20000 in
+    e ∙ object-stored a.d a.m a.o
 
 pub returns : goal.returns
 returns c =
     let a = c.args in
-    let e : c.targets_known.result ≡ both (ltb (get_or a.t2.types a.o 0) a.d.types.count) (both (values_known (diagram_of a.d) a.t2 a.o) (targets_known (diagram_of a.d) a.t2 a.o)) = search tests depth 8 fits 20000 in
-    e ∙ object-stored a.d a.t2 a.o
+    let e : c.targets_known.result ≡ both (ltb (get_or a.m.types a.o 0) a.d.types.count) (both (values_known (diagram_of a.d) a.m a.o) (targets_known (diagram_of a.d) a.m a.o)) = search tests depth 8 fits 20000 in
+    e ∙ object-stored a.d a.m a.o

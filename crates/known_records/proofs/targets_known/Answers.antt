@@ -14,8 +14,8 @@ loop-s-init c = search each
 pub returns-then-not-row_known : goal.returns-then-not-row_known
 returns-then-not-row_known c =
     let a = c.args in
-    let e : false ≡ all (λ i. row_known a.t2.count (get_or a.t2.links (a.o * 32 + i) 0)) (a.d.associations.count * 2) = search each in
-    e ∙ targets-stored a.d a.t2 a.o
+    let e : false ≡ all (λ i. row_known a.m.count (get_or a.m.links (a.o * 32 + i) 0)) (a.d.associations.count * 2) = search each in
+    e ∙ targets-stored a.d a.m a.o
 
 pub loop-s-preserved : goal.loop-s-preserved
 loop-s-preserved c = search each
@@ -23,5 +23,5 @@ loop-s-preserved c = search each
 pub returns : goal.returns
 returns c =
     let a = c.args in
-    let e : true ≡ all (λ i. row_known a.t2.count (get_or a.t2.links (a.o * 32 + i) 0)) (a.d.associations.count * 2) = search each in
-    e ∙ targets-stored a.d a.t2 a.o
+    let e : true ≡ all (λ i. row_known a.m.count (get_or a.m.links (a.o * 32 + i) 0)) (a.d.associations.count * 2) = search each in
+    e ∙ targets-stored a.d a.m a.o

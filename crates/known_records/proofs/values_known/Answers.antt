@@ -15,8 +15,8 @@ loop-s-init c = search each
 pub returns-then-not-value_known : goal.returns-then-not-value_known
 returns-then-not-value_known c =
     let a = c.args in
-    let e : false ≡ all (λ i. value_known (diagram_of a.d) (value_in a.t2 a.o i)) a.d.attributes.count = search each in
-    e ∙ values-stored a.d a.t2 a.o
+    let e : false ≡ all (λ i. value_known (diagram_of a.d) (value_in a.m a.o i)) a.d.attributes.count = search each in
+    e ∙ values-stored a.d a.m a.o
 
 pub loop-s-preserved : goal.loop-s-preserved
 loop-s-preserved c = search each
@@ -24,5 +24,5 @@ loop-s-preserved c = search each
 pub returns : goal.returns
 returns c =
     let a = c.args in
-    let e : true ≡ all (λ i. value_known (diagram_of a.d) (value_in a.t2 a.o i)) a.d.attributes.count = search each in
-    e ∙ values-stored a.d a.t2 a.o
+    let e : true ≡ all (λ i. value_known (diagram_of a.d) (value_in a.m a.o i)) a.d.attributes.count = search each in
+    e ∙ values-stored a.d a.m a.o
