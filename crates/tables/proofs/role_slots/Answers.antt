@@ -1,0 +1,17 @@
+use Rattle.tables.proofs.TableLaws.{role-slots-of}
+use mathlib.Core.Path.{refl}
+use native.Mathlib.Omega.{arith}
+use Prim.Native.Nat.{◌*◌}
+use Rattle.tables.proofs.role_slots.Goals as goal
+
+pub overflow_mul-a : goal.overflow_mul-a
+overflow_mul-a c = omega (arith, c.requires.counts.associations)
+
+pub overflow_cast-a : goal.overflow_cast-a
+overflow_cast-a c = omega (arith, c.requires.counts.associations)
+
+pub slots_of-requires : goal.slots_of-requires
+slots_of-requires c = omega (arith, c.requires.counts.associations)
+
+pub returns : goal.returns
+returns c = role-slots-of c.args.d c.slots_of.result (c.args.d.associations.count * 2) refl c.slots_of.ensures

@@ -1,0 +1,4 @@
+use Rattle.tables.proofs.same_names.Goals as goal
+
+pub returns : goal.returns
+returns c = cc
