@@ -8,7 +8,7 @@ use Rattle.compiling.proofs.push_row.Goals as goal
 
 pub loop-s-init : goal.loop-s-init
 loop-s-init c = let b = c.args in
-    (omega arith, (omega arith, appends-as (appends-none b.e) (sym (asked-begin b.i (association_in b.t2 b.i) c.wide-arrow.result))))
+    (omega arith, (omega arith, appends-as (appends-none b.e) (sym (asked-begin b.i (association_in b.a b.i) c.wide-arrow.result))))
 
 pub bounds-arrow : goal.bounds-arrow
 unfolding association_in
@@ -25,7 +25,7 @@ push_asked-r-requires c = (omega arith, (omega arith, sides-known c.wide-arrow.r
 pub loop-s-preserved : goal.loop-s-preserved
 loop-s-preserved c = let b = c.args in (
       omega arith,
-      (omega arith, appends-as (appends-then c.loop-s.invariant.1.1 c.push_asked-r.ensures.0) (sym (asked-more b.i (association_in b.t2 b.i) c.wide-arrow.result c.loop-s.s))),
+      (omega arith, appends-as (appends-then c.loop-s.invariant.1.1 c.push_asked-r.ensures.0) (sym (asked-more b.i (association_in b.a b.i) c.wide-arrow.result c.loop-s.s))),
     )
 
 pub returns : goal.returns
