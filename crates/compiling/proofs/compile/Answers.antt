@@ -1,0 +1,13 @@
+use mathlib.Core.Path.{◌∙◌}
+use Rattle.compiling.proofs.ByteLaws.{compiled-bytes}
+use Rattle.compiling.proofs.SmallLaws.{compiled-small}
+use Rattle.compiling.proofs.GatherLaws.{compiled-number}
+use Rattle.compiling.proofs.compile.Goals as goal
+
+pub list_bytes-list-requires : goal.list_bytes-list-requires
+list_bytes-list-requires c = compiled-small c.args.d c.compile_entries-e.result c.requires c.compile_entries-e.ensures
+
+pub returns : goal.returns
+returns c = let d = c.args.d in
+    let e = c.compile_entries-e in
+    record { number = compiled-number d e.result e.ensures; list = c.list_bytes-list.ensures ∙ compiled-bytes d e.result e.ensures }

@@ -1,0 +1,14 @@
+use native.Mathlib.Omega.{arith}
+use Rattle.entries.specs.View.{entry_in}
+use Rattle.compiling.proofs.ByteLaws.{bytes-more}
+use Rattle.compiling.proofs.put_entry.Goals as goal
+
+pub overflow_cast-list : goal.overflow_cast-list
+overflow_cast-list c = omega (arith, c.requires.1.1.low c.args.i)
+
+pub overflow_cast-list-2 : goal.overflow_cast-list-2
+overflow_cast-list-2 c = omega (arith, c.requires.1.1.up c.args.i)
+
+pub returns : goal.returns
+unfolding entry_in
+returns c = bytes-more c.args.e c.args.list.now c.args.i c.requires.0 c.requires.1.0

@@ -1,0 +1,12 @@
+use Rattle.link_rules.specs.WholesIn.{rule9_at_in}
+use Rattle.laws.specs.Bounded.{all}
+use mathlib.Core.Bool.{true}
+use mathlib.Core.Path.{◌≡◌}
+use Prim.Native.Nat.{◌≤◌, ◌-◌}
+use Rattle.link_rules.proofs.rule9.Given as goal
+
+abbrev pub invariant-loop-p : goal.invariant-loop-p
+invariant-loop-p l = (l.p ≤ l.n) × (all (rule9_at_in l.a l.links l.masks l.slots l.n) l.p ≡ true)
+
+abbrev pub decreases-loop-p : goal.decreases-loop-p
+decreases-loop-p l = l.n - l.p

@@ -1,0 +1,15 @@
+use Rattle.laws.proofs.LoopLaws.{each}
+use Prim.Native.Nat.{◌-◌}
+use Rattle.object_rules.proofs.rule5.links_fit.Goals as goal
+
+pub loop-x-init : goal.loop-x-init
+loop-x-init c = search each
+
+pub returns-then-not-link_fits : goal.returns-then-not-link_fits
+returns-then-not-link_fits c = search each
+
+pub loop-x-preserved : goal.loop-x-preserved
+loop-x-preserved c = search each
+
+pub returns : goal.returns
+returns c = search each

@@ -1,0 +1,5 @@
+use Rattle.object_rules.proofs.TypeLaws.{rule2-types}
+use Rattle.object_rules.proofs.singletons_single.Goals as goal
+
+pub returns : goal.returns
+returns c = rule2-types c.args.d c.requires.0 c.args.m c.are_single.ensures
