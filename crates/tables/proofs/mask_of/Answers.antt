@@ -1,12 +1,12 @@
 use Prim.Native.Nat.{◌-◌}
 use mathlib.Core.Path.{ap, ◌∙◌}
-use mathlib.Core.Logic.{⊎_elim}
 use native.Mathlib.Omega.{arith}
 use Rattle.laws.specs.Bits.{bit}
 use Rattle.laws.proofs.MaskLaws.{mask-begin, mask-with, mask-miss, mask_done}
 use Rattle.tables.specs.Numbers.{counts_as}
 use borrow.Author.Rules.{rules}
 use Rattle.tables.proofs.mask_of.Goals as goal
+use Rattle.tables.proofs.mask_of.Goals.{then-counts_as, else-counts_as}
 
 pub loop-o-init : goal.loop-o-init
 loop-o-init c = (search rules, mask-begin _)
@@ -16,8 +16,8 @@ loop-o-preserved c = let a = c.args in
     let p = counts_as a.sets.now a.n a.types.now a.k in
     let e = c.counts_as.ensures in (
       omega arith,
-      ⊎_elim (λ w j. ap (bit j) w.2 ∙ mask-with p c.loop-o.o c.loop-o.mask w.1.result c.loop-o.invariant.1 e w.0.taken w.1.ensures j)
-          (λ w j. ap (bit j) w.1 ∙ mask-miss p c.loop-o.o c.loop-o.mask c.loop-o.invariant.1 e w.0.left j) c.if-counts_as.branch,
+      elim c.if-counts_as.branch [ then-counts_as w ↦ (λ j. ap (bit j) w.mask-is ∙ mask-with p c.loop-o.o c.loop-o.mask w.with8-mask.result c.loop-o.invariant.1 e w.if-counts_as.true w.with8-mask.ensures j)
+          | else-counts_as w ↦ (λ j. ap (bit j) w.mask-is ∙ mask-miss p c.loop-o.o c.loop-o.mask c.loop-o.invariant.1 e w.if-counts_as.false j) ],
     )
 
 pub returns : goal.returns
