@@ -6,15 +6,9 @@ use borrow.Author.Tests.{eqb-true}
 use Rattle.laws.specs.Bits.{bit}
 use Rattle.laws.proofs.BitLaws.{bit-and}
 use Rattle.laws.proofs.ConnectiveLaws.{and_right}
-use Rattle.type_tables.proofs.is_inside.Statement.{statement}
-use Rattle.type_tables.proofs.is_inside.Tie as tie
-use Rattle.type_tables.proofs.is_inside.Reads as reads
-use Rattle.type_tables.proofs.is_inside.Lts as lts
+use Rattle.type_tables.proofs.is_inside.Goals as goal
 
-returns : tie.Need-returns
+pub returns : goal.returns
 returns c =
     let a = c.args in
     λ e t h. and_right (bit t a.a) (bit t a.b) (sym (bit-and t a.a a.b) ∙ ap (bit t) (eqb-true (bit_and a.a a.b) a.a e) ∙ h)
-
-pub is-inside-spec : {M : Type 1} → statement M
-is-inside-spec = tie.close (tie.spec returns)
