@@ -1,0 +1,13 @@
+use Prim.Native.Nat.{◌-◌}
+use Rattle.weights.proofs.NumberLaws.{whole-begin, whole-done, whole-next}
+use borrow.Author.Rules.{rules}
+use Rattle.weights.proofs.whole_low.Goals as goal
+
+pub loop-j-init : goal.loop-j-init
+loop-j-init c = search (rules, whole-begin)
+
+pub loop-j-preserved : goal.loop-j-preserved
+loop-j-preserved c = search (rules, whole-next)
+
+pub returns : goal.returns
+returns c = search (rules, whole-done)
