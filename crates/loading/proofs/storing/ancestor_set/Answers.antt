@@ -6,7 +6,7 @@ use borrow.Author.Rules.{rules}
 use Rattle.loading.proofs.storing.ancestor_set.Goals as goal
 
 pub loop-s-init : goal.loop-s-init
-loop-s-init c = (search rules, set-begin c.args.t1 c.args.t _ c.args.ps.now _ refl c.with32-set.ensures)
+loop-s-init c = (search rules, set-begin c.args.sets c.args.t _ c.args.ps.now _ refl c.with32-set.ensures)
 
 pub bounds-sets-p : goal.bounds-sets-p
 bounds-sets-p c = omega (arith, c.requires.1 c.loop-s.s c.loop-s-test.true)
