@@ -5,7 +5,7 @@ use Rattle.text_outlines.proofs.SuffixLaws.{suffix-part, suffix_within}
 use Rattle.text_outlines.proofs.name_in.Goals as goal
 
 pub returns-then-what-gt4 : goal.returns-then-what-gt4
-returns-then-what-gt4 c = absurd (omega arith)
+returns-then-what-gt4 c h = absurd (omega arith)
 
 pub overflow_sub-result : goal.overflow_sub-result
 overflow_sub-result c =
@@ -15,6 +15,6 @@ overflow_sub-result c =
     omega (arith, suffix_within c.args.body.now s c.requires, length-drop i s)
 
 pub returns : goal.returns
-returns c =
+returns c h =
     suffix-part c.args.body.now c.args.s.now c.name_at-w.result.start c.name_at-w.result.size c.requires c.past-name.ensures
     c.name_at-w.ensures
