@@ -6,7 +6,7 @@ use Rattle.text_rows.proofs.note_token.Goals as goal
 
 pub overflow_add-row : goal.overflow_add-row
 unfolding both
-overflow_add-row c = let h = noted-fits c.args.row.now 0xFFFFFFFFFFFFFFFF c.wide-k.ensures.0 c.number_of_lem.ensures.0 c.requires.1.1 in
+overflow_add-row c = let h = noted-fits c.args.row.now 0xFFFFFFFFFFFFFFFF c.wide-k.ensures.0 c.number_of.ensures.0 c.requires.1.1 in
     omega arith
 
 pub bounds-row-k-6 : goal.bounds-row-k-6
@@ -21,4 +21,4 @@ bounds-row-k-8 c = simp length-set (omega arith)
 pub returns : goal.returns
 unfolding both
 returns c = let a = c.args in
-    noted_of a.row.now a.q a.class a.at a.size c.wide-k.ensures.0 c.wide.ensures.0 c.chosen.ensures c.number_of_lem.ensures.0 c.chosen-2.ensures c.chosen-3.ensures
+    noted_of a.row.now a.q a.class a.at a.size c.wide-k.ensures.0 c.wide.ensures.0 c.chosen.ensures c.number_of.ensures.0 c.chosen-2.ensures c.chosen-3.ensures

@@ -3,9 +3,6 @@ use Rattle.text_rows.proofs.EndLaws.{behind-drop, behind-is, behind-self, behind
 use Rattle.text_rows.proofs.RowLaws.{Step, rest-shorter}
 use Rattle.text_rows.proofs.row_end.Goals as goal
 
-step : (c : goal.After-next_state-n) → Step c.loop-rest.rest.now c.token_at-f.result c.loop-rest.state c.next_state-n.result
-step c = record { some = c.loop-rest-test.true; bare = c.loop-rest.invariant.0; is = c.token_at-f.ensures; to = c.next_state-n.ensures.0 }
-
 pub loop-rest-init : goal.loop-rest-init
 loop-rest-init c = let s = c.args.s.now in
     let t = c.unblanked-rest.result.now in
@@ -17,13 +14,16 @@ overflow_sub-result c = let s = c.args.s.now in
     (behind-is s c.past-after.result.now (behind-drop s c.loop-rest.rest.now c.past-after.result.now c.token_at-f.result.size c.loop-rest.invariant.1.1.0 c.past-after.ensures)).0
 
 pub returns-then-n-eq3 : goal.returns-then-n-eq3
-returns-then-n-eq3 c = row_ends (step c.before.before) c.loop-rest.invariant.1.1.1 c.past-after.ensures c.if-n-eq3.true c.loop-rest.invariant.1.1.0
+returns-then-n-eq3 c = let step : Step c.loop-rest.rest.now c.token_at-f.result c.loop-rest.state c.next_state-n.result = record { some = c.loop-rest-test.true; bare = c.loop-rest.invariant.0; is = c.token_at-f.ensures; to = c.next_state-n.ensures.0 } in
+    row_ends step c.loop-rest.invariant.1.1.1 c.past-after.ensures c.if-n-eq3.true c.loop-rest.invariant.1.1.0
 
 pub loop-rest-smaller : goal.loop-rest-smaller
-loop-rest-smaller c = rest-shorter (step c.before.before.before) c.past-after.ensures c.unblanked-next.ensures
+loop-rest-smaller c = let step : Step c.loop-rest.rest.now c.token_at-f.result c.loop-rest.state c.next_state-n.result = record { some = c.loop-rest-test.true; bare = c.loop-rest.invariant.0; is = c.token_at-f.ensures; to = c.next_state-n.ensures.0 } in
+    rest-shorter step c.past-after.ensures c.unblanked-next.ensures
 
 pub loop-rest-preserved : goal.loop-rest-preserved
-loop-rest-preserved c = let s = c.args.s.now in
+loop-rest-preserved c = let step : Step c.loop-rest.rest.now c.token_at-f.result c.loop-rest.state c.next_state-n.result = record { some = c.loop-rest-test.true; bare = c.loop-rest.invariant.0; is = c.token_at-f.ensures; to = c.next_state-n.ensures.0 } in
+    let s = c.args.s.now in
     let p = c.past-after in
     let t = c.unblanked-next in (
       unblank-bare p.result.now t.result.now t.ensures,
@@ -31,7 +31,7 @@ loop-rest-preserved c = let s = c.args.s.now in
         c.next_state-n.ensures.1,
         (
           behind-unblank s p.result.now t.result.now (behind-drop s c.loop-rest.rest.now p.result.now c.token_at-f.result.size c.loop-rest.invariant.1.1.0 p.ensures) t.ensures,
-          continues-next (step c.before.before.before) c.loop-rest.invariant.1.1.1 p.ensures c.if-n-eq3.false t.ensures,
+          continues-next step c.loop-rest.invariant.1.1.1 p.ensures c.if-n-eq3.false t.ensures,
         ),
       ),
     )

@@ -1,0 +1,8 @@
+use Rattle.texts.specs.Table.{declaration_in}
+use Rattle.text_rows.specs.RowAt.{declaration_by}
+use borrow.Author.Rules.{rules}
+use Rattle.text_parts.proofs.superclass_count.Goals as goal
+
+pub returns : goal.returns
+unfolding declaration_by declaration_in
+returns c = (cc, search rules)

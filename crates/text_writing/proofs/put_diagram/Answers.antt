@@ -1,0 +1,23 @@
+use Rattle.text_writing.proofs.FilePartsLaws.{file-parts, file-room, file-size}
+use Rattle.text_writing.proofs.TwoWritersLaws.{both-fit, both-put, second-room}
+use borrow.Author.Rules.{rules}
+use Rattle.text_writing.proofs.put_diagram.Goals as goal
+
+pub put_declared-requires : goal.put_declared-requires
+put_declared-requires c =
+    let p = c.requires in
+    let names = p.1.1.1 in
+    let room = second-room (file-parts _) c.put_head.ensures (file-room _ p.0 names.1.1.1.1) in
+    (record { writable = p.0; outlines = p.1.0; few = p.1.1.0 }, (names.0, (names.1.0, (names.1.1.0, (names.1.1.1.0, room)))))
+
+pub overflow_add-result : goal.overflow_add-result
+overflow_add-result c =
+    let p = c.requires in
+    let fits = both-fit (file-parts _) c.put_head.ensures (file-room _ p.0 p.1.1.1.1.1.1.1) c.put_declared.ensures in
+    search rules
+
+pub returns : goal.returns
+returns c =
+    let p = c.requires in
+    let put = both-put (file-parts _) c.put_head.ensures (file-room _ p.0 p.1.1.1.1.1.1.1) c.put_declared.ensures in
+    (file-size _ p.0 put, put)

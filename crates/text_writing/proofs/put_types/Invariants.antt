@@ -1,0 +1,13 @@
+use Prim.Native.Nat.{◌-◌}
+use mathlib.Core.Path.{◌≡◌}
+use Rattle.texts.specs.Declared.{types_before}
+use Rattle.text_rows.specs.RowAt.{declarations_by}
+use Rattle.text_writing.specs.Pieces.{type_piece}
+use Rattle.text_writing.proofs.PuttingLaws.{Putting}
+use Rattle.text_writing.proofs.put_types.Given as goal
+
+abbrev pub invariant-loop-k : goal.invariant-loop-k
+invariant-loop-k l = Putting (type_piece (declarations_by l.body)) l.n l.initial.out l.out l.at l.k × (l.own ≡ types_before (declarations_by l.body) l.k)
+
+abbrev pub decreases-loop-k : goal.decreases-loop-k
+decreases-loop-k l = l.n - l.k
