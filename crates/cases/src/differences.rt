@@ -2,17 +2,16 @@
 // and the new diagram, and its bytes where they are asked for.
 ghost use Rattle.bench.specs.Calls.{Valid};
 
-use crate::{before, decode, pair};
+use crate::{before, decode, pair, STDOUT};
 use bench::{Bench, Replied, Reply};
-use libc::STDOUT_FILENO;
 
 // A colon, and bytes as pairs of hexadecimal digits, each behind a blank.
 fn print_bytes(file: &[u8]) {
-    io::write_all(STDOUT_FILENO, b":");
+    io::write_all(STDOUT, b":");
     let mut i = 0;
     while i < file.len() {
-        io::write_all(STDOUT_FILENO, b" ");
-        io::print_hex(STDOUT_FILENO, laws::byte(file, i) as u64, 2);
+        io::write_all(STDOUT, b" ");
+        io::print_hex(STDOUT, laws::byte(file, i) as u64, 2);
         i += 1;
     }
 }
@@ -51,12 +50,12 @@ fn print_witness(b: Bench, file: &[u8])
     let k = b.judge(1, file);
     let old = j.reply;
     let new = k.reply;
-    io::write_all(STDOUT_FILENO, b", ");
-    io::print_decimal(STDOUT_FILENO, file.len() as u64);
-    io::write_all(STDOUT_FILENO, b" bytes, old ");
-    io::print_decimal(STDOUT_FILENO, number_in(old) as u64);
-    io::write_all(STDOUT_FILENO, b", new ");
-    io::print_decimal(STDOUT_FILENO, number_in(new) as u64);
+    io::write_all(STDOUT, b", ");
+    io::print_decimal(STDOUT, file.len() as u64);
+    io::write_all(STDOUT, b" bytes, old ");
+    io::print_decimal(STDOUT, number_in(old) as u64);
+    io::write_all(STDOUT, b", new ");
+    io::print_decimal(STDOUT, number_in(new) as u64);
 }
 
 // What compare finds; a witness is handed out into space.
@@ -66,11 +65,11 @@ fn print_difference(b: Bench, bound: u8, bytes: bool, space: &mut [u8])
     let c = b.compare(bound);
     let reply = c.reply;
     if !is_difference(reply) {
-        io::write_all(STDOUT_FILENO, b"no difference");
+        io::write_all(STDOUT, b"no difference");
         return;
     }
-    io::write_all(STDOUT_FILENO, b"difference ");
-    io::print_decimal(STDOUT_FILENO, number_in(reply) as u64);
+    io::write_all(STDOUT, b"difference ");
+    io::print_decimal(STDOUT, number_in(reply) as u64);
     let found = c.bench;
     let h = found.hand_out(space);
     let written = h.reply;
@@ -100,11 +99,11 @@ fn bound_of(line: &[u8], at: usize) -> u8 {
 fn print_reply(line: &[u8], at: usize, b: Bench, bytes: bool, space: &mut [u8])
     requires { Valid b }
 {
-    io::write_all(STDOUT_FILENO, b"compare, ");
-    io::write_all(STDOUT_FILENO, laws::past(laws::front(line, at), 2));
-    io::write_all(STDOUT_FILENO, b": ");
+    io::write_all(STDOUT, b"compare, ");
+    io::write_all(STDOUT, laws::past(laws::front(line, at), 2));
+    io::write_all(STDOUT, b": ");
     print_difference(b, bound_of(line, at), bytes, space);
-    io::write_all(STDOUT_FILENO, b"\n");
+    io::write_all(STDOUT, b"\n");
 }
 
 // Loads the diagram whose file a row of pairs is.

@@ -10,7 +10,9 @@ mod rows; // rows.rt: a row of calls
 ghost use Rattle.std.specs.Prelude.{◌<◌, ◌≤◌, length};
 ghost use Rattle.diagrams.specs.Held.{Held};
 
-use libc::STDOUT_FILENO;
+
+// Where the replies go.
+const STDOUT: i32 = 1;
 
 // Room for the whole input.
 fn input() -> [u8; 262144] {
@@ -90,11 +92,11 @@ fn decode(s: &[u8], out: &mut [u8]) -> usize
 
 // Prints the case's name and its reply.
 fn say(what: &[u8], line: &[u8], at: usize, reply: u8) {
-    io::write_all(STDOUT_FILENO, what);
-    io::write_all(STDOUT_FILENO, laws::past(laws::front(line, at), 2));
-    io::write_all(STDOUT_FILENO, b": ");
-    io::print_decimal(STDOUT_FILENO, reply as u64);
-    io::write_all(STDOUT_FILENO, b"\n");
+    io::write_all(STDOUT, what);
+    io::write_all(STDOUT, laws::past(laws::front(line, at), 2));
+    io::write_all(STDOUT, b": ");
+    io::print_decimal(STDOUT, reply as u64);
+    io::write_all(STDOUT, b"\n");
 }
 
 // A diagram file, and its refusal, 0 where it is accepted.
@@ -121,11 +123,11 @@ fn reply(line: &[u8], at: usize, d: diagrams::StoredDiagram, file: &[u8])
     let j = judging::judge(d, file);
     let v = evaluating::evaluate(d, file);
     say(b"judge, ", line, at, j.rule);
-    io::write_all(STDOUT_FILENO, b"evaluate, ");
-    io::write_all(STDOUT_FILENO, laws::past(laws::front(line, at), 2));
-    io::write_all(STDOUT_FILENO, b": ");
-    io::print_decimal(STDOUT_FILENO, v.first as u64);
-    io::write_all(STDOUT_FILENO, b"\n");
+    io::write_all(STDOUT, b"evaluate, ");
+    io::write_all(STDOUT, laws::past(laws::front(line, at), 2));
+    io::write_all(STDOUT, b": ");
+    io::print_decimal(STDOUT, v.first as u64);
+    io::write_all(STDOUT, b"\n");
 }
 
 // A diagram file and, behind a slash, a record file.
@@ -149,8 +151,8 @@ fn print_entry(list: [u8; 320], k: usize)
 {
     let mut j = 0;
     while j < 5 {
-        io::write_all(STDOUT_FILENO, b" ");
-        io::print_decimal(STDOUT_FILENO, list[k * 5 + j] as u64);
+        io::write_all(STDOUT, b" ");
+        io::print_decimal(STDOUT, list[k * 5 + j] as u64);
         j += 1;
     }
 }
@@ -174,13 +176,13 @@ fn run_compile(line: &[u8], at: usize, space: &mut [u8]) {
     if l.no == 0 {
         let d = l.diagram;
         let c = compiling::compile(d);
-        io::write_all(STDOUT_FILENO, b"compile, ");
-        io::write_all(STDOUT_FILENO, laws::past(laws::front(line, at), 2));
-        io::write_all(STDOUT_FILENO, b": ");
-        io::print_decimal(STDOUT_FILENO, c.number as u64);
+        io::write_all(STDOUT, b"compile, ");
+        io::write_all(STDOUT, laws::past(laws::front(line, at), 2));
+        io::write_all(STDOUT, b": ");
+        io::print_decimal(STDOUT, c.number as u64);
         let list = c.list;
         print_entries(list, c.number);
-        io::write_all(STDOUT_FILENO, b"\n");
+        io::write_all(STDOUT, b"\n");
     }
 }
 

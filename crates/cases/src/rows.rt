@@ -2,8 +2,7 @@
 // was not written shows; more than three equal bytes in a row are printed once, with a star and their number.
 ghost use Rattle.std.specs.Prelude.{◌≤◌, length};
 
-use crate::decode;
-use libc::STDOUT_FILENO;
+use crate::{decode, STDOUT};
 
 fn cover(out: &mut [u8]) {
     let mut i = 0;
@@ -33,11 +32,11 @@ fn print_runs(s: &[u8]) {
         let b = laws::byte(rest, 0);
         let behind = laws::past(rest, 1);
         let k = alike(behind, b);
-        io::write_all(STDOUT_FILENO, b" ");
-        io::print_hex(STDOUT_FILENO, b as u64, 2);
+        io::write_all(STDOUT, b" ");
+        io::print_hex(STDOUT, b as u64, 2);
         if 2 < k {
-            io::write_all(STDOUT_FILENO, b"*");
-            io::print_decimal(STDOUT_FILENO, alike(rest, b) as u64);
+            io::write_all(STDOUT, b"*");
+            io::print_decimal(STDOUT, alike(rest, b) as u64);
             let next = laws::past(behind, k);
             rest = next;
         } else {
@@ -51,11 +50,11 @@ pub fn run_row(line: &[u8], at: usize, space: &mut [u8], replies: &mut [u8]) {
     let n = decode(laws::past(laws::past(line, at), 1), space);
     cover(replies);
     let m = replay::replay(laws::front(space, n), replies);
-    io::write_all(STDOUT_FILENO, b"row, ");
-    io::write_all(STDOUT_FILENO, laws::past(laws::front(line, at), 2));
-    io::write_all(STDOUT_FILENO, b": ");
-    io::print_decimal(STDOUT_FILENO, m as u64);
-    io::write_all(STDOUT_FILENO, b":");
+    io::write_all(STDOUT, b"row, ");
+    io::write_all(STDOUT, laws::past(laws::front(line, at), 2));
+    io::write_all(STDOUT, b": ");
+    io::print_decimal(STDOUT, m as u64);
+    io::write_all(STDOUT, b":");
     print_runs(replies);
-    io::write_all(STDOUT_FILENO, b"\n");
+    io::write_all(STDOUT, b"\n");
 }

@@ -94,8 +94,7 @@ fn take_turn(b: Bench, s: &[u8], out: &mut [u8]) -> Turn
 }
 
 // Runs the calls, writes their replies to the front of `replies`, and returns how many bytes these are.
-#[unsafe(no_mangle)]
-pub extern "C" fn replay(calls: &[u8], replies: &mut [u8]) -> usize
+pub fn replay(calls: &[u8], replies: &mut [u8]) -> usize
     ensures { Replayed calls.now replies.old result replies.new }
 {
     let mut b = bench::fresh();
