@@ -26,7 +26,7 @@ test:
 	@tools/test
 
 check:
-	@rt check
+	@rt all check
 
 library:
 	@tools/library
