@@ -1,6 +1,5 @@
 use Rattle.fields.proofs.NameLaws.{name-empty, name-long, name-by-bytes}
 use Rattle.laws.proofs.LoopLaws.{each}
-use Prim.Native.Nat.{◌-◌}
 use Rattle.fields.proofs.valid_name.Goals as goal
 
 pub returns-then-w-lt1 : goal.returns-then-w-lt1

@@ -1,6 +1,5 @@
 -- `laws::compare` meets its contract. The loop's invariant: the strings compare as their suffixes from i on do.
 -- Assumes nothing.
-use Prim.Native.Nat.{◌-◌}
 use mathlib.Core.Path.{sym, ◌∙◌}
 use borrow.Author.Rules.{rules}
 use Rattle.laws.proofs.CompareLaws.{order-less, order-more, order-end, order_lt, order-gt, order-on}
