@@ -2,7 +2,7 @@
 // and the new diagram, and its bytes where they are asked for.
 ghost use Rattle.bench.specs.Calls.{Valid};
 
-use crate::{before, decode, pair, STDOUT};
+use crate::{STDOUT, before, decode, pair};
 use bench::{Bench, Replied, Reply};
 
 // A colon, and bytes as pairs of hexadecimal digits, each behind a blank.

@@ -10,7 +10,6 @@ mod rows; // rows.rt: a row of calls
 ghost use Rattle.std.specs.Prelude.{◌<◌, ◌≤◌, length};
 ghost use Rattle.diagrams.specs.Held.{Held};
 
-
 // Where the replies go.
 const STDOUT: i32 = 1;
 

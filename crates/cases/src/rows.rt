@@ -2,7 +2,7 @@
 // was not written shows; more than three equal bytes in a row are printed once, with a star and their number.
 ghost use Rattle.std.specs.Prelude.{◌≤◌, length};
 
-use crate::{decode, STDOUT};
+use crate::{STDOUT, decode};
 
 fn cover(out: &mut [u8]) {
     let mut i = 0;

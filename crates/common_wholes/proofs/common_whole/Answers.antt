@@ -17,8 +17,11 @@ pub loop-j-preserved : goal.loop-j-preserved
 loop-j-preserved c =
     let a = c.args in (
       omega arith,
-      elim c.if-is_giving.branch [ then-is_giving w ↦ subst (λ (z : Shared). z.some ≡ true → Common a.lines a.t z.mask) (sym w.known-is)
-          (λ _. w.also-known.ensures a.lines a.t c.loop-j.invariant.1 (c.is_giving.ensures w.if-is_giving.true)) | else-is_giving w ↦ subst (λ (z : Shared). z.some ≡ true → Common a.lines a.t z.mask) (sym w.known-is) c.loop-j.invariant.1 ],
+      elim c.if-is_giving.branch [
+        | then-is_giving w ↦ subst (λ (z : Shared). z.some ≡ true → Common a.lines a.t z.mask) (sym w.known-is)
+            (λ _. w.also-known.ensures a.lines a.t c.loop-j.invariant.1 (c.is_giving.ensures w.if-is_giving.true))
+        | else-is_giving w ↦ subst (λ (z : Shared). z.some ≡ true → Common a.lines a.t z.mask) (sym w.known-is) c.loop-j.invariant.1
+      ],
     )
 
 pub returns : goal.returns

@@ -11,9 +11,9 @@ loop-i-init c = let a = c.args.d.associations in
 
 pub push_association-r-requires : goal.push_association-r-requires
 push_association-r-requires c = let l = c.loop-i in (
-      omega (arith, l.invariant.1.most, c.requires.counts.associations),
-      (omega (arith, c.requires.counts.associations), arrow-known c.args.d c.requires l.i (omega arith)),
-    )
+  omega (arith, l.invariant.1.most, c.requires.counts.associations),
+  (omega (arith, c.requires.counts.associations), arrow-known c.args.d c.requires l.i (omega arith)),
+)
 
 pub loop-i-preserved : goal.loop-i-preserved
 loop-i-preserved c = let a = c.args.d.associations in

@@ -24,14 +24,14 @@ push_asked-r-requires c = (omega arith, (omega arith, sides-known c.wide-arrow.r
 
 pub loop-s-preserved : goal.loop-s-preserved
 loop-s-preserved c = let b = c.args in (
-      omega arith,
-      (omega arith, appends-as (appends-then c.loop-s.invariant.1.1 c.push_asked-r.ensures.0) (sym (asked-more b.i (association_in b.a b.i) c.wide-arrow.result c.loop-s.s))),
-    )
+  omega arith,
+  (omega arith, appends-as (appends-then c.loop-s.invariant.1.1 c.push_asked-r.ensures.0) (sym (asked-more b.i (association_in b.a b.i) c.wide-arrow.result c.loop-s.s))),
+)
 
 pub returns : goal.returns
 unfolding association_in
 returns c = let e : c.loop-s.s ≡ 3 = omega arith in (
-      appends-as c.loop-s.invariant.1.1
-          (asked-whole c.args.i (association_in c.args.a c.args.i) c.wide-arrow.result c.loop-s.s c.wide-arrow.ensures.0 e c.requires.1.1),
-      omega arith,
-    )
+  appends-as c.loop-s.invariant.1.1
+      (asked-whole c.args.i (association_in c.args.a c.args.i) c.wide-arrow.result c.loop-s.s c.wide-arrow.ensures.0 e c.requires.1.1),
+  omega arith,
+)

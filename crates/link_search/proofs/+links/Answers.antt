@@ -13,15 +13,15 @@ links-requires t c =
     let s = c.look_all-l in
     let k : s.result.kind ≡ 2 = omega (arith, s.ensures.few, c.if-l-eq1.false, c.if-l-eq0.false) in
     let w : Try a.must.now a.may.now s.result.row s.result.target c.with8.result c.off8.result =
-        record {
-          below = s.ensures.below k;
-          target = s.ensures.inside k;
-          spot = s.ensures.spot k;
-          long = c.requires.4;
-          long_may = c.requires.5;
-          on = c.with8.ensures;
-          off = c.off8.ensures;
-        } in
+    record {
+      below = s.ensures.below k;
+      target = s.ensures.inside k;
+      spot = s.ensures.spot k;
+      long = c.requires.4;
+      long_may = c.requires.5;
+      on = c.with8.ensures;
+      off = c.off8.ensures;
+    } in
     let R = (NetFits a.row_low.now a.row_high.now a.column_slot.now a.column_from.now a.column_low.now a.column_high.now a.mirror_right.now a.mirror_left.now a.mirror_from.now a.mirror_to.now a.whole_slot.now a.whole_from.now a.whole_to.now) in
     let f = try-falls R w in
     (search (rules, f), (c.requires.0, c.requires.1, c.requires.2, c.requires.3, try-long R w, try-long-may R w))
@@ -32,15 +32,15 @@ links-requires-2 t c =
     let s = c.look_all-l in
     let k : s.result.kind ≡ 2 = omega (arith, s.ensures.few, c.if-l-eq1.false, c.if-l-eq0.false) in
     let w : Try a.must.now a.may.now s.result.row s.result.target c.with8.result c.off8.result =
-        record {
-          below = s.ensures.below k;
-          target = s.ensures.inside k;
-          spot = s.ensures.spot k;
-          long = c.requires.4;
-          long_may = c.requires.5;
-          on = c.with8.ensures;
-          off = c.off8.ensures;
-        } in
+    record {
+      below = s.ensures.below k;
+      target = s.ensures.inside k;
+      spot = s.ensures.spot k;
+      long = c.requires.4;
+      long_may = c.requires.5;
+      on = c.with8.ensures;
+      off = c.off8.ensures;
+    } in
     let R = (NetFits a.row_low.now a.row_high.now a.column_slot.now a.column_from.now a.column_low.now a.column_high.now a.mirror_right.now a.mirror_left.now a.mirror_from.now a.mirror_to.now a.whole_slot.now a.whole_from.now a.whole_to.now) in
     let e = c.if-links.false in
     let f = again-falls R w c.links.ensures e in
@@ -52,13 +52,13 @@ returns t c =
     let s = c.look_all-l in
     let k : s.result.kind ≡ 2 = omega (arith, s.ensures.few, c.if-l-eq1.false, c.if-l-eq0.false) in
     let w : Try a.must.now a.may.now s.result.row s.result.target c.with8.result c.off8.result =
-        record {
-          below = s.ensures.below k;
-          target = s.ensures.inside k;
-          spot = s.ensures.spot k;
-          long = c.requires.4;
-          long_may = c.requires.5;
-          on = c.with8.ensures;
-          off = c.off8.ensures;
-        } in
+    record {
+      below = s.ensures.below k;
+      target = s.ensures.inside k;
+      spot = s.ensures.spot k;
+      long = c.requires.4;
+      long_may = c.requires.5;
+      on = c.with8.ensures;
+      off = c.off8.ensures;
+    } in
     answer-none (NetFits a.row_low.now a.row_high.now a.column_slot.now a.column_from.now a.column_low.now a.column_high.now a.mirror_right.now a.mirror_left.now a.mirror_from.now a.mirror_to.now a.whole_slot.now a.whole_from.now a.whole_to.now) w c.links.ensures c.if-links.false c.links-2.ensures c.if-links-2.false

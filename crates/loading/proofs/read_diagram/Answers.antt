@@ -20,10 +20,10 @@ loop-rest-smaller c = search rest-shorter
 
 pub loop-rest-preserved : goal.loop-rest-preserved
 loop-rest-preserved c = let none : c.field_no-no.result ≡ 0 = search rules in (
-      c.with_field-grown.ensures.held,
-      field-on c.args.file.now c.loop-rest.rest.now c.loop-rest.last _ _ c.loop-rest.d _ c.loop-rest.invariant.1 c.read_head.ensures
-          c.in-Whole.is c.content-c.ensures c.field_no-no.ensures none c.with_field-grown.ensures c.after-next.ensures,
-    )
+  c.with_field-grown.ensures.held,
+  field-on c.args.file.now c.loop-rest.rest.now c.loop-rest.last _ _ c.loop-rest.d _ c.loop-rest.invariant.1 c.read_head.ensures
+      c.in-Whole.is c.content-c.ensures c.field_no-no.ensures none c.with_field-grown.ensures c.after-next.ensures,
+)
 
 pub returns-then-last-eq0 : goal.returns-then-last-eq0
 returns-then-last-eq0 c = search (rules, reply-empty)

@@ -17,8 +17,10 @@ loop-o-preserved c =
     let p = whole_in a.links.now a.s a.left a.right a.p in
     let e = c.is_whole_by.ensures in (
       omega arith,
-      elim c.if-is_whole_by.branch [ then-is_whole_by w ↦ (λ j. ap (bit j) w.wholes-is ∙ mask-with p c.loop-o.o c.loop-o.wholes w.with8-wholes.result c.loop-o.invariant.1 e w.if-is_whole_by.true w.with8-wholes.ensures j)
-          | else-is_whole_by w ↦ (λ j. ap (bit j) w.wholes-is ∙ mask-miss p c.loop-o.o c.loop-o.wholes c.loop-o.invariant.1 e w.if-is_whole_by.false j) ],
+      elim c.if-is_whole_by.branch [
+        | then-is_whole_by w ↦ (λ j. ap (bit j) w.wholes-is ∙ mask-with p c.loop-o.o c.loop-o.wholes w.with8-wholes.result c.loop-o.invariant.1 e w.if-is_whole_by.true w.with8-wholes.ensures j)
+        | else-is_whole_by w ↦ (λ j. ap (bit j) w.wholes-is ∙ mask-miss p c.loop-o.o c.loop-o.wholes c.loop-o.invariant.1 e w.if-is_whole_by.false j)
+      ],
     )
 
 pub returns : goal.returns

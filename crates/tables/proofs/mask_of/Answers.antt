@@ -16,8 +16,10 @@ loop-o-preserved c = let a = c.args in
     let p = counts_as a.sets.now a.n a.types.now a.k in
     let e = c.counts_as.ensures in (
       omega arith,
-      elim c.if-counts_as.branch [ then-counts_as w ↦ (λ j. ap (bit j) w.mask-is ∙ mask-with p c.loop-o.o c.loop-o.mask w.with8-mask.result c.loop-o.invariant.1 e w.if-counts_as.true w.with8-mask.ensures j)
-          | else-counts_as w ↦ (λ j. ap (bit j) w.mask-is ∙ mask-miss p c.loop-o.o c.loop-o.mask c.loop-o.invariant.1 e w.if-counts_as.false j) ],
+      elim c.if-counts_as.branch [
+        | then-counts_as w ↦ (λ j. ap (bit j) w.mask-is ∙ mask-with p c.loop-o.o c.loop-o.mask w.with8-mask.result c.loop-o.invariant.1 e w.if-counts_as.true w.with8-mask.ensures j)
+        | else-counts_as w ↦ (λ j. ap (bit j) w.mask-is ∙ mask-miss p c.loop-o.o c.loop-o.mask c.loop-o.invariant.1 e w.if-counts_as.false j)
+      ],
     )
 
 pub returns : goal.returns

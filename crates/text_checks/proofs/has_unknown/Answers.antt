@@ -20,15 +20,15 @@ returns-then-has_unknown_parent-has_unknown_end c = search (rules, unknown-found
 
 pub loop-k-preserved : goal.loop-k-preserved
 loop-k-preserved c = (
-      search rules,
-      (
-        c.scan_row-size.ensures.1.size_is,
-        (
-          search (rules, reached-next, outline-below),
-          unknown-next _ _ c.has_unknown_parent.ensures c.has_unknown_end.ensures c.loop-k.invariant.1.1.1 c.if-has_unknown_parent-has_unknown_end.false,
-        ),
-      ),
-    )
+  search rules,
+  (
+    c.scan_row-size.ensures.1.size_is,
+    (
+      search (rules, reached-next, outline-below),
+      unknown-next _ _ c.has_unknown_parent.ensures c.has_unknown_end.ensures c.loop-k.invariant.1.1.1 c.if-has_unknown_parent-has_unknown_end.false,
+    ),
+  ),
+)
 
 pub returns : goal.returns
 returns c = search (rules, unknown-none)

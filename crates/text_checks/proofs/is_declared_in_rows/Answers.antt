@@ -15,15 +15,15 @@ returns-then-is_named_in_row c = looked-found _ _ _ c.loop-j.j _ (reached-is c.l
 
 pub loop-j-preserved : goal.loop-j-preserved
 loop-j-preserved c = let e = c.scan_row-size.ensures in (
-      search rules,
-      (
-        e.1.size_is,
-        (
-          reached-next c.loop-j.invariant.1.1.0 (search rules) e.0 c.past-next.ensures,
-          looked-next _ (declarations_by _) _ c.loop-j.j _ (reached-is c.loop-j.invariant.1.1.0 (search rules) e.0) c.is_named_in_row.ensures c.loop-j.invariant.1.1.1 c.if-is_named_in_row.false,
-        ),
-      ),
-    )
+  search rules,
+  (
+    e.1.size_is,
+    (
+      reached-next c.loop-j.invariant.1.1.0 (search rules) e.0 c.past-next.ensures,
+      looked-next _ (declarations_by _) _ c.loop-j.j _ (reached-is c.loop-j.invariant.1.1.0 (search rules) e.0) c.is_named_in_row.ensures c.loop-j.invariant.1.1.1 c.if-is_named_in_row.false,
+    ),
+  ),
+)
 
 pub returns : goal.returns
 returns c = search (rules, looked-done)

@@ -17,8 +17,9 @@ loop-u-preserved c = let a = c.args in
     let e = c.is_subtype.ensures in (
       omega arith,
       elim c.if-is_subtype.branch [
-        then-is_subtype w ↦ λ j. ap (bit j) w.mask-is ∙ mask-with p c.loop-u.u c.loop-u.mask w.with32-mask.result c.loop-u.invariant.1 e w.if-is_subtype.true w.with32-mask.ensures j
-      | else-is_subtype w ↦ λ j. ap (bit j) w.mask-is ∙ mask-miss p c.loop-u.u c.loop-u.mask c.loop-u.invariant.1 e w.if-is_subtype.false j ],
+        | then-is_subtype w ↦ λ j. ap (bit j) w.mask-is ∙ mask-with p c.loop-u.u c.loop-u.mask w.with32-mask.result c.loop-u.invariant.1 e w.if-is_subtype.true w.with32-mask.ensures j
+        | else-is_subtype w ↦ λ j. ap (bit j) w.mask-is ∙ mask-miss p c.loop-u.u c.loop-u.mask c.loop-u.invariant.1 e w.if-is_subtype.false j
+      ],
     )
 
 pub returns : goal.returns
