@@ -23,7 +23,7 @@ loop-o-preserved c =
     let q = typed a.types.now a.set in
     let f : c.is_in.result ≡ q c.loop-o.o = cc in (
       omega arith,
-      elim c.if-is_in.branch [ then-is_in w ↦ subst (Marks q (c.loop-o.o + 1)) (sym w.2) (mask-with q c.loop-o.o c.loop-o.m w.1.result c.loop-o.invariant.1 f w.if-is_in.true w.1.ensures) | else-is_in w ↦ subst (Marks q (c.loop-o.o + 1)) (sym w.m-is) (mask-miss q c.loop-o.o c.loop-o.m c.loop-o.invariant.1 f w.if-is_in.false) ],
+      elim c.if-is_in.branch [ then-is_in w ↦ subst (Marks q (c.loop-o.o + 1)) (sym w.m-is) (mask-with q c.loop-o.o c.loop-o.m w.with8-m.result c.loop-o.invariant.1 f w.if-is_in.true w.with8-m.ensures) | else-is_in w ↦ subst (Marks q (c.loop-o.o + 1)) (sym w.m-is) (mask-miss q c.loop-o.o c.loop-o.m c.loop-o.invariant.1 f w.if-is_in.false) ],
     )
 
 pub returns : goal.returns

@@ -6,22 +6,9 @@ use lib.ListN.{length}
 use Rattle.laws.proofs.SearchLaws.{by-no, by-yes}
 use Rattle.leaves.proofs.ColumnLaws.{slots}
 use Rattle.leaves.proofs.EndLaws.{ended-links, ended-must, ended-types}
-use Rattle.leaves.proofs.columns.column_arrays.Reads as column-arrays-reads
-use Rattle.leaves.proofs.columns.objects.Reads as objects-reads
-use Rattle.leaves.proofs.ends.Lts as lts
-use Rattle.leaves.proofs.ends.Reads as reads
-use Rattle.leaves.proofs.fitting.types_fit.Reads as types-fit-reads
-use Rattle.leaves.proofs.rows.all_covered.Reads as all-covered-reads
-use Rattle.leaves.proofs.rows.mays.Reads as mays-reads
-use Rattle.leaves.proofs.rows.row_arrays.Reads as row-arrays-reads
-use Rattle.link_search.proofs.links.Reads as links-reads
 use mathlib.Core.Bool.{not}
 use mathlib.Core.Path.{ap}
 use Rattle.leaves.proofs.ends.Goals as goal
-
--- the links that must stand are an array of 256
-long : (c : lts.Start (types-fit-reads.Asked, types-fit-reads.Learnt, mays-reads.Asked, mays-reads.Learnt, all-covered-reads.Asked, all-covered-reads.Learnt, row-arrays-reads.Asked, row-arrays-reads.Learnt, column-arrays-reads.Asked, column-arrays-reads.Learnt, objects-reads.Asked, objects-reads.Learnt, links-reads.Asked, links-reads.Learnt) reads.Pre reads.Post) → length c.args.t7.must ≡ 256
-long c = search rules
 
 pub types_fit-requires : goal.types_fit-requires
 types_fit-requires c = c.requires.2
@@ -61,8 +48,10 @@ objects-whole_to-requires c = c.requires.2
 pub links-ok-requires : goal.links-ok-requires
 links-ok-requires c =
     let a = c.args in
+    -- the links that must stand are an array of 256
+    let long : length a.q.must ≡ 256 = search rules in
     let p = c.requires in
-    (slots a.lines a.q a.types a.n c.column_arrays-c.result c.column_arrays-c.ensures p.0 p.1.column, p.0.right, p.0.left, p.0.whole, long c.before.before.before.before.before.before.before.before.before.before.before.before.before.before.before.before.before.before.before.before.before.before.before.before.before.before.before.before.before.before.before.before.before.before.before.before.before.before.before.before.before.before.before.before.before.before.before.before.before.before, c.mays-may.ensures.long)
+    (slots a.lines a.q a.types a.n c.column_arrays-c.result c.column_arrays-c.ensures p.0 p.1.column, p.0.right, p.0.left, p.0.whole, long, c.mays-may.ensures.long)
 
 pub returns : goal.returns
 returns c =
@@ -76,6 +65,6 @@ returns c =
       columns = c.column_arrays-c.ensures;
       mirror-from = c.objects-mirror_from.ensures;
       mirror-to = c.objects-mirror_to.ensures;
-      whole_from = c.objects-whole_from.ensures;
-      whole_to = c.objects-whole_to.ensures;
+      whole-from = c.objects-whole_from.ensures;
+      whole-to = c.objects-whole_to.ensures;
     }) p.0 p.1 p.2 p.3 (by-yes c.types_fit.ensures (ap not c.if-not-types_fit.false)) (by-yes c.all_covered.ensures (ap not c.if-not-all_covered.false)) _ _ c.links-ok.result c.links-ok.ensures
