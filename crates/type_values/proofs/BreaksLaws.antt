@@ -136,9 +136,9 @@ module _ (old new : Diagram) (wold : WfDiagram old) (wnew : WfDiagram new) (type
         value-at : value_in m (x / 32) (attribute_place old (x % 32)) ≡ value_in m o s
         value-at = ap₂ (value_in m) at place
 
-        value_on : s < length old.attributes → value_in m o s ≢ 0 → value_on old m x ≡ true
+        value-on : s < length old.attributes → value_in m o s ≢ 0 → value_on old m x ≡ true
         unfolding value_on
-        value_on k some =
+        value-on k some =
             both_of _ _ (ap (λ (i : ℕ). ltb i (length old.attributes)) place ∙ lt-ltb _ _ k) (ap not (ne_eqb _ 0 (λ z. some (sym value-at ∙ z))))
 
         value-is : (k : ℕ) → value_in m o s ≡ 1 + k → rule4_at new (site_of (record_of old m)) (value_is old m x) ≡ rule4_at new (alone name) (coded_value old s k)
@@ -172,7 +172,7 @@ module _ (old new : Diagram) (wold : WfDiagram old) (wnew : WfDiagram new) (type
               let place : attribute_place old ((o * 32 + p.0) % 32) ≡ s = ap (attribute_place old) rest ∙ p.2 in
               let below : o * 32 + p.0 < m.count * 32 = omega arith in
               sym (value-is s (o * 32 + p.0) at place (chosen_code old new (due old t s - 1)) value)
-              ∙ written-kept (o * 32 + p.0) below (value_on s (o * 32 + p.0) at place k some)
+              ∙ written-kept (o * 32 + p.0) below (value-on s (o * 32 + p.0) at place k some)
 
       code-kept : (s k : ℕ) → s < length old.attributes → allowed old t s k ≡ true → rule4_at new (alone name) (coded_value old s k) ≡ true
       unfolding allowed

@@ -61,9 +61,9 @@ due-by-name d wf dues is name w u s eu lu es =
 -- ---- what is asked for
 
 module _ (old new : Diagram) (types firsts : List ℕ) (same : SameTypes old new types) (lacks : Lackings old new firsts) where
-  kept_in : (e f : ℕ) → (e ≢ 0 → e ≢ 255 → e - 1 < length old.value_types) → kept_in types firsts e f ≡ due_kept old new e f
+  kept-in : (e f : ℕ) → (e ≢ 0 → e ≢ 255 → e - 1 < length old.value_types) → kept_in types firsts e f ≡ due_kept old new e f
   unfolding kept_in due_kept
-  kept_in e f within = ⊎_elim (λ z. rw z refl) (λ z. rw z (ap (both (not (eqb f 0))) (some z))) (known (eqb e 0))
+  kept-in e f within = ⊎_elim (λ z. rw z refl) (λ z. rw z (ap (both (not (eqb f 0))) (some z))) (known (eqb e 0))
     where
       some : eqb e 0 ≡ false
           → either (eqb e 255) (both (eqb f (1 + get_or types (e - 1) 0)) (eqb (get_or firsts (e - 1) 0) 8))
@@ -100,14 +100,14 @@ module _ (old new : Diagram) (wold : WfDiagram old) (wnew : WfDiagram new) (kind
     n = length new.attributes
 
     module _ (there : u < length new.types) where
-      slot_kept : (s : ℕ) → s < m → slot_kept_in olds news slots types firsts t u n s ≡ slot_kept old new t u s
+      slot-kept : (s : ℕ) → s < m → slot_kept_in olds news slots types firsts t u n s ≡ slot_kept old new t u s
       unfolding slot_kept_in slot_kept
-      slot_kept s l =
+      slot-kept s l =
           let few = wold.few-attributes in
           let small : s < 32 = omega arith in
           ap₂ (kept_in types firsts) (h.due-old.exact t s is-type small)
           (due-by-name new wnew news h.due-new name (attribute_at old s).name u (get_or slots s 0) refl there (h.forth.exact s l))
-          ∙ kept_in old new types firsts h.same-types h.lackings (due old t s) (due_named new name (attribute_at old s).name) (due-known old wold t s).type-known
+          ∙ kept-in old new types firsts h.same-types h.lackings (due old t s) (due_named new name (attribute_at old s).name) (due-known old wold t s).type-known
 
       slot-asked : (s : ℕ) → s < n → slot_asked_in olds news back t u m s ≡ slot_asked old new t u s
       unfolding slot_asked_in slot_asked
@@ -119,7 +119,7 @@ module _ (old new : Diagram) (wold : WfDiagram old) (wnew : WfDiagram new) (kind
           ∙ either-imp _ _
 
       slots-in : both (all (slot_kept_in olds news slots types firsts t u n) m) (all (slot_asked_in olds news back t u m) n) ≡ both (names_kept old new t) (codes_kept old new t)
-      slots-in = ap₂ both (all-ext _ _ m slot_kept) (all-ext _ _ n slot-asked) ∙ slots-are old new wold wnew t is-type there
+      slots-in = ap₂ both (all-ext _ _ m slot-kept) (all-ext _ _ n slot-asked) ∙ slots-are old new wold wnew t is-type there
 
       concrete-in : either (eqb (get_or kinds u 0) 0) (eqb (get_or kinds u 0) 3) ≡ is_concrete (type_at new u)
       unfolding is_concrete

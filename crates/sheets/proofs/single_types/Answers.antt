@@ -1,0 +1,7 @@
+use Rattle.sheets.proofs.TypeSetLaws.{singles-are}
+use Rattle.sheets.proofs.single_types.Goals as goal
+
+pub returns : goal.returns
+returns c = let found = c.images-found in
+    let chosen = c.singles_of-chosen in
+    singles-are c.args.old c.args.d found.result found.ensures chosen.result c.images_of.result chosen.ensures c.images_of.ensures

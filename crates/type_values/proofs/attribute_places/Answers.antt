@@ -1,0 +1,7 @@
+use Rattle.type_values.proofs.StoredLaws.{attributes-placed}
+use mathlib.Core.Path.{refl}
+use Rattle.type_values.proofs.attribute_places.Goals as goal
+
+pub returns : goal.returns
+returns c =
+    attributes-placed c.args.old c.args.new c.requires.1 c.places.result _ _ refl refl c.places.ensures

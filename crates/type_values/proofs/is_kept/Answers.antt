@@ -1,0 +1,10 @@
+use Rattle.type_values.proofs.WayLaws.{kept-nothing, kept-some}
+use mathlib.Core.Path.{refl}
+use Rattle.type_values.proofs.is_kept.Goals as goal
+
+pub returns-then-e-eq0 : goal.returns-then-e-eq0
+returns-then-e-eq0 c = kept-nothing _ _ _ _ c.if-e-eq0.true
+
+pub returns : goal.returns
+returns c =
+    kept-some _ _ _ _ c.if-e-eq0.false c.wide-v.ensures.0 refl c.wide.ensures.0 c.byte.ensures c.wide-2.ensures.0 c.byte-2.ensures

@@ -1,0 +1,12 @@
+use Prim.Native.Nat.{ℕ, ◌≤◌, ◌<◌, ◌-◌}
+use mathlib.Core.Path.{◌≡◌}
+use lib.ListN.{get_or, length}
+use Rattle.fields.specs.Slot.{slot_name}
+use Rattle.resolving.specs.Lookup.{slot_of}
+use Rattle.type_values.proofs.places.Given as goal
+
+abbrev pub invariant-loop-i : goal.invariant-loop-i
+invariant-loop-i l = (l.i ≤ l.n) × (length l.r ≡ 32) × ((j : ℕ) → j < l.i → get_or l.r j 0 ≡ slot_of l.others l.k (slot_name l.names j))
+
+abbrev pub decreases-loop-i : goal.decreases-loop-i
+decreases-loop-i l = l.n - l.i
