@@ -83,5 +83,5 @@ module _ (usable singles : ℕ) (targets lows highs : List ℕ) (x : Lines) (q :
       rows = rows_of lows highs types n q r a.rows sane.row link (net_in link) agree s.allowed.rows.limited s.asked.row;
       columns = columns_of x q types n c a.columns slotted sane.column link (net_in link) agree s.allowed.columns s.asked.column;
       mirrors = mirrors-of x types n mf mt slotted link (net_in link) agree a.mirror-from a.mirror-to s.allowed.mirrors;
-      wholes = wholes-of x types n wf wt slotted link (net_in link) agree a.whole_from a.whole_to s.allowed.wholes;
+      wholes = wholes-of x types n wf wt slotted link (net_in link) agree a.whole-from a.whole-to s.allowed.wholes;
     }

@@ -84,7 +84,7 @@ module _ (usable singles : ℕ) (targets lows highs : List ℕ) (x : Lines) (q :
       };
       columns = columns-kept x q types n c a.columns slotted sane.column (links_in rows) (net_of rows) found-agrees f.columns;
       mirrors = mirrors-kept x types n mf mt slotted (links_in rows) (net_of rows) found-agrees a.mirror-from a.mirror-to f.mirrors;
-      wholes = wholes-kept x types n wf wt slotted (links_in rows) (net_of rows) found-agrees a.whole_from a.whole_to f.wholes;
+      wholes = wholes-kept x types n wf wt slotted (links_in rows) (net_of rows) found-agrees a.whole-from a.whole-to f.wholes;
     };
     asked = record {
       many = fit.many;

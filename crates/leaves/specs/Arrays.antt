@@ -94,5 +94,5 @@ pub record Prepared (targets lows highs : List ℕ) (x : Lines) (q : Query) (typ
   pub columns : ColumnsAsk x q types n c
   pub mirror-from : Objects types n x.mirrorfrom mirror_from
   pub mirror-to : Objects types n x.mirrorto mirror_to
-  pub whole_from : Objects types n x.wholefrom whole_from
-  pub whole_to : Objects types n x.wholeto whole_to
+  pub whole-from : Objects types n x.wholefrom whole_from
+  pub whole-to : Objects types n x.wholeto whole_to

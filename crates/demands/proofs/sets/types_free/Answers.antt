@@ -1,0 +1,9 @@
+-- `sets::types_free` meets its contract.
+-- Assumes nothing.
+use Rattle.demands.proofs.SetLaws.{bit-free}
+use Rattle.demands.proofs.sets.types_free.Goals as goal
+
+pub returns : goal.returns
+returns c =
+    let a = c.args in
+    λ types k f. bit-free a.usable a.singles a.forb a.here c.without.result c.without-2.result types k f c.without.ensures c.without-2.ensures

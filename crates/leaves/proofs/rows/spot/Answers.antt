@@ -1,0 +1,8 @@
+-- `spot` meets its contract: the type of the row's object, and its slot.
+-- Assumes nothing.
+use Prim.Native.Nat.{◌/◌}
+use native.Mathlib.Omega.{arith}
+use Rattle.leaves.proofs.rows.spot.Goals as goal
+
+pub returns : goal.returns
+returns c = let s = c.requires.1 (c.args.i / 32) in (cc, omega arith)

@@ -1,0 +1,7 @@
+-- `only` meets its contract, bit by bit.
+-- Assumes nothing.
+use Rattle.laws.proofs.BitLaws.{bit-only}
+use Rattle.queries.proofs.only.Goals as goal
+
+pub returns : goal.returns
+returns c = λ j. bit-only c.args.t c.with32.result c.with32.ensures j
