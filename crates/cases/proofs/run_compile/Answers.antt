@@ -1,0 +1,10 @@
+use mathlib.Core.Path.{sym}
+use lib.Seq.{length-take-le}
+use borrow.Author.Rules.{rules}
+use Rattle.cases.proofs.run_compile.Goals as goal
+
+pub slice_bounds-read_diagram-end-2 : goal.slice_bounds-read_diagram-end-2
+slice_bounds-read_diagram-end-2 c = sym (length-take-le _ _ c.decode-n.ensures)
+
+pub compile-c-requires : goal.compile-c-requires
+compile-c-requires c = c.read_diagram-l.ensures.held c.if-l-eq0.true
