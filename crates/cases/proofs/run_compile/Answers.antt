@@ -1,6 +1,5 @@
 use mathlib.Core.Path.{sym}
 use lib.Seq.{length-take-le}
-use borrow.Author.Rules.{rules}
 use Rattle.cases.proofs.run_compile.Goals as goal
 
 pub slice_bounds-read_diagram-end-2 : goal.slice_bounds-read_diagram-end-2

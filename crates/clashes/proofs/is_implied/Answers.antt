@@ -4,14 +4,12 @@ use Prim.Native.Nat.{◌<◌}
 use mathlib.Core.Bool.{false≢true}
 use mathlib.Core.Path.{◌≡◌}
 use native.Mathlib.Omega.{arith}
-use Rattle.growing.specs.World.{World, target_count}
-use Rattle.growing.specs.Growth.{Nowhere}
+use Rattle.growing.specs.World.{target_count}
 use Rattle.link_search.specs.Nets.{InLimits}
-use Rattle.worlds.specs.Asked.{Solution}
-use Rattle.worlds.specs.Kept.{ColumnsKept, MirrorsKept, RowsKept, Sheet, WholesKept, sheet}
+use Rattle.worlds.specs.Kept.{ColumnsKept, MirrorsKept, RowsKept, WholesKept, sheet}
 use Rattle.clashes.specs.Sources.{SourcesKept}
 use Rattle.clashes.specs.Clashes.{FirstColumn}
-use Rattle.clashes.specs.Refuted.{BitsKept, Refuted, TargetsKept}
+use Rattle.clashes.specs.Refuted.{BitsKept, TargetsKept}
 use Rattle.clashes.proofs.SolutionLaws.{bits-kept, first-column, nowhere-by, sources-kept}
 use Rattle.clashes.proofs.is_implied.Goals as goal
 

@@ -1,7 +1,6 @@
 use native.Mathlib.Omega.{arith}
 use mathlib.Core.Path.{ap, ◌∙◌}
 use lib.ListN.{length, length-drop}
-use borrow.Author.Rules.{rules}
 use Rattle.cases.proofs.rows.print_runs.Goals as goal
 
 pub loop-rest-smaller-then-k-gt2 : goal.loop-rest-smaller-then-k-gt2

@@ -1,20 +1,15 @@
 -- `back::is_bad_first_back` meets its contract: one mirror after the other.
 -- Assumes nothing.
-use Prim.Native.Nat.{◌+◌, ◌-◌, ◌<◌, ℕ}
+use Prim.Native.Nat.{◌+◌, ◌-◌, ℕ}
 use mathlib.Core.Bool.{false≢true}
-use mathlib.Core.List.{List}
 use mathlib.Core.Path.{◌∙◌, refl, sym}
 use native.Mathlib.Omega.{arith}
 use lib.Dec.{eqb}
 use lib.ListN.{get_or}
 use borrow.Author.Tests.{eqb-true}
 use Rattle.laws.proofs.ConnectiveLaws.{and_left, and_right}
-use Rattle.growing.specs.World.{target_count}
-use Rattle.link_search.specs.Nets.{InLimits}
-use Rattle.worlds.specs.Kept.{ColumnsKept, MirrorsKept, RowsKept}
-use Rattle.clashes.specs.Clashes.{FirstTargets, Never}
+use Rattle.worlds.specs.Kept.{ColumnsKept, MirrorsKept}
 use Rattle.clashes.specs.Sources.{SourcesKept}
-use Rattle.clashes.specs.Refuted.{Refuted}
 use Rattle.clashes.proofs.FirstTargetsLaws.{never-left, never-right, targets-refuted}
 use Rattle.clashes.proofs.back.is_bad_first_back.Goals as goal
 

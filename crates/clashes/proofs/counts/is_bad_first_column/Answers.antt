@@ -1,7 +1,6 @@
 -- `counts::is_bad_first_column` meets its contract.
 -- Assumes nothing.
-use Prim.Native.Nat.{◌*◌, ◌+◌, ℕ}
-use mathlib.Core.Path.{◌≡◌}
+use Prim.Native.Nat.{◌+◌, ℕ}
 use native.Mathlib.Omega.{arith}
 use lib.Bits.{bit_and}
 use lib.Dec.{eqb, ltb}
