@@ -22,7 +22,7 @@ pub data Asked : Type 0 where
   by_rule7 : Side → Asked
   kind5 : Asked
 
--- "Each arrow's row in a fixed table says which records come, in order: side 0 by rule 6, side 0 by rule 7; ← side 1,
+-- "Each arrow's row in a fixed table says which records come, in order: → side 0 by rule 6, side 0 by rule 7; ← side 1,
 -- side 1; ↔ side 0 and 1 by rule 6, then kind 5"; by 02 "the compiled row of arrow 4 gains BidiAssoc in the same spot as ↔".
 -- By arrow; none has the number 0.
 abbrev pub arrow_rows : List (List Asked)

@@ -35,11 +35,11 @@ module _ (old d : Diagram) (wo : WfDiagram old) (wd : WfDiagram d) (m : MemoryRe
 
   from_is : (j o : ℕ) → j < 16 → o < m.count → bit (kind_in m o) (get_or x.wholefrom j 0) ≡ both (is_composed old d j) (counts_as old d (association_at d j).left.type (kind_in m o))
   unfolding whole_from
-  from_is j o l b = of.whole_from j (kind_in m o) l (h.known o b)
+  from_is j o l b = of.whole-from j (kind_in m o) l (h.known o b)
 
   to_is : (j o : ℕ) → j < 16 → o < m.count → bit (kind_in m o) (get_or x.wholeto j 0) ≡ both (is_composed old d j) (counts_as old d (association_at d j).right.type (kind_in m o))
   unfolding whole_to
-  to_is j o l b = of.whole_to j (kind_in m o) l (h.known o b)
+  to_is j o l b = of.whole-to j (kind_in m o) l (h.known o b)
 
   link_here : (j o p : ℕ) → j < 16 → is_composed old d j ≡ true → o < m.count → p < m.count
       → (world_of m).link (get_or x.wholeslot j 0) o p ≡ (site_in old m).linked o (association_at d j).right.role p

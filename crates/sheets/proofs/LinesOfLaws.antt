@@ -189,8 +189,8 @@ module _ (old d : StoredDiagram) (held : Held d) where
       mirror-from = λ j t lj lt. set_line (mirrored d.associations.arrows) (λ j. j * 2) (mirrors (arrow j)) (j * 2) j t lt (mirrored-is j) (λ l. refl) (left_below j) ∙ ap (both (is_mirror (diagram_of old) (diagram_of d) j)) (left-type j t);
       mirror-to = λ j t lj lt. set_line (mirrored d.associations.arrows) (λ j. j * 2 + 1) (mirrors (arrow j)) (j * 2 + 1) j t lt (mirrored-is j) (λ l. refl) (right-below j) ∙ ap (both (is_mirror (diagram_of old) (diagram_of d) j)) (right-type j t);
       whole-slot = λ j lj. slot-line (composed d.associations.forms) (λ j. j * 2 + 1) (is_composition (association_at (diagram_of d) j)) (j * 2 + 1) j (composed-is j) (λ l. refl) (right-below j);
-      whole_from = λ j t lj lt. set_line (composed d.associations.forms) (λ j. j * 2) (is_composition (association_at (diagram_of d) j)) (j * 2) j t lt (composed-is j) (λ l. refl) (left_below j) ∙ ap (both (is_composed (diagram_of old) (diagram_of d) j)) (left-type j t);
-      whole_to = λ j t lj lt. set_line (composed d.associations.forms) (λ j. j * 2 + 1) (is_composition (association_at (diagram_of d) j)) (j * 2 + 1) j t lt (composed-is j) (λ l. refl) (right-below j) ∙ ap (both (is_composed (diagram_of old) (diagram_of d) j)) (right-type j t);
+      whole-from = λ j t lj lt. set_line (composed d.associations.forms) (λ j. j * 2) (is_composition (association_at (diagram_of d) j)) (j * 2) j t lt (composed-is j) (λ l. refl) (left_below j) ∙ ap (both (is_composed (diagram_of old) (diagram_of d) j)) (left-type j t);
+      whole-to = λ j t lj lt. set_line (composed d.associations.forms) (λ j. j * 2 + 1) (is_composition (association_at (diagram_of d) j)) (j * 2 + 1) j t lt (composed-is j) (λ l. refl) (right-below j) ∙ ap (both (is_composed (diagram_of old) (diagram_of d) j)) (right-type j t);
     }
 
     pub lines_are : (x : Lines) → x ≡ lines_in sets slots d.associations.arrows d.associations.forms d.associations.lows d.associations.ups d.associations.count

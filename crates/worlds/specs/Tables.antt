@@ -63,8 +63,8 @@ pub record LinesOf (old d : Diagram) (x : Lines) : Type 0 where
   pub mirror-from : (j t : ℕ) → j < 16 → t < length old.types → bit t (get_or x.mirrorfrom j 0) ≡ mirror_from old d j t
   pub mirror-to : (j t : ℕ) → j < 16 → t < length old.types → bit t (get_or x.mirrorto j 0) ≡ mirror_to old d j t
   pub whole-slot : (j : ℕ) → j < 16 → get_or x.wholeslot j 0 ≡ whole_slot old d j
-  pub whole_from : (j t : ℕ) → j < 16 → t < length old.types → bit t (get_or x.wholefrom j 0) ≡ whole_from old d j t
-  pub whole_to : (j t : ℕ) → j < 16 → t < length old.types → bit t (get_or x.wholeto j 0) ≡ whole_to old d j t
+  pub whole-from : (j t : ℕ) → j < 16 → t < length old.types → bit t (get_or x.wholefrom j 0) ≡ whole_from old d j t
+  pub whole-to : (j t : ℕ) → j < 16 → t < length old.types → bit t (get_or x.wholeto j 0) ≡ whole_to old d j t
 
 -- ---- the diagram's own, all together
 
