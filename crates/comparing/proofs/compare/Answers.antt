@@ -24,15 +24,14 @@ pub missing_links-requires : goal.missing_links-requires
 missing_links-requires c = (c.requires.0, c.requires.1)
 
 pub least-requires : goal.least-requires
-least-requires c =
-    (
-      c.requires.0,
-      c.requires.1,
-      ready c.args.old c.args.new c.requires.0 c.due_values-dues.ensures c.rows_by-own.ensures c.narrowed-targets.ensures c.sources_of-sources.ensures c.lines_by-lines.ensures
-          c.usable_types-usable.ensures c.single_types-singles.ensures c.rows_by-other.ensures c.lines_by-lines2.ensures c.single_types-singles2.ensures
-          c.single_missing-missing.ensures c.bad_types.ensures c.missing_links.ensures,
-      few-objects c.args.bound c.at_most_8.result c.at_most_8.ensures,
-    )
+least-requires c = (
+  c.requires.0,
+  c.requires.1,
+  ready c.args.old c.args.new c.requires.0 c.due_values-dues.ensures c.rows_by-own.ensures c.narrowed-targets.ensures c.sources_of-sources.ensures c.lines_by-lines.ensures
+      c.usable_types-usable.ensures c.single_types-singles.ensures c.rows_by-other.ensures c.lines_by-lines2.ensures c.single_types-singles2.ensures
+      c.single_missing-missing.ensures c.bad_types.ensures c.missing_links.ensures,
+  few-objects c.args.bound c.at_most_8.result c.at_most_8.ensures,
+)
 
 pub returns : goal.returns
 returns c =

@@ -33,10 +33,11 @@ loop-t-preserved t c =
     let spare : a.k < a.n = omega (arith, c.requires.4, c.if-k-n.false) in
     let room : a.k < length a.types = omega (arith, sized, spare, c.requires.5) in
     elim c.if-is_fresh.branch [
-      then-is_fresh+else-r w ↦ subst (Tried S 24 a.types a.k a.forb a.n g (u + 1)) (sym w.f-is)
-      (tried-call S 24 a.types a.k a.forb a.n g u f w.with32-f.result small room
-      (blind-later S a.q.seeds a.k c.requires.3 (blind-solution _ a.q a.n c.requires.2))
-      (and_left (bit u g) (not (bit u f)) (sym c.is_fresh.ensures ∙ w.if-is_fresh.true)) c.loop-t.invariant
-      ((subst (λ (ks : List ℕ). Grown S ks (a.k + 1) f a.n w.grow-r.result.ok (world_built a.n w.grow-r.result)) w.put.ensures w.grow-r.ensures).complete w.if-r.false) w.with32-f.ensures)
-    | else-is_fresh w ↦ subst (Tried S 24 a.types a.k a.forb a.n g (u + 1)) (sym w.f-is)
-      (tried-skip S 24 a.types a.k a.forb a.n g u f small (passed_over u g f (sym c.is_fresh.ensures ∙ w.if-is_fresh.false)) c.loop-t.invariant) ]
+      | then-is_fresh+else-r w ↦ subst (Tried S 24 a.types a.k a.forb a.n g (u + 1)) (sym w.f-is)
+          (tried-call S 24 a.types a.k a.forb a.n g u f w.with32-f.result small room
+          (blind-later S a.q.seeds a.k c.requires.3 (blind-solution _ a.q a.n c.requires.2))
+          (and_left (bit u g) (not (bit u f)) (sym c.is_fresh.ensures ∙ w.if-is_fresh.true)) c.loop-t.invariant
+          ((subst (λ (ks : List ℕ). Grown S ks (a.k + 1) f a.n w.grow-r.result.ok (world_built a.n w.grow-r.result)) w.put.ensures w.grow-r.ensures).complete w.if-r.false) w.with32-f.ensures)
+      | else-is_fresh w ↦ subst (Tried S 24 a.types a.k a.forb a.n g (u + 1)) (sym w.f-is)
+          (tried-skip S 24 a.types a.k a.forb a.n g u f small (passed_over u g f (sym c.is_fresh.ensures ∙ w.if-is_fresh.false)) c.loop-t.invariant)
+    ]

@@ -14,13 +14,12 @@ use Rattle.relaxing.proofs.CutLaws.{slotted-unforced, sane-freed, stuck}
 use Rattle.relaxing.proofs.is_stuck.Goals as goal
 
 pub ends-found-requires : goal.ends-found-requires
-ends-found-requires c =
-    (
-      subst Slotted (sym c.without_lows.ensures) (slotted-unforced c.args.lines c.requires.0),
-      subst Sane (sym c.without_least.ensures) (sane-freed c.args.q c.requires.1),
-      c.requires.1.few,
-      c.requires.2,
-    )
+ends-found-requires c = (
+  subst Slotted (sym c.without_lows.ensures) (slotted-unforced c.args.lines c.requires.0),
+  subst Sane (sym c.without_least.ensures) (sane-freed c.args.q c.requires.1),
+  c.requires.1.few,
+  c.requires.2,
+)
 
 pub returns : goal.returns
 returns c =

@@ -21,8 +21,10 @@ pub loop-i-preserved : goal.loop-i-preserved
 loop-i-preserved c = let a = c.args in
     let e = c.is_shown.ensures in (
       omega arith,
-      elim c.if-is_shown.branch [ then-is_shown w ↦ (λ j. ap (bit j) w.mask-is ∙ shown-hit a.images.now (λ i. bit i a.chosen) a.k c.loop-i.i c.loop-i.mask w.with32-mask.result e refl w.if-is_shown.true w.wide.ensures.0 w.byte.ensures w.with32-mask.ensures c.loop-i.invariant.1 j)
-          | else-is_shown w ↦ (λ j. ap (bit j) w.mask-is ∙ shown-miss a.images.now (λ i. bit i a.chosen) a.k c.loop-i.i c.loop-i.mask e refl w.if-is_shown.false c.loop-i.invariant.1 j) ],
+      elim c.if-is_shown.branch [
+        | then-is_shown w ↦ (λ j. ap (bit j) w.mask-is ∙ shown-hit a.images.now (λ i. bit i a.chosen) a.k c.loop-i.i c.loop-i.mask w.with32-mask.result e refl w.if-is_shown.true w.wide.ensures.0 w.byte.ensures w.with32-mask.ensures c.loop-i.invariant.1 j)
+        | else-is_shown w ↦ (λ j. ap (bit j) w.mask-is ∙ shown-miss a.images.now (λ i. bit i a.chosen) a.k c.loop-i.i c.loop-i.mask e refl w.if-is_shown.false c.loop-i.invariant.1 j)
+      ],
     )
 
 pub returns : goal.returns

@@ -18,8 +18,10 @@ loop-t-preserved c =
     let p : ℕ → Bool = λ i. not (good_in a.kinds.now a.count a.index.now a.olds.now a.news.now a.slots.now a.back.now a.types.now a.firsts.now a.m a.n i) in
     let e = ap not c.is_good.ensures in (
       omega arith,
-      elim c.if-not-is_good.branch [ then-not-is_good w ↦ (λ j. ap (bit j) w.mask-is ∙ mask-with p c.loop-t.t c.loop-t.mask w.with32-mask.result c.loop-t.invariant.1 e (ap not w.if-not-is_good.true) w.with32-mask.ensures j)
-          | else-not-is_good w ↦ (λ j. ap (bit j) w.mask-is ∙ mask-miss p c.loop-t.t c.loop-t.mask c.loop-t.invariant.1 e (ap not w.if-not-is_good.false) j) ],
+      elim c.if-not-is_good.branch [
+        | then-not-is_good w ↦ (λ j. ap (bit j) w.mask-is ∙ mask-with p c.loop-t.t c.loop-t.mask w.with32-mask.result c.loop-t.invariant.1 e (ap not w.if-not-is_good.true) w.with32-mask.ensures j)
+        | else-not-is_good w ↦ (λ j. ap (bit j) w.mask-is ∙ mask-miss p c.loop-t.t c.loop-t.mask c.loop-t.invariant.1 e (ap not w.if-not-is_good.false) j)
+      ],
     )
 
 pub returns : goal.returns

@@ -23,10 +23,10 @@ returns-then-has32-is_link c =
     let a = c.args in
     -- what the test in the loop says
     let tested : c.has32.result && c.has32-in-loop-j.result && c.is_link.result ≡ must_whole_by a.lines a.must.now a.types.now a.p a.o c.loop-j.j =
-        ap₂ (λ (x y : Bool). x && y)
-        (ap₂ (λ (x y : Bool). x && y) (c.has32.ensures ∙ ap (λ (t : ℕ). bit t (get_or a.lines.wholefrom c.loop-j.j 0)) c.type_of-whole.ensures.0)
-        (c.has32-in-loop-j.ensures ∙ ap (λ (t : ℕ). bit t (get_or a.lines.wholeto c.loop-j.j 0)) c.type_of-part.ensures.0))
-        c.is_link.ensures in
+    ap₂ (λ (x y : Bool). x && y)
+    (ap₂ (λ (x y : Bool). x && y) (c.has32.ensures ∙ ap (λ (t : ℕ). bit t (get_or a.lines.wholefrom c.loop-j.j 0)) c.type_of-whole.ensures.0)
+    (c.has32-in-loop-j.ensures ∙ ap (λ (t : ℕ). bit t (get_or a.lines.wholeto c.loop-j.j 0)) c.type_of-part.ensures.0))
+    c.is_link.ensures in
     let q = must_whole_by a.lines a.must.now a.types.now a.p a.o in
     any_found q 16 c.loop-j.j c.loop-j-test.true tested c.if-has32-is_link.true
 
@@ -35,10 +35,10 @@ loop-j-preserved c =
     let a = c.args in
     -- what the test in the loop says
     let tested : c.has32.result && c.has32-in-loop-j.result && c.is_link.result ≡ must_whole_by a.lines a.must.now a.types.now a.p a.o c.loop-j.j =
-        ap₂ (λ (x y : Bool). x && y)
-        (ap₂ (λ (x y : Bool). x && y) (c.has32.ensures ∙ ap (λ (t : ℕ). bit t (get_or a.lines.wholefrom c.loop-j.j 0)) c.type_of-whole.ensures.0)
-        (c.has32-in-loop-j.ensures ∙ ap (λ (t : ℕ). bit t (get_or a.lines.wholeto c.loop-j.j 0)) c.type_of-part.ensures.0))
-        c.is_link.ensures in
+    ap₂ (λ (x y : Bool). x && y)
+    (ap₂ (λ (x y : Bool). x && y) (c.has32.ensures ∙ ap (λ (t : ℕ). bit t (get_or a.lines.wholefrom c.loop-j.j 0)) c.type_of-whole.ensures.0)
+    (c.has32-in-loop-j.ensures ∙ ap (λ (t : ℕ). bit t (get_or a.lines.wholeto c.loop-j.j 0)) c.type_of-part.ensures.0))
+    c.is_link.ensures in
     let q = must_whole_by a.lines a.must.now a.types.now a.p a.o in
     (omega arith, any_next q c.loop-j.j c.loop-j.invariant.1 tested c.if-has32-is_link.false)
 

@@ -30,9 +30,12 @@ loop-j-preserved c =
     let a = c.args in
     let P : World → Type 0 = λ w. SourcesKept a.sources.now w × ColumnsKept a.lines w in (
       omega arith,
-      elim c.if-low-gt0.branch [ then-low-gt0+else-wish w ↦ subst (Sharpens P a.s a.best) (sym w.wish-is)
-          (sharp-trans a.s a.best c.loop-j.wish w.with_column-wish.result c.loop-j.invariant.1
-          (columns-sharp a.s a.sources.now c.loop-j.wish w.with_column-wish.result a.lines c.loop-j.j c.loop-j-test.true w.with_column-wish.ensures)) | else-low-gt0 w ↦ subst (Sharpens P a.s a.best) (sym w.wish-is) c.loop-j.invariant.1 ],
+      elim c.if-low-gt0.branch [
+        | then-low-gt0+else-wish w ↦ subst (Sharpens P a.s a.best) (sym w.wish-is)
+            (sharp-trans a.s a.best c.loop-j.wish w.with_column-wish.result c.loop-j.invariant.1
+            (columns-sharp a.s a.sources.now c.loop-j.wish w.with_column-wish.result a.lines c.loop-j.j c.loop-j-test.true w.with_column-wish.ensures))
+        | else-low-gt0 w ↦ subst (Sharpens P a.s a.best) (sym w.wish-is) c.loop-j.invariant.1
+      ],
     )
 
 pub returns : goal.returns

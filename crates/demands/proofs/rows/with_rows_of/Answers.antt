@@ -18,10 +18,13 @@ loop-i-preserved c =
     let a = c.args in
     let P = RowsOpen a.targets.now a.lows.now a.highs.now a.shut.now in (
       omega arith,
-      elim c.if-low-gt0.branch [ then-low-gt0 w ↦ subst (Sharpens P a.s a.best) (sym w.wish-is)
-          (sharp-trans a.s a.best c.loop-i.wish w.with_limits-wish.result c.loop-i.invariant.1
-          (row-sharp a.targets.now a.lows.now a.highs.now a.shut.now a.s c.requires.0 a.o c.loop-i.i c.rows_at-x.result (c.wide-y.result * 32 + c.loop-i.i) c.requires.1 c.loop-i-test.true c.rows_at-x.ensures.0
-          (omega (arith, c.wide-y.ensures.0)) c.loop-i.wish w.with_limits-wish.result w.with_limits-wish.ensures)) | else-low-gt0 w ↦ subst (Sharpens P a.s a.best) (sym w.wish-is) c.loop-i.invariant.1 ],
+      elim c.if-low-gt0.branch [
+        | then-low-gt0 w ↦ subst (Sharpens P a.s a.best) (sym w.wish-is)
+            (sharp-trans a.s a.best c.loop-i.wish w.with_limits-wish.result c.loop-i.invariant.1
+            (row-sharp a.targets.now a.lows.now a.highs.now a.shut.now a.s c.requires.0 a.o c.loop-i.i c.rows_at-x.result (c.wide-y.result * 32 + c.loop-i.i) c.requires.1 c.loop-i-test.true c.rows_at-x.ensures.0
+            (omega (arith, c.wide-y.ensures.0)) c.loop-i.wish w.with_limits-wish.result w.with_limits-wish.ensures))
+        | else-low-gt0 w ↦ subst (Sharpens P a.s a.best) (sym w.wish-is) c.loop-i.invariant.1
+      ],
     )
 
 pub returns : goal.returns

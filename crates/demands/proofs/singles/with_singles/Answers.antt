@@ -21,10 +21,13 @@ loop-t-preserved c =
     let a = c.args in
     let P = SinglesKept a.singles in (
       omega arith,
-      elim c.if-has32.branch [ then-has32 w ↦ let e = missing-single a.s.types a.s.k a.singles a.here c.without-missing.result c.loop-t.t c.requires c.without-missing.ensures (sym c.has32.ensures ∙ w.if-has32.true) in
-          subst (Sharpens P a.s a.best) (sym w.wish-is)
-          (sharp-trans a.s a.best c.loop-t.wish w.with_need-wish.result c.loop-t.invariant.1
-          (single-sharp a.s a.singles c.loop-t.t c.loop-t-test.true e.0 e.1 c.loop-t.wish w.with_need-wish.result w.with32.result w.with32.ensures w.with_need-wish.ensures)) | else-has32 w ↦ subst (Sharpens P a.s a.best) (sym w.wish-is) c.loop-t.invariant.1 ],
+      elim c.if-has32.branch [
+        | then-has32 w ↦ let e = missing-single a.s.types a.s.k a.singles a.here c.without-missing.result c.loop-t.t c.requires c.without-missing.ensures (sym c.has32.ensures ∙ w.if-has32.true) in
+            subst (Sharpens P a.s a.best) (sym w.wish-is)
+            (sharp-trans a.s a.best c.loop-t.wish w.with_need-wish.result c.loop-t.invariant.1
+            (single-sharp a.s a.singles c.loop-t.t c.loop-t-test.true e.0 e.1 c.loop-t.wish w.with_need-wish.result w.with32.result w.with32.ensures w.with_need-wish.ensures))
+        | else-has32 w ↦ subst (Sharpens P a.s a.best) (sym w.wish-is) c.loop-t.invariant.1
+      ],
     )
 
 pub returns : goal.returns

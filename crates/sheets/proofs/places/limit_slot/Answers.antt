@@ -36,16 +36,22 @@ pub loop-t-preserved : goal.loop-t-preserved
 loop-t-preserved c = let a = c.args in
     let e = c.is_among.ensures in (
       omega arith,
-      elim c.if-is_among.branch [ then-is_among w ↦ subst (λ (r : List ℕ). Stepped (λ m. max m a.low) a.set a.s (c.loop-t.t + 1) a.lows.now r) (sym w.lows-is)
-          (stepped-hit (λ m. max m a.low) a.set a.s a.lows.now c.loop-t.t c.loop-t.lows (w.wide.result * 32 + w.wide-then-is_among.result) w.larger-m.result (omega arith) e w.if-is_among.true (cc) w.larger-m.ensures c.loop-t.invariant.1) | else-is_among w ↦ subst (λ (r : List ℕ). Stepped (λ m. max m a.low) a.set a.s (c.loop-t.t + 1) a.lows.now r) (sym w.lows-is)
-          (stepped-miss (λ m. max m a.low) a.set a.s a.lows.now c.loop-t.t c.loop-t.lows e w.if-is_among.false c.loop-t.invariant.1) ],
-      elim c.if-is_among.branch [ then-is_among w ↦ subst (λ (r : List ℕ). Stepped (λ m. min m a.high) a.set a.s (c.loop-t.t + 1) a.highs.now r) (sym w.highs-is)
-          (stepped-hit (λ m. min m a.high) a.set a.s a.highs.now c.loop-t.t c.loop-t.highs (w.wide.result * 32 + w.wide-then-is_among.result) w.smaller-n.result (omega arith) e w.if-is_among.true (cc) w.smaller-n.ensures c.loop-t.invariant.2) | else-is_among w ↦ subst (λ (r : List ℕ). Stepped (λ m. min m a.high) a.set a.s (c.loop-t.t + 1) a.highs.now r) (sym w.highs-is)
-          (stepped-miss (λ m. min m a.high) a.set a.s a.highs.now c.loop-t.t c.loop-t.highs e w.if-is_among.false c.loop-t.invariant.2) ],
+      elim c.if-is_among.branch [
+        | then-is_among w ↦ subst (λ (r : List ℕ). Stepped (λ m. max m a.low) a.set a.s (c.loop-t.t + 1) a.lows.now r) (sym w.lows-is)
+            (stepped-hit (λ m. max m a.low) a.set a.s a.lows.now c.loop-t.t c.loop-t.lows (w.wide.result * 32 + w.wide-then-is_among.result) w.larger-m.result (omega arith) e w.if-is_among.true (cc) w.larger-m.ensures c.loop-t.invariant.1)
+        | else-is_among w ↦ subst (λ (r : List ℕ). Stepped (λ m. max m a.low) a.set a.s (c.loop-t.t + 1) a.lows.now r) (sym w.lows-is)
+            (stepped-miss (λ m. max m a.low) a.set a.s a.lows.now c.loop-t.t c.loop-t.lows e w.if-is_among.false c.loop-t.invariant.1)
+      ],
+      elim c.if-is_among.branch [
+        | then-is_among w ↦ subst (λ (r : List ℕ). Stepped (λ m. min m a.high) a.set a.s (c.loop-t.t + 1) a.highs.now r) (sym w.highs-is)
+            (stepped-hit (λ m. min m a.high) a.set a.s a.highs.now c.loop-t.t c.loop-t.highs (w.wide.result * 32 + w.wide-then-is_among.result) w.smaller-n.result (omega arith) e w.if-is_among.true (cc) w.smaller-n.ensures c.loop-t.invariant.2)
+        | else-is_among w ↦ subst (λ (r : List ℕ). Stepped (λ m. min m a.high) a.set a.s (c.loop-t.t + 1) a.highs.now r) (sym w.highs-is)
+            (stepped-miss (λ m. min m a.high) a.set a.s a.highs.now c.loop-t.t c.loop-t.highs e w.if-is_among.false c.loop-t.invariant.2)
+      ],
     )
 
 pub returns : goal.returns
 returns c = let a = c.args in (
-      stepped-done (λ m. max m a.low) a.set a.s a.lows.now a.k c.loop-t.t c.loop-t.lows c.loop-t.invariant.0 (search rules) c.loop-t.invariant.1,
-      stepped-done (λ m. min m a.high) a.set a.s a.highs.now a.k c.loop-t.t c.loop-t.highs c.loop-t.invariant.0 (search rules) c.loop-t.invariant.2,
-    )
+  stepped-done (λ m. max m a.low) a.set a.s a.lows.now a.k c.loop-t.t c.loop-t.lows c.loop-t.invariant.0 (search rules) c.loop-t.invariant.1,
+  stepped-done (λ m. min m a.high) a.set a.s a.highs.now a.k c.loop-t.t c.loop-t.highs c.loop-t.invariant.0 (search rules) c.loop-t.invariant.2,
+)

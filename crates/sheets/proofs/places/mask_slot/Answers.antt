@@ -29,9 +29,12 @@ loop-t-preserved c = let a = c.args in
     let e = c.is_among.ensures in
     let f : ℕ → ℕ = λ m. bit_and (bit_or m a.more) a.keep in (
       omega arith,
-      elim c.if-is_among.branch [ then-is_among w ↦ subst (λ (r : List ℕ). Stepped f a.set a.s (c.loop-t.t + 1) a.masks.now r) (sym w.masks-is)
-          (stepped-hit f a.set a.s a.masks.now c.loop-t.t c.loop-t.masks (w.wide.result * 32 + w.wide-then-is_among.result) (f (get_or c.loop-t.masks (w.wide.result * 32 + w.wide-then-is_among.result) 0)) (omega arith) e w.if-is_among.true (cc) refl c.loop-t.invariant.1) | else-is_among w ↦ subst (λ (r : List ℕ). Stepped f a.set a.s (c.loop-t.t + 1) a.masks.now r) (sym w.masks-is)
-          (stepped-miss f a.set a.s a.masks.now c.loop-t.t c.loop-t.masks e w.if-is_among.false c.loop-t.invariant.1) ],
+      elim c.if-is_among.branch [
+        | then-is_among w ↦ subst (λ (r : List ℕ). Stepped f a.set a.s (c.loop-t.t + 1) a.masks.now r) (sym w.masks-is)
+            (stepped-hit f a.set a.s a.masks.now c.loop-t.t c.loop-t.masks (w.wide.result * 32 + w.wide-then-is_among.result) (f (get_or c.loop-t.masks (w.wide.result * 32 + w.wide-then-is_among.result) 0)) (omega arith) e w.if-is_among.true (cc) refl c.loop-t.invariant.1)
+        | else-is_among w ↦ subst (λ (r : List ℕ). Stepped f a.set a.s (c.loop-t.t + 1) a.masks.now r) (sym w.masks-is)
+            (stepped-miss f a.set a.s a.masks.now c.loop-t.t c.loop-t.masks e w.if-is_among.false c.loop-t.invariant.1)
+      ],
     )
 
 pub returns : goal.returns

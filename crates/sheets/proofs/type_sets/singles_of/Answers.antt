@@ -16,8 +16,10 @@ loop-t-preserved c = let a = c.args in
     let p = single_in a.kinds.now in
     let e = c.is_single.ensures in (
       omega arith,
-      elim c.if-is_single.branch [ then-is_single w ↦ (λ j. ap (bit j) w.mask-is ∙ mask-with p c.loop-t.t c.loop-t.mask w.with32-mask.result c.loop-t.invariant.1 e w.if-is_single.true w.with32-mask.ensures j)
-          | else-is_single w ↦ (λ j. ap (bit j) w.mask-is ∙ mask-miss p c.loop-t.t c.loop-t.mask c.loop-t.invariant.1 e w.if-is_single.false j) ],
+      elim c.if-is_single.branch [
+        | then-is_single w ↦ (λ j. ap (bit j) w.mask-is ∙ mask-with p c.loop-t.t c.loop-t.mask w.with32-mask.result c.loop-t.invariant.1 e w.if-is_single.true w.with32-mask.ensures j)
+        | else-is_single w ↦ (λ j. ap (bit j) w.mask-is ∙ mask-miss p c.loop-t.t c.loop-t.mask c.loop-t.invariant.1 e w.if-is_single.false j)
+      ],
     )
 
 pub returns : goal.returns

@@ -16,8 +16,10 @@ loop-t-preserved c = let a = c.args in
     let p = usable_in a.kinds.now a.dues.now in
     let e = c.is_usable.ensures in (
       omega arith,
-      elim c.if-is_usable.branch [ then-is_usable w ↦ (λ j. ap (bit j) w.mask-is ∙ mask-with p c.loop-t.t c.loop-t.mask w.with32-mask.result c.loop-t.invariant.1 e w.if-is_usable.true w.with32-mask.ensures j)
-          | else-is_usable w ↦ (λ j. ap (bit j) w.mask-is ∙ mask-miss p c.loop-t.t c.loop-t.mask c.loop-t.invariant.1 e w.if-is_usable.false j) ],
+      elim c.if-is_usable.branch [
+        | then-is_usable w ↦ (λ j. ap (bit j) w.mask-is ∙ mask-with p c.loop-t.t c.loop-t.mask w.with32-mask.result c.loop-t.invariant.1 e w.if-is_usable.true w.with32-mask.ensures j)
+        | else-is_usable w ↦ (λ j. ap (bit j) w.mask-is ∙ mask-miss p c.loop-t.t c.loop-t.mask c.loop-t.invariant.1 e w.if-is_usable.false j)
+      ],
     )
 
 pub returns : goal.returns
