@@ -19,7 +19,7 @@ use Rattle.worlds.specs.Kept.{Allowed, RowsKept, Sheet}
 use Rattle.worlds.specs.Asked.{Breaks}
 use Rattle.queries.specs.Avoided.{LinksAvoided, LoopsAvoided, RowsAvoided}
 use Rattle.queries.proofs.BreakLaws.{Throughout, breaks-last}
-use Rattle.aims.specs.Rows.{AllLinksAvoided, HighsKept, LowsKept, RowKept, RowWithin, RowsWithin, RowTargetsKept}
+use Rattle.aims.specs.Rows.{AllLinksAvoided, HighsKept, LowsKept, RowKept, RowWithin, RowTargetsKept}
 
 -- c holds the types of both masks; m the type t alone; d the types of a without those of b
 abbrev pub Common : ℕ → ℕ → ℕ → Type 0
@@ -215,12 +215,3 @@ module _ (x : Sheet) (n : ℕ) (targets lows highs : List ℕ) where
     low-kept = low-none x n i lows k.low w h z;
     high-kept = high-none x n i highs k.high w h z;
   }
-
-  -- the rows below `from` are kept, and so are those up to the next one
-  pub rows_on : (from to : ℕ) → ((i : ℕ) → i < from → Throughout x (RowKept targets lows highs i) n) → RowsWithin x.targets x.lows x.highs targets lows highs from to
-      → (i : ℕ) → i < to → Throughout x (RowKept targets lows highs i) n
-  rows_on from to f k i l = go (leb from i) refl
-    where
-      go : (b : Bool) → leb from i ≡ b → Throughout x (RowKept targets lows highs i) n
-      go true e = row_kept i (k.each i (leb-true from i e) l)
-      go false e = f i (leb-false from i e)

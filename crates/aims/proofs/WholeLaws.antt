@@ -20,7 +20,7 @@ use Rattle.worlds.specs.Kept.{Sheet, WholesKept, whole_by, whole_of}
 use Rattle.worlds.specs.Asked.{Breaks}
 use Rattle.queries.specs.Avoided.{OwnPartsAvoided, PartsAvoided}
 use Rattle.queries.proofs.BreakLaws.{Throughout, breaks-last}
-use Rattle.aims.specs.Wholes.{AllPartsAvoided, PairApart, PairEmpty, PairsEmpty}
+use Rattle.aims.specs.Wholes.{AllPartsAvoided, PairApart, PairEmpty}
 use Rattle.aims.proofs.RowLaws.{Common}
 
 -- ---- a target of two: they are others, or the first is the target itself, or the second is
@@ -177,18 +177,9 @@ module _ (from to : List ℕ) (i : ℕ) where
   }
 
 module _ (x : Sheet) (n : ℕ) (others : Lines) where
-  pair-empty : (i : ℕ) → PairEmpty others.wholefrom others.wholeto i → Throughout x (PairApart others i) n
+  pub pair-empty : (i : ℕ) → PairEmpty others.wholefrom others.wholeto i → Throughout x (PairApart others i) n
   pair-empty i k w h _ = record {
     at = λ p o r _ _ _ _ l e f.
         k.at l (w.kind p) (w.kind o) (w.kind r) (whole_from others w p o (i / 16) e) (whole_from others w p r (i % 16) f) (whole_to others w p o (i / 16) e)
         (whole_to others w p r (i % 16) f);
   }
-
-  -- the pairs below `start` are apart, and so are those up to the next one
-  pub pairs-on : (start next : ℕ) → ((i : ℕ) → i < start → Throughout x (PairApart others i) n) → PairsEmpty others.wholefrom others.wholeto start next
-      → (i : ℕ) → i < next → Throughout x (PairApart others i) n
-  pairs-on start next f k i l = go (leb start i) refl
-    where
-      go : (b : Bool) → leb start i ≡ b → Throughout x (PairApart others i) n
-      go true e = pair-empty i (k.each i (leb-true start i e) l)
-      go false e = f i (leb-false start i e)

@@ -30,9 +30,3 @@ pub record RowWithin (targets lows highs targets2 lows2 highs2 : List ℕ) (i : 
   pub target : (j : ℕ) → bit j (get_or targets i 0) ≡ true → bit j (get_or targets2 i 0) ≡ true
   pub low : get_or lows2 i 0 ≤ get_or lows i 0
   pub high : get_or highs i 0 ≤ get_or highs2 i 0
-
--- so it is from one row on, up to another
-pub record RowsWithin (targets lows highs targets2 lows2 highs2 : List ℕ) (from to : ℕ) : Type 0 where
-  pub past : from ≤ to
-  pub few : to ≤ 768
-  pub each : (i : ℕ) → from ≤ i → i < to → RowWithin targets lows highs targets2 lows2 highs2 i

@@ -20,9 +20,3 @@ pub record PairApart (x : Lines) (i : ℕ) (w : World) : Type 0 where
 pub record PairEmpty (from to : List ℕ) (i : ℕ) : Type 0 where
   pub at : i / 16 ≤ i % 16 → (t u v : ℕ) → bit u (get_or from (i / 16) 0) ≡ true → bit v (get_or from (i % 16) 0) ≡ true
       → bit t (get_or to (i / 16) 0) ≡ true → bit t (get_or to (i % 16) 0) ≡ true → ⊥
-
--- so it is from one pair on, up to another
-pub record PairsEmpty (from to : List ℕ) (i k : ℕ) : Type 0 where
-  pub past : i ≤ k
-  pub few : k ≤ 256
-  pub each : (j : ℕ) → i ≤ j → j < k → PairEmpty from to j

@@ -1,66 +1,40 @@
 // Singletons: each type of the other diagram's set has exactly one object. Those that are singletons anyway need no search.
-ghost use Rattle.std.specs.Prelude.{◌<◌, ◌≤◌};
-ghost use Rattle.worlds.specs.Kept.{SinglesKept, Slotted, SourceTable, sheet};
+ghost use Rattle.std.specs.Prelude.{◌<◌, ◌≤◌, is_some};
+ghost use Rattle.worlds.specs.Kept.{Coherent, SinglesKept, sheet_of};
 ghost use Rattle.worlds.specs.Asked.{Breaks, world_built};
 ghost use Rattle.aims.specs.Singles.{SingleKept};
 
 use crate::asks::{ask_absent, ask_pairs};
-use worlds::{Built, Lines, nothing};
+use laws::Mask;
+use worlds::{Site, Tables};
 
 // A world with no object of type t, or two.
-fn find_single<'a>(
-    targets: &'a [u32; 768],
-    sources: &'a [u32; 768],
-    lows: &'a [u8; 768],
-    highs: &'a [u8; 768],
-    lines: Lines,
-    usable: u32,
-    singles: u32,
-    t: u32,
-    others: u32,
-    n: u8,
-) -> Built
-    requires { Slotted lines × SourceTable targets.now sources.now × (n ≤ 8) × (t < 24) }
-    ensures { Breaks (sheet usable singles targets.now lows.now highs.now lines) (SingleKept others t) n result.ok (world_built n result) }
+fn find_single(tables: &Tables, t: u32, others: u32, n: u8) -> Option<Site>
+    requires { Coherent tables.now × (n ≤ 8) × (t < 24) }
+    ensures { Breaks (sheet_of tables.now) (SingleKept others t) n (is_some result) (world_built n result) }
 {
-    if !laws::has32(others, t) {
-        return nothing();
+    if !others.has(t) {
+        return None;
     }
-    if laws::has32(singles, t) {
-        return nothing();
+    if tables.singles.has(t) {
+        return None;
     }
     let a = queries::only(t);
-    let r = ask_absent(targets, sources, lows, highs, lines, usable, singles, a, n);
-    if r.ok {
-        return r;
+    if let Some(site) = ask_absent(tables, a, n) {
+        return Some(site);
     }
-    ask_pairs(targets, sources, lows, highs, lines, usable, singles, a, n)
+    ask_pairs(tables, a, n)
 }
 
 // A world with no object of a type of the set, or two.
-pub fn find_singles<'a>(
-    targets: &'a [u32; 768],
-    sources: &'a [u32; 768],
-    lows: &'a [u8; 768],
-    highs: &'a [u8; 768],
-    lines: Lines,
-    usable: u32,
-    singles: u32,
-    others: u32,
-    n: u8,
-) -> Built
-    requires { Slotted lines × SourceTable targets.now sources.now × (n ≤ 8) }
-    ensures { Breaks (sheet usable singles targets.now lows.now highs.now lines) (SinglesKept others) n result.ok (world_built n result) }
+pub fn find_singles(tables: &Tables, others: u32, n: u8) -> Option<Site>
+    requires { Coherent tables.now × (n ≤ 8) }
+    ensures { Breaks (sheet_of tables.now) (SinglesKept others) n (is_some result) (world_built n result) }
 {
-    let mut t: u32 = 0;
-    while t < 24 {
-        let r = find_single(
-            targets, sources, lows, highs, lines, usable, singles, t, others, n,
-        );
-        if r.ok {
-            return r;
+    for t in 0u32..24 {
+        if let Some(site) = find_single(tables, t, others, n) {
+            return Some(site);
         }
-        t += 1;
     }
-    nothing()
+    None
 }

@@ -1,4 +1,4 @@
-// What the arrow of an association says of the links of its two roles.
+// What the arrow of an association, by its number in the diagram file, says of the links of its two roles.
 #![tactic(auto)]
 
 ghost use Rattle.std.specs.Prelude.{◌≡◌};

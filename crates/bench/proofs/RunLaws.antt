@@ -11,7 +11,7 @@ use Rattle.steps.specs.Row.{Row}
 use Rattle.steps.specs.Step.{Step}
 use Rattle.bench.specs.Calls.{Valid}
 use Rattle.bench.specs.Runs.{Did, Made, ReachedIn, Run, RunsRow, RunsValid, after, event_of, events_of, listed, replied}
-use Rattle.bench.specs.View.{bench_of, diagram_in, fresh_in, no_place, no_witness, witness_in}
+use Rattle.bench.specs.View.{bench_of, fresh_in}
 use Rattle.bench.specs.declared.Bench.{Bench}
 use Rattle.bench.proofs.PartLaws.{valid-fresh}
 
@@ -47,7 +47,7 @@ run-valid b (m ∷ ms) last v r = run-valid (after m) ms last (made-valid b m r.
 -- ---- from the fresh bench
 
 pub fresh-stands : bench_of fresh_in ≡ abstract.fresh
-unfolding bench_of diagram_in witness_in no_place no_witness
+unfolding bench_of
 fresh-stands = refl
 
 pub runs-valid : RunsValid

@@ -1,39 +1,45 @@
 -- What a call on the bench in memory promises: what 01 says of it (`Step`), what stays of the bench byte for byte, and that the
 -- bench it leaves is again a valid one.
 -- Assumes nothing.
-use Rattle.std.specs.Prelude.{◌≤◌, ℕ, false, true, List, [], ◌≡◌, replicate}
+use Rattle.std.specs.Prelude.{◌≤◌, ℕ, false, true, List, [], ◌≡◌, replicate, Option, IfSome, IsSome, Result, IfOk}
+use Rattle.fields.specs.Refusal.{answer_of}
+use Rattle.fields.specs.declared.Refusal.{Refusal}
+use Rattle.diagrams.specs.declared.StoredDiagram.{StoredDiagram}
 use Rattle.diagrams.specs.Held.{Held}
 use Rattle.diagrams.specs.View.{diagram_of}
 use Rattle.records.specs.Written.{Within}
 use Rattle.steps.specs.Bench as abstract
 use Rattle.steps.specs.Bench.{Call, is_refusal}
 use Rattle.steps.specs.Effect.{changes, new_place, old_place, witness}
-use Rattle.steps.specs.Step.{Step}
-use Rattle.bench.specs.View.{bench_of, no_place, no_witness, pick, reply_of}
+use Rattle.steps.specs.Step.{Step, diagram_at}
+use Rattle.bench.specs.View.{bench_of, names_of, pick, reply_of}
 use Rattle.bench.specs.declared.Bench.{Bench}
 use Rattle.bench.specs.declared.Listed.{Listed}
-use Rattle.bench.specs.declared.Place.{Place}
 use Rattle.bench.specs.declared.Replied.{Replied}
 use Rattle.bench.specs.declared.Witness.{Witness}
 
 -- ---- the invariant, part by part: "A bench is the fresh one or one that a call returned."
 
--- a place holds a diagram that was read, or is the empty one
-pub record ValidPlace (x : Place) : Type 0 where
-  pub held : x.loaded ≡ true → Held x.diagram
-  pub empty : x.loaded ≡ false → x ≡ no_place
+-- a place holds a diagram that was read, or is empty
+abbrev pub ValidPlace : Option StoredDiagram → Type 0
+ValidPlace x = IfSome x Held
 
--- a witness has an index of the diagram in its place for everything, or is none
-pub record ValidWitness (old new : Place) (w : Witness) : Type 0 where
-  pub whose : w.stored ≡ true → w.place ≤ 1
-  pub ready : w.stored ≡ true → (pick w.place old new).loaded ≡ true
-  pub within : w.stored ≡ true → Within (diagram_of (pick w.place old new).diagram) w.found
-  pub none : w.stored ≡ false → w ≡ no_witness
+-- a witness has an index of the diagram in its place for everything
+pub record ValidWitness (old new : Option StoredDiagram) (w : Witness) : Type 0 where
+  pub whose : w.place ≤ 1
+  pub ready : IsSome (pick w.place old new)
+  pub within : Within (names_of (pick w.place old new)) w.found
 
 pub record Valid (b : Bench) : Type 0 where
   pub old : ValidPlace b.old
   pub new : ValidPlace b.new
-  pub witness : ValidWitness b.old b.new b.witness
+  pub witness : IfSome b.witness (ValidWitness b.old b.new)
+
+-- ---- the diagram in place p, which a call needs
+
+pub record Finds (b : Bench) (p : ℕ) (r : Result StoredDiagram Refusal) : Type 0 where
+  pub says : answer_of diagram_of r ≡ diagram_at (bench_of b) p
+  pub held : IfOk r Held
 
 -- ---- what stays: each part that the call does not change, and all where it is refused
 

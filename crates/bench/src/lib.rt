@@ -1,23 +1,17 @@
 // The bench: two places for diagrams, old and new, and at most one witness; and its calls.
 #![tactic(auto)]
 
-ghost use Rattle.std.specs.Prelude.{[], ◌≡◌, ◌<◌};
+ghost use Rattle.std.specs.Prelude.{[], ◌≡◌};
 ghost use Rattle.steps.specs.Bench.{Load, Clear, Judge, Compile, Evaluate, Compare, HandOut, LoadText};
-ghost use Rattle.bench.specs.View.{fresh_in, no_place, no_witness, place_in, place_no, settled_in, with_witness_in};
-ghost use Rattle.bench.specs.Calls.{Does, DoesWith, Valid};
+ghost use Rattle.bench.specs.View.{fresh_in, place_in, replied_by, settled_in};
+ghost use Rattle.bench.specs.Calls.{Does, DoesWith, Finds, Valid};
 
 use diagrams::StoredDiagram;
+use fields::Refusal;
 use records::MemoryRecord;
 
 #[derive(Clone, Copy)]
-pub struct Place {
-    pub loaded: bool,
-    pub diagram: StoredDiagram,
-}
-
-#[derive(Clone, Copy)]
 pub struct Witness {
-    pub stored: bool,
     // The place of the diagram whose indices the record has.
     pub place: u8,
     pub found: MemoryRecord,
@@ -25,9 +19,9 @@ pub struct Witness {
 
 #[derive(Clone, Copy)]
 pub struct Bench {
-    pub old: Place,
-    pub new: Place,
-    pub witness: Witness,
+    pub old: Option<StoredDiagram>,
+    pub new: Option<StoredDiagram>,
+    pub witness: Option<Witness>,
 }
 
 #[derive(Clone, Copy)]
@@ -39,7 +33,7 @@ pub enum Reply {
     NoDifference,
     Difference(u8),
     Written(usize),
-    Refused(u8),
+    Refused(Refusal),
 }
 
 #[derive(Clone, Copy)]
@@ -58,76 +52,68 @@ pub struct Listed {
 
 // ---- parts
 
-fn empty_place() -> Place
-    ensures { result ≡ no_place }
-{
-    Place {
-        loaded: false,
-        diagram: diagrams::empty_diagram(),
-    }
-}
-
-fn no_witness() -> Witness
-    ensures { result ≡ no_witness }
-{
-    Witness {
-        stored: false,
-        place: 0,
-        found: records::empty_record(),
-    }
-}
-
 pub fn fresh() -> Bench
     ensures { (result ≡ fresh_in) × Valid result }
 {
     Bench {
-        old: empty_place(),
-        new: empty_place(),
-        witness: no_witness(),
+        old: None,
+        new: None,
+        witness: None,
     }
 }
 
 // Place p is x, and the witness is dropped.
-fn settle(b: Bench, p: u8, x: Place) -> Bench
+fn settle(b: Bench, p: u8, x: Option<StoredDiagram>) -> Bench
     ensures { result ≡ settled_in b p x }
 {
-    let mut c = b;
-    c.witness = no_witness();
+    let witness = None;
     if p == 0 {
-        c.old = x;
+        Bench {
+            old: x,
+            witness,
+            ..b
+        }
     } else {
-        c.new = x;
+        Bench {
+            new: x,
+            witness,
+            ..b
+        }
     }
-    c
-}
-
-// The witness is w.
-fn with_witness(b: Bench, w: Witness) -> Bench
-    ensures { result ≡ with_witness_in b w }
-{
-    let mut c = b;
-    c.witness = w;
-    c
 }
 
 // What place p holds.
-fn place_of(b: Bench, p: u8) -> Place
+fn place_of(b: Bench, p: u8) -> Option<StoredDiagram>
     ensures { result ≡ place_in b p }
 {
     if p == 0 { b.old } else { b.new }
 }
 
-// The refusal of a call that needs place p, by whether that is loaded, or 0.
-fn place_no(p: u8, loaded: bool) -> u8
-    ensures { result ≡ place_no p loaded }
+// The diagram in place p, which a call needs.
+fn diagram_at(b: Bench, p: u8) -> Result<StoredDiagram, Refusal>
+    requires { Valid b }
+    ensures { Finds b p result }
 {
     if 1 < p {
-        return 10;
+        return Err(Refusal::Place);
     }
-    if loaded { 0 } else { 21 }
+    place_of(b, p).ok_or(Refusal::Empty)
 }
 
-// ---- calls
+// What a call gave, or its refusal and the bench as it came.
+fn or_refused(b: Bench, r: Result<Replied, Refusal>) -> Replied
+    ensures { result ≡ replied_by b r }
+{
+    match r {
+        Ok(replied) => replied,
+        Err(refusal) => Replied {
+            bench: b,
+            reply: Reply::Refused(refusal),
+        },
+    }
+}
+
+// ---- calls, each with what it gives where it is not refused
 
 impl Bench {
     // The place holds the diagram of the file, and the witness is dropped.
@@ -135,28 +121,21 @@ impl Bench {
         requires { Valid self }
         ensures { Does self (Load place file.now) result [] }
     {
+        or_refused(self, self.loaded(place, file))
+    }
+
+    fn loaded(self, place: u8, file: &[u8]) -> Result<Replied, Refusal>
+        requires { Valid self }
+        ensures { Does self (Load place file.now) (replied_by self result) [] }
+    {
         if 1 < place {
-            return Replied {
-                bench: self,
-                reply: Reply::Refused(10),
-            };
+            return Err(Refusal::Place);
         }
-        let l = loading::read_diagram(file);
-        if l.no != 0 {
-            return Replied {
-                bench: self,
-                reply: Reply::Refused(l.no),
-            };
-        }
-        let diagram = l.diagram;
-        let x = Place {
-            loaded: true,
-            diagram,
-        };
-        Replied {
-            bench: settle(self, place, x),
+        let d = loading::read_diagram(file)?;
+        Ok(Replied {
+            bench: settle(self, place, Some(d)),
             reply: Reply::Done,
-        }
+        })
     }
 
     // The place is empty, and the witness is dropped.
@@ -164,16 +143,20 @@ impl Bench {
         requires { Valid self }
         ensures { Does self (Clear place) result [] }
     {
+        or_refused(self, self.cleared(place))
+    }
+
+    fn cleared(self, place: u8) -> Result<Replied, Refusal>
+        requires { Valid self }
+        ensures { Does self (Clear place) (replied_by self result) [] }
+    {
         if 1 < place {
-            return Replied {
-                bench: self,
-                reply: Reply::Refused(10),
-            };
+            return Err(Refusal::Place);
         }
-        Replied {
-            bench: settle(self, place, empty_place()),
+        Ok(Replied {
+            bench: settle(self, place, None),
             reply: Reply::Done,
-        }
+        })
     }
 
     // 0, or the lowest rule that the record breaks.
@@ -181,25 +164,19 @@ impl Bench {
         requires { Valid self }
         ensures { Does self (Judge place file.now) result [] }
     {
-        let x = place_of(self, place);
-        let no = place_no(place, x.loaded);
-        if no != 0 {
-            return Replied {
-                bench: self,
-                reply: Reply::Refused(no),
-            };
-        }
-        let j = judging::judge(x.diagram, file);
-        if j.no != 0 {
-            return Replied {
-                bench: self,
-                reply: Reply::Refused(j.no),
-            };
-        }
-        Replied {
+        or_refused(self, self.judged(place, file))
+    }
+
+    fn judged(self, place: u8, file: &[u8]) -> Result<Replied, Refusal>
+        requires { Valid self }
+        ensures { Does self (Judge place file.now) (replied_by self result) [] }
+    {
+        let d = diagram_at(self, place)?;
+        let rule = judging::judge(d, file)?;
+        Ok(Replied {
             bench: self,
-            reply: Reply::Rule(j.rule),
-        }
+            reply: Reply::Rule(rule),
+        })
     }
 
     // The compiled records and their number.
@@ -207,22 +184,21 @@ impl Bench {
         requires { Valid self }
         ensures { DoesWith self (Compile place) result }
     {
-        let x = place_of(self, place);
-        let no = place_no(place, x.loaded);
-        if no != 0 {
-            return Listed {
+        match diagram_at(self, place) {
+            Ok(d) => {
+                let c = compiling::compile(d);
+                let list = c.list;
+                Listed {
+                    bench: self,
+                    reply: Reply::Records(c.number as u8),
+                    list,
+                }
+            }
+            Err(refusal) => Listed {
                 bench: self,
-                reply: Reply::Refused(no),
-                list: [0u8; 320],
-            };
-        }
-        let c = compiling::compile(x.diagram);
-        let number = c.number as u8;
-        let list = c.list;
-        Listed {
-            bench: self,
-            reply: Reply::Records(number),
-            list,
+                reply: Reply::Refused(refusal),
+                list: [0; 320],
+            },
         }
     }
 
@@ -231,26 +207,19 @@ impl Bench {
         requires { Valid self }
         ensures { Does self (Evaluate place file.now) result [] }
     {
-        let x = place_of(self, place);
-        let no = place_no(place, x.loaded);
-        if no != 0 {
-            return Replied {
-                bench: self,
-                reply: Reply::Refused(no),
-            };
-        }
-        let v = evaluating::evaluate(x.diagram, file);
-        if v.no != 0 {
-            return Replied {
-                bench: self,
-                reply: Reply::Refused(v.no),
-            };
-        }
-        let first = v.first as u8;
-        Replied {
+        or_refused(self, self.evaluated(place, file))
+    }
+
+    fn evaluated(self, place: u8, file: &[u8]) -> Result<Replied, Refusal>
+        requires { Valid self }
+        ensures { Does self (Evaluate place file.now) (replied_by self result) [] }
+    {
+        let d = diagram_at(self, place)?;
+        let first = evaluating::evaluate(d, file)?;
+        Ok(Replied {
             bench: self,
-            reply: Reply::FirstFalse(first),
-        }
+            reply: Reply::FirstFalse(first as u8),
+        })
     }
 
     // Whether some record of at most `bound` objects is legal for old and illegal for new; the witness is stored or dropped.
@@ -258,44 +227,33 @@ impl Bench {
         requires { Valid self }
         ensures { Does self (Compare bound) result [] }
     {
+        or_refused(self, self.compared(bound))
+    }
+
+    fn compared(self, bound: u8) -> Result<Replied, Refusal>
+        requires { Valid self }
+        ensures { Does self (Compare bound) (replied_by self result) [] }
+    {
         if 8 < bound {
-            return Replied {
-                bench: self,
-                reply: Reply::Refused(9),
-            };
+            return Err(Refusal::Bound);
         }
-        let x = self.old;
-        let y = self.new;
-        if !x.loaded {
-            return Replied {
-                bench: self,
-                reply: Reply::Refused(21),
-            };
+        let old = diagram_at(self, 0)?;
+        let new = diagram_at(self, 1)?;
+        if let Some(found) = comparing::compare(old, new, bound) {
+            let witness = Some(Witness { place: 0, found });
+            return Ok(Replied {
+                bench: Bench { witness, ..self },
+                reply: Reply::Difference(found.count as u8),
+            });
         }
-        if !y.loaded {
-            return Replied {
-                bench: self,
-                reply: Reply::Refused(21),
-            };
-        }
-        let f = comparing::compare(x.diagram, y.diagram, bound);
-        if f.ok {
-            let found = f.witness;
-            let count = found.count as u8;
-            let w = Witness {
-                stored: true,
-                place: 0,
-                found,
-            };
-            return Replied {
-                bench: with_witness(self, w),
-                reply: Reply::Difference(count),
-            };
-        }
-        Replied {
-            bench: with_witness(self, no_witness()),
+        let none = None;
+        Ok(Replied {
+            bench: Bench {
+                witness: none,
+                ..self
+            },
             reply: Reply::NoDifference,
-        }
+        })
     }
 
     // The witness as a record file at the front of the buffer.
@@ -303,25 +261,25 @@ impl Bench {
         requires { Valid self }
         ensures { Does self (HandOut out.old) result out.new }
     {
-        let w = self.witness;
-        if !w.stored {
-            return Replied {
-                bench: self,
-                reply: Reply::Refused(22),
-            };
-        }
+        or_refused(self, self.handed_out(out))
+    }
+
+    fn handed_out(self, out: &mut [u8]) -> Result<Replied, Refusal>
+        requires { Valid self }
+        ensures { Does self (HandOut out.old) (replied_by self result) out.new }
+    {
+        let Some(w) = self.witness else {
+            return Err(Refusal::NoWitness);
+        };
         if out.len() < 60000 {
-            return Replied {
-                bench: self,
-                reply: Reply::Refused(20),
-            };
+            return Err(Refusal::Buffer);
         }
-        let x = place_of(self, w.place);
-        let n = writing::write_record(x.diagram, w.found, out);
-        Replied {
+        let d = place_of(self, w.place).unwrap();
+        let n = writing::write_record(d, w.found, out);
+        Ok(Replied {
             bench: self,
             reply: Reply::Written(n),
-        }
+        })
     }
 
     // The place holds the diagram of the text, and the witness is dropped.
@@ -329,27 +287,20 @@ impl Bench {
         requires { Valid self }
         ensures { Does self (LoadText place text.now) result [] }
     {
+        or_refused(self, self.loaded_text(place, text))
+    }
+
+    fn loaded_text(self, place: u8, text: &[u8]) -> Result<Replied, Refusal>
+        requires { Valid self }
+        ensures { Does self (LoadText place text.now) (replied_by self result) [] }
+    {
         if 1 < place {
-            return Replied {
-                bench: self,
-                reply: Reply::Refused(10),
-            };
+            return Err(Refusal::Place);
         }
-        let t = text_loading::read_text(text);
-        if t.no != 0 {
-            return Replied {
-                bench: self,
-                reply: Reply::Refused(t.no),
-            };
-        }
-        let diagram = t.diagram;
-        let y = Place {
-            loaded: true,
-            diagram,
-        };
-        Replied {
-            bench: settle(self, place, y),
+        let declared = text_loading::read_text(text)?;
+        Ok(Replied {
+            bench: settle(self, place, Some(declared)),
             reply: Reply::Done,
-        }
+        })
     }
 }

@@ -8,19 +8,16 @@ use bench::{Bench, Replied, Reply};
 // A colon, and bytes as pairs of hexadecimal digits, each behind a blank.
 fn print_bytes(file: &[u8]) {
     io::write_all(STDOUT, b":");
-    let mut i = 0;
-    while i < file.len() {
+    for b in file {
         io::write_all(STDOUT, b" ");
-        io::print_hex(STDOUT, laws::byte(file, i) as u64, 2);
-        i += 1;
+        io::print_hex(STDOUT, u64::from(*b), 2);
     }
 }
 
-// The number in a reply: a rule, an object count or a length; 0 where there is none.
+// The number in a reply: a rule or a length; 0 where there is none.
 fn number_in(r: Reply) -> usize {
     match r {
-        Reply::Rule(n) => laws::wide(n),
-        Reply::Difference(n) => laws::wide(n),
+        Reply::Rule(n) => usize::from(n),
         Reply::Written(n) => n,
         _ => 0,
     }
@@ -28,28 +25,15 @@ fn number_in(r: Reply) -> usize {
 
 // Whether a load was accepted.
 fn is_done(r: Reply) -> bool {
-    match r {
-        Reply::Done => true,
-        _ => false,
-    }
-}
-
-// Whether compare found a difference.
-fn is_difference(r: Reply) -> bool {
-    match r {
-        Reply::Difference(n) => true,
-        _ => false,
-    }
+    matches!(r, Reply::Done)
 }
 
 // A file's length, and the lowest rule that it breaks under the old and under the new diagram.
 fn print_witness(b: Bench, file: &[u8])
     requires { Valid b }
 {
-    let j = b.judge(0, file);
-    let k = b.judge(1, file);
-    let old = j.reply;
-    let new = k.reply;
+    let old = b.judge(0, file).reply;
+    let new = b.judge(1, file).reply;
     io::write_all(STDOUT, b", ");
     io::print_decimal(STDOUT, file.len() as u64);
     io::write_all(STDOUT, b" bytes, old ");
@@ -63,16 +47,14 @@ fn print_difference(b: Bench, bound: u8, bytes: bool, space: &mut [u8])
     requires { Valid b }
 {
     let c = b.compare(bound);
-    let reply = c.reply;
-    if !is_difference(reply) {
+    let Reply::Difference(n) = c.reply else {
         io::write_all(STDOUT, b"no difference");
         return;
-    }
+    };
     io::write_all(STDOUT, b"difference ");
-    io::print_decimal(STDOUT, number_in(reply) as u64);
+    io::print_decimal(STDOUT, u64::from(n));
     let found = c.bench;
-    let h = found.hand_out(space);
-    let written = h.reply;
+    let written = found.hand_out(space).reply;
     let file = laws::front(space, number_in(written));
     print_witness(found, file);
     if bytes {
@@ -119,13 +101,9 @@ fn load(b: Bench, place: u8, s: &[u8], space: &mut [u8]) -> Replied
 pub fn run_compare(line: &[u8], at: usize, bytes: bool, space: &mut [u8]) {
     let files = behind(line);
     let b = bench::fresh();
-    let l = load(b, 0, ahead(files), space);
-    let old = l.bench;
-    let old_reply = l.reply;
-    let r = load(old, 1, behind(files), space);
-    let both = r.bench;
-    let new_reply = r.reply;
-    if is_done(old_reply) & is_done(new_reply) {
-        print_reply(line, at, both, bytes, space);
+    let old = load(b, 0, ahead(files), space);
+    let new = load(old.bench, 1, behind(files), space);
+    if is_done(old.reply) & is_done(new.reply) {
+        print_reply(line, at, new.bench, bytes, space);
     }
 }

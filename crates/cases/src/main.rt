@@ -10,6 +10,8 @@ mod rows; // rows.rt: a row of calls
 ghost use Rattle.std.specs.Prelude.{◌<◌, ◌≤◌, length};
 ghost use Rattle.diagrams.specs.Held.{Held};
 
+use fields::Refusal;
+
 // Where the replies go.
 const STDOUT: i32 = 1;
 
@@ -32,33 +34,23 @@ fn room() -> [u8; 65536] {
 fn before(s: &[u8], b: u8) -> usize
     ensures { result ≤ length s.now }
 {
-    let mut i = 0;
-    while i < s.len() {
+    for i in 0..s.len() {
         if s[i] == b {
             return i;
         }
-        i += 1;
     }
-    i
+    s.len()
 }
 
 // What a hexadecimal digit stands for; 0 for any other byte.
 fn digit(b: u8) -> u8
     ensures { result < 16 }
 {
-    if b < 48 {
-        return 0;
+    match b {
+        b'0'..=b'9' => b - b'0',
+        b'A'..=b'F' => b - b'A' + 10,
+        _ => 0,
     }
-    if b <= 57 {
-        return b - 48;
-    }
-    if b < 65 {
-        return 0;
-    }
-    if b <= 70 {
-        return b - 55;
-    }
-    0
 }
 
 fn pair(high: u8, low: u8) -> u8 {
@@ -69,8 +61,7 @@ fn pair(high: u8, low: u8) -> u8 {
 fn pairs(s: &[u8], out: &[u8]) -> usize
     ensures { (result ≤ length out.now) × (result ≤ length s.now) }
 {
-    let n = s.len() / 3;
-    if n < out.len() { n } else { out.len() }
+    (s.len() / 3).min(out.len())
 }
 
 // The bytes of a row of pairs at the front of out; how many they are.
@@ -79,12 +70,9 @@ fn decode(s: &[u8], out: &mut [u8]) -> usize
 {
     let n = pairs(s, out);
     let mut t = s;
-    let mut i = 0;
-    while i < n {
+    for i in 0..n {
         out[i] = pair(laws::byte(t, 1), laws::byte(t, 2));
-        let next = laws::past(t, 3);
-        t = next;
-        i += 1;
+        t = laws::past(t, 3);
     }
     n
 }
@@ -98,6 +86,14 @@ fn say(what: &[u8], line: &[u8], at: usize, reply: u8) {
     io::write_all(STDOUT, b"\n");
 }
 
+// A refusal's number, 0 where there is none.
+fn number<T: Copy>(r: Result<T, Refusal>) -> u8 {
+    match r {
+        Ok(_) => 0,
+        Err(refusal) => refusal.number(),
+    }
+}
+
 // A diagram file, and its refusal, 0 where it is accepted.
 fn run_diagram(line: &[u8], at: usize, space: &mut [u8]) {
     let n = decode(laws::past(laws::past(line, at), 1), space);
@@ -105,27 +101,32 @@ fn run_diagram(line: &[u8], at: usize, space: &mut [u8]) {
         b"diagram, ",
         line,
         at,
-        loading::read_diagram(&space[..n]).no,
+        number(loading::read_diagram(&space[..n])),
     );
 }
 
 // A record file, and its refusal, 0 where it is accepted.
 fn run_record(line: &[u8], at: usize, space: &mut [u8]) {
     let n = decode(laws::past(laws::past(line, at), 1), space);
-    say(b"record, ", line, at, checking::check_record(&space[..n]));
+    say(
+        b"record, ",
+        line,
+        at,
+        number(checking::check_record(&space[..n])),
+    );
 }
 
 // The replies of judge and evaluate to a record file under a diagram.
 fn reply(line: &[u8], at: usize, d: diagrams::StoredDiagram, file: &[u8])
     requires { Held d }
 {
-    let j = judging::judge(d, file);
-    let v = evaluating::evaluate(d, file);
-    say(b"judge, ", line, at, j.rule);
+    let rule = judging::judge(d, file).unwrap_or(0);
+    let first = evaluating::evaluate(d, file).unwrap_or(0);
+    say(b"judge, ", line, at, rule);
     io::write_all(STDOUT, b"evaluate, ");
     io::write_all(STDOUT, laws::past(laws::front(line, at), 2));
     io::write_all(STDOUT, b": ");
-    io::print_decimal(STDOUT, v.first as u64);
+    io::print_decimal(STDOUT, first as u64);
     io::write_all(STDOUT, b"\n");
 }
 
@@ -137,9 +138,7 @@ fn run_site(line: &[u8], at: usize, space: &mut [u8], other: &mut [u8]) {
         space,
     );
     let k = decode(laws::past(laws::past(line, slash), 1), other);
-    let l = loading::read_diagram(&space[..n]);
-    if l.no == 0 {
-        let d = l.diagram;
+    if let Ok(d) = loading::read_diagram(&space[..n]) {
         reply(line, at, d, &other[..k]);
     }
 }
@@ -148,32 +147,23 @@ fn run_site(line: &[u8], at: usize, space: &mut [u8], other: &mut [u8]) {
 fn print_entry(list: [u8; 320], k: usize)
     requires { k < 64 }
 {
-    let mut j = 0;
-    while j < 5 {
+    for n in &list[k * 5..k * 5 + 5] {
         io::write_all(STDOUT, b" ");
-        io::print_decimal(STDOUT, list[k * 5 + j] as u64);
-        j += 1;
+        io::print_decimal(STDOUT, u64::from(*n));
     }
 }
 
 // The entries of a compiled list.
 fn print_entries(list: [u8; 320], number: usize) {
-    let mut k = 0;
-    while k < 64 {
-        if number <= k {
-            return;
-        }
+    for k in 0..number.min(64) {
         print_entry(list, k);
-        k += 1;
     }
 }
 
 // A diagram file, the number of its compiled predicates, and their bytes.
 fn run_compile(line: &[u8], at: usize, space: &mut [u8]) {
     let n = decode(laws::past(laws::past(line, at), 1), space);
-    let l = loading::read_diagram(&space[..n]);
-    if l.no == 0 {
-        let d = l.diagram;
+    if let Ok(d) = loading::read_diagram(&space[..n]) {
         let c = compiling::compile(d);
         io::write_all(STDOUT, b"compile, ");
         io::write_all(STDOUT, laws::past(laws::front(line, at), 2));
@@ -189,33 +179,15 @@ fn run_compile(line: &[u8], at: usize, space: &mut [u8]) {
 // compare (F), where there is only one witness also for its bytes (W), or a row of calls (B).
 fn run(line: &[u8], space: &mut [u8], other: &mut [u8], replies: &mut [u8]) {
     let at = before(line, 58);
-    let kind = laws::byte(line, 0);
-    if kind == 68 {
-        run_diagram(line, at, space);
-        return;
-    }
-    if kind == 82 {
-        run_record(line, at, space);
-        return;
-    }
-    if kind == 67 {
-        run_compile(line, at, space);
-        return;
-    }
-    if kind == 74 {
-        run_site(line, at, space, other);
-        return;
-    }
-    if kind == 70 {
-        differences::run_compare(line, at, false, space);
-        return;
-    }
-    if kind == 87 {
-        differences::run_compare(line, at, true, space);
-        return;
-    }
-    if kind == 66 {
-        rows::run_row(line, at, space, replies);
+    match laws::byte(line, 0) {
+        b'D' => run_diagram(line, at, space),
+        b'R' => run_record(line, at, space),
+        b'C' => run_compile(line, at, space),
+        b'J' => run_site(line, at, space, other),
+        b'F' => differences::run_compare(line, at, false, space),
+        b'W' => differences::run_compare(line, at, true, space),
+        b'B' => rows::run_row(line, at, space, replies),
+        _ => {}
     }
 }
 
@@ -225,8 +197,7 @@ fn run_all(text: &[u8], space: &mut [u8], other: &mut [u8], replies: &mut [u8]) 
     while 0 < rest.len() {
         let k = before(rest, 10);
         run(laws::front(rest, k), space, other, replies);
-        let next = laws::past(laws::past(rest, k), 1);
-        rest = next;
+        rest = laws::past(laws::past(rest, k), 1);
     }
 }
 

@@ -5,25 +5,19 @@ ghost use Rattle.std.specs.Prelude.{◌≤◌, length};
 use crate::{STDOUT, decode};
 
 fn cover(out: &mut [u8]) {
-    let mut i = 0;
-    while i < out.len() {
-        out[i] = 238;
-        i += 1;
-    }
+    out.fill(238);
 }
 
 // How many bytes at the front are b.
 fn alike(s: &[u8], b: u8) -> usize
     ensures { result ≤ length s.now }
 {
-    let mut i = 0;
-    while i < s.len() {
+    for i in 0..s.len() {
         if s[i] != b {
             return i;
         }
-        i += 1;
     }
-    i
+    s.len()
 }
 
 fn print_runs(s: &[u8]) {
@@ -37,8 +31,7 @@ fn print_runs(s: &[u8]) {
         if 2 < k {
             io::write_all(STDOUT, b"*");
             io::print_decimal(STDOUT, alike(rest, b) as u64);
-            let next = laws::past(behind, k);
-            rest = next;
+            rest = laws::past(behind, k);
         } else {
             rest = behind;
         }

@@ -1,2 +1,3 @@
+pub mod CheckLaws
 pub mod SeenLaws
 pub mod ReadingLaws

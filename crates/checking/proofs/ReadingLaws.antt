@@ -1,23 +1,25 @@
 -- A loop over the fields of a record file: what is known between two fields, and one law for each way on and out.
 -- Assumes nothing.
-use Prim.Native.Nat.{◌<◌, ◌≤◌, suc, zero, ℕ}
+use Prim.Native.Nat.{◌<◌, suc, zero, ℕ}
 use native.Mathlib.Omega.{arith}
 use mathlib.Core.Bool.{Bool, cond, false, not, true}
 use mathlib.Core.List.{List}
 use mathlib.Core.Path.{◌∙◌, ◌≡◌, ap, refl, sym}
 use lib.Dec.{eqb}
-use lib.ListN.{drop, length, length-drop, take}
-use borrow.Author.Rules.{rules}
+use lib.ListN.{length, take}
 use Rattle.laws.specs.Connective.{refuse}
 use Rattle.files.specs.Content.{byte}
-use Rattle.files.specs.Field.{Rows, end, row, rows}
+use Rattle.files.specs.Field.{Rows, cut, end, row, rows}
 use Rattle.files.specs.Record.{Record, no_record, object_count}
-use Rattle.files.specs.RecordFile.{read_record, record_from, record_refusal, record_with}
+use Rattle.files.specs.RecordFile.{read_record, record_from, record_with}
 use Rattle.files.specs.Refusal.{Answer, accepted, or_refused, refusal_of, refused}
-use Rattle.fields.specs.Head.{head_of}
-use Rattle.fields.specs.declared.Head.{Head}
-use Rattle.fields.specs.declared.Head.TheVariants.{Cut, Whole}
-use Rattle.fields.proofs.HeadLaws.{rows_cut, rows_end, rows_whole}
+use Rattle.std.specs.Prelude.{Result, IsErrAnd}
+use Rattle.fields.specs.Field.{AtFront}
+use Rattle.fields.specs.Refusal.{number_of, refusal_number}
+use Rattle.fields.specs.declared.Field.{Field}
+use Rattle.fields.specs.declared.Refusal.{Refusal}
+use Rattle.fields.specs.declared.Refusal.TheVariants.{Cut}
+use Rattle.fields.proofs.RefusalLaws.{numbered, passed-number}
 use Rattle.checking.specs.declared.Progress.{Progress}
 use Rattle.checking.specs.Progress.{counted, end_no, field_no}
 use Rattle.checking.proofs.SeenLaws.{Seen, field-refusal, keeps, seen_nothing}
@@ -34,13 +36,6 @@ unfolding read_record
 reading-begin file p q =
     rw (p, q) (record { so_far = no_record; seen = seen_nothing; same = refl })
 
--- a field less is left
-pub reading-less : (rest : List ℕ) (h : Head) (t n : ℕ) {rest' : List ℕ} → h ≡ head_of rest → h ≡ Whole t n → rest' ≡ drop n (drop 3 rest)
-    → length rest' < length rest
-reading-less rest h t n head whole e =
-    let fits = (rows_whole rest t n (sym head ∙ whole)).fits in
-    omega (arith, ap length e, length-drop n (drop 3 rest), length-drop 3 rest)
-
 module _ (file : List ℕ) (s : Progress) (v k rest : List ℕ) (at : Reading file s v k rest) where
   -- ---- nothing is left
 
@@ -54,50 +49,46 @@ module _ (file : List ℕ) (s : Progress) (v k rest : List ℕ) (at : Reading fi
       go false true = refl
       go false false = refl
 
-  pub reading-end : {no : ℕ} → length rest ≤ 0 → no ≡ end_no s → no ≡ refusal_of (read_record file)
-  reading-end h e =
-      e ∙ sym (at.same ∙ ap (λ (w : Rows). refusal_of (record_from s.last s.count at.so_far w)) (rows_end rest h)
-      ∙ end-refusal at.so_far at.seen.objects)
+  from : (x : Rows) → rows rest ≡ x → refusal_of (read_record file) ≡ refusal_of (record_from s.last s.count at.so_far x)
+  from x h = at.same ∙ ap (λ (w : Rows). refusal_of (record_from s.last s.count at.so_far w)) h
+
+  pub reading-end : {no : ℕ} → rows rest ≡ end → no ≡ end_no s → no ≡ refusal_of (read_record file)
+  reading-end h e = e ∙ sym (from end h ∙ end-refusal at.so_far at.seen.objects)
 
   -- ---- the field passes the end
 
-  pub reading-cut : (h : Head) → 0 < length rest → h ≡ head_of rest → h ≡ Cut → 1 ≡ refusal_of (read_record file)
+  pub reading-cut : {T : Type 0} (y : Refusal) (r : Result T Refusal) → (rows rest ≡ cut) × (y ≡ Cut) → IsErrAnd r (λ z. z ≡ y) → refusal_number r ≡ refusal_of (read_record file)
   unfolding record_from refusal_of
-  reading-cut h l is e =
-      sym (at.same ∙ ap (λ (w : Rows). refusal_of (record_from s.last s.count at.so_far w)) (rows_cut rest l (sym is ∙ e)))
+  reading-cut y r h q = passed-number r y q ∙ ap number_of h.1 ∙ sym (from cut h.0)
 
   -- ---- a whole field
 
-  module _ (h : Head) (t n : ℕ) (c : List ℕ) (no : ℕ) (head : h ≡ head_of rest) (whole : h ≡ Whole t n) (is : c ≡ take n (drop 3 rest)) (e : no ≡ field_no s v k t c) where
-    refusal_is : record_refusal s.last s.count at.so_far t c ≡ no
-    refusal_is = sym (e ∙ field-refusal s v k at.so_far at.seen t c)
+  module _ (f : Field) (front : AtFront rest f) where
+    later : Answer Record
+    later = record_from f.tag (cond (eqb f.tag 0x60) (byte f.content.now 0) s.count) (record_with at.so_far f.tag f.content.now) (rows f.rest.now)
 
-    step : refusal_of (read_record file)
-        ≡ refusal_of (or_refused no (record_from t (cond (eqb t 0x60) (byte c 0) s.count) (record_with at.so_far t c) (rows (drop n (drop 3 rest)))))
-    unfolding record_from
-    step =
-        at.same
-        ∙ ap (λ (w : Rows). refusal_of (record_from s.last s.count at.so_far w)) ((rows_whole rest t n (sym head ∙ whole)).is ∙ ap (λ (x : List ℕ). row t x (rows (drop n (drop 3 rest)))) (sym is))
-        ∙ ap (λ (m : ℕ). refusal_of (or_refused m (record_from t (cond (eqb t 0x60) (byte c 0) s.count) (record_with at.so_far t c) (rows (drop n (drop 3 rest)))))) refusal_is
+    step : (m : ℕ) → m ≡ field_no s v k f.tag f.content.now → refusal_of (read_record file) ≡ refusal_of (or_refused m later)
+    unfolding record_from later
+    step m e =
+        from (row f.tag f.content.now (rows f.rest.now)) front.is
+        ∙ ap (λ (n : ℕ). refusal_of (or_refused n later)) (sym (e ∙ field-refusal s v k at.so_far at.seen f.tag f.content.now))
 
-    pub reading-refused : (no ≡ 0 → ⊥) → no ≡ refusal_of (read_record file)
+    pub reading-refused : {T : Type 0} (y : Refusal) (r : Result T Refusal) → number_of y ≡ field_no s v k f.tag f.content.now → IsErrAnd r (λ z. z ≡ y)
+        → refusal_number r ≡ refusal_of (read_record file)
     unfolding refusal_of or_refused
-    reading-refused ne = sym (step ∙ go no ne _)
+    reading-refused y r e q = passed-number r y q ∙ sym (step (number_of y) e ∙ go (number_of y) (numbered y) later)
       where
-        go : (m : ℕ) → (m ≡ 0 → ⊥) → (a : Answer Record) → refusal_of (or_refused m a) ≡ m
-        go zero f a = absurd (f refl)
-        go (suc m) f a = refl
+        go : (m : ℕ) → 0 < m → (a : Answer Record) → refusal_of (or_refused m a) ≡ m
+        go zero h a = absurd (omega arith)
+        go (suc m) h a = refl
 
-    pub reading-on : {s' : Progress} {v' k' rest' : List ℕ} → no ≡ 0 → s' ≡ counted s t c → v' ≡ cond (eqb t 0x62) c v → k' ≡ cond (eqb t 0x63) c k
-        → rest' ≡ drop n (drop 3 rest) → Reading file s' v' k' rest'
-    unfolding counted or_refused
-    reading-on z es ev ek er =
-        rw (es, ev, ek, er)
+    pub reading-on : {s' : Progress} {v' k' : List ℕ} → 0 ≡ field_no s v k f.tag f.content.now → s' ≡ counted s f.tag f.content.now
+        → v' ≡ cond (eqb f.tag 0x62) f.content.now v → k' ≡ cond (eqb f.tag 0x63) f.content.now k → Reading file s' v' k' f.rest.now
+    unfolding counted or_refused later
+    reading-on z es ev ek =
+        rw (es, ev, ek)
         (record {
-          so_far = record_with at.so_far t c;
-          seen = keeps s v k at.so_far c t at.seen (refusal_is ∙ z);
-          same = step ∙ ap (λ (m : ℕ). refusal_of (or_refused m (record_from t (cond (eqb t 0x60) (byte c 0) s.count) (record_with at.so_far t c) (rows (drop n (drop 3 rest)))))) z;
+          so_far = record_with at.so_far f.tag f.content.now;
+          seen = keeps s v k at.so_far f.content.now f.tag at.seen (sym (z ∙ field-refusal s v k at.so_far at.seen f.tag f.content.now));
+          same = step 0 z;
         })
-
--- for `search`
-pub ruleset reading = (rules, reading-begin, reading-less, reading-end, reading-cut, reading-refused, reading-on)

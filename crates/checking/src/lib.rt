@@ -1,13 +1,15 @@
 // The reader of record files that keeps nothing of them but the answer. A record here holds names, and no diagram is asked.
 #![tactic(auto)]
 
-ghost use Rattle.std.specs.Prelude.{◌≡◌, cond, ◌≤◌, eqb, get_or};
-ghost use Rattle.laws.specs.Bounded.{one};
-ghost use Rattle.laws.specs.Connective.{imp, refuse};
+ghost use Rattle.std.specs.Prelude.{◌≡◌, cond, ◌≤◌, ltb};
+ghost use Rattle.laws.specs.Connective.{both};
+ghost use Rattle.fields.specs.Refusal.{refusal_number};
 ghost use Rattle.files.specs.RecordFile.{count_refusal, link_before, read_record, record_tags, value_before};
 ghost use Rattle.files.specs.RecordLayout.{link_of, value_of};
 ghost use Rattle.files.specs.Refusal.{misplaced, refusal_of};
 ghost use Rattle.checking.specs.Progress.{counted, end_no, field_no, link_no, object_no, value_no};
+
+use fields::Refusal;
 
 // What the fields so far left: the last tag (0 before the first field), the count of 0x60, and how many of each have come.
 #[derive(Clone, Copy)]
@@ -21,28 +23,7 @@ pub struct Progress {
 
 // ---- small parts
 
-// The refusal n where the test holds, else what the later tests say.
-fn refuse_if(test: bool, n: u8, rest: u8) -> u8
-    ensures { result ≡ refuse test n rest }
-{
-    if test { n } else { rest }
-}
-
-// Where a holds, b does.
-fn implies(a: bool, b: bool) -> bool
-    ensures { result ≡ imp a b }
-{
-    if a { b } else { true }
-}
-
-// 1 for a test that holds, else 0.
-fn one(b: bool) -> u8
-    ensures { (result ≡ one b) × (result ≤ 1) }
-{
-    if b { 1 } else { 0 }
-}
-
-// The content a where the test holds, else b.
+// The content a where the test holds, else b. The last value and link are no Options: the counts say whether there is one.
 fn choose<'a>(test: bool, a: &'a [u8], b: &'a [u8]) -> &'a [u8]
     ensures { result.now ≡ cond test a.now b.now }
 {
@@ -77,7 +58,7 @@ fn link_before(a: &[u8], b: &[u8]) -> bool
     (x < y) | ((x == y) & (fields::name_before(v, w) | (fields::same_name(v, w) & (i < j))))
 }
 
-// ---- the refusal of a field, or 0
+// ---- the refusal of a field
 
 // A tag of no record file, falling, 0x60 again, or the first one another than 0x60.
 fn misplaced(last: u8, tag: u8) -> bool
@@ -87,98 +68,138 @@ fn misplaced(last: u8, tag: u8) -> bool
         | ((tag < last) | (((tag == 0x60) & !(last == 0)) | ((last == 0) & !(tag == 0x60))))
 }
 
-// 0x60, object count.
-fn count_no(c: &[u8]) -> u8
-    ensures { result ≡ count_refusal c.now }
+// The objects at both ends are below the count.
+fn ends_known(count: u8, c: &[u8]) -> bool
+    ensures { result ≡ both (ltb (link_of c.now).from count) (ltb (link_of c.now).to count) }
 {
-    refuse_if(!layouts::count_laid(c), 3, 0)
+    (laws::byte(c, 0) < count) & (laws::byte(fields::past_name(laws::past(c, 1)), 0) < count)
+}
+
+// 0x60, object count.
+fn check_count(c: &[u8]) -> Result<(), Refusal>
+    ensures { refusal_number result ≡ count_refusal c.now }
+{
+    if !layouts::count_laid(c) {
+        return Err(Refusal::Layout);
+    }
+    Ok(())
 }
 
 // 0x61, object.
-fn object_no(count: u8, objects: u8, c: &[u8]) -> u8
-    ensures { result ≡ object_no count objects c.now }
+fn check_object(count: u8, objects: u8, c: &[u8]) -> Result<(), Refusal>
+    ensures { refusal_number result ≡ object_no count objects c.now }
 {
-    let laid = layouts::object_laid(c);
-    refuse_if(count <= objects, 4, refuse_if(!laid, 3, 0))
+    if count <= objects {
+        return Err(Refusal::Count);
+    }
+    if !layouts::object_laid(c) {
+        return Err(Refusal::Layout);
+    }
+    Ok(())
 }
 
 // 0x62, value; p is the content of the one before, if there is one.
-fn value_no(count: u8, values: usize, p: &[u8], c: &[u8]) -> u8
-    ensures { result ≡ value_no count values p.now c.now }
+fn check_value(count: u8, values: usize, p: &[u8], c: &[u8]) -> Result<(), Refusal>
+    ensures { refusal_number result ≡ value_no count values p.now c.now }
 {
-    let laid = layouts::value_laid(c);
-    let rises = implies(0 < values, value_before(p, c));
-    let known = laws::byte(c, 0) < count;
-    let later = refuse_if(!rises, 5, refuse_if(!known, 6, 0));
-    refuse_if(256 <= values, 4, refuse_if(!laid, 3, later))
+    if 256 <= values {
+        return Err(Refusal::Count);
+    }
+    if !layouts::value_laid(c) {
+        return Err(Refusal::Layout);
+    }
+    if (0 < values) & !value_before(p, c) {
+        return Err(Refusal::Order);
+    }
+    if count <= laws::byte(c, 0) {
+        return Err(Refusal::Unknown);
+    }
+    Ok(())
 }
 
 // 0x63, link; p is the content of the one before, if there is one.
-fn link_no(count: u8, links: usize, p: &[u8], c: &[u8]) -> u8
-    ensures { result ≡ link_no count links p.now c.now }
+fn check_link(count: u8, links: usize, p: &[u8], c: &[u8]) -> Result<(), Refusal>
+    ensures { refusal_number result ≡ link_no count links p.now c.now }
 {
-    let from = laws::byte(c, 0);
-    let to = laws::byte(fields::past_name(laws::past(c, 1)), 0);
-    let laid = layouts::link_laid(c);
-    let rises = implies(0 < links, link_before(p, c));
-    let ends_known = (from < count) & (to < count);
-    let later = refuse_if(!rises, 5, refuse_if(!ends_known, 6, 0));
-    refuse_if(2048 <= links, 4, refuse_if(!laid, 3, later))
+    if 2048 <= links {
+        return Err(Refusal::Count);
+    }
+    if !layouts::link_laid(c) {
+        return Err(Refusal::Layout);
+    }
+    if (0 < links) & !link_before(p, c) {
+        return Err(Refusal::Order);
+    }
+    if !ends_known(count, c) {
+        return Err(Refusal::Unknown);
+    }
+    Ok(())
 }
 
 // A field behind those of s; value and link are the contents of the last value and the last link.
-fn field_no(s: Progress, value: &[u8], link: &[u8], tag: u8, c: &[u8]) -> u8
-    ensures { result ≡ field_no s value.now link.now tag c.now }
+fn check_field(s: Progress, value: &[u8], link: &[u8], tag: u8, c: &[u8]) -> Result<(), Refusal>
+    ensures { refusal_number result ≡ field_no s value.now link.now tag c.now }
 {
     if misplaced(s.last, tag) {
-        return 2;
+        return Err(Refusal::Misplaced);
     }
     if tag == 0x60 {
-        return count_no(c);
+        return check_count(c);
     }
     if tag == 0x61 {
-        return object_no(s.count, s.objects, c);
+        return check_object(s.count, s.objects, c);
     }
     if tag == 0x62 {
-        return value_no(s.count, s.values, value, c);
+        return check_value(s.count, s.values, value, c);
     }
-    link_no(s.count, s.links, link, c)
+    check_link(s.count, s.links, link, c)
 }
 
 // ---- a file
-
-// The count that holds behind a field.
-fn count_after(count: u8, tag: u8, c: &[u8]) -> u8
-    ensures { result ≡ cond (eqb tag 0x60) (get_or c.now 0 0) count }
-{
-    if tag == 0x60 { laws::byte(c, 0) } else { count }
-}
 
 // The numbers behind a field.
 fn count_field(s: Progress, tag: u8, c: &[u8]) -> Progress
     requires { (s.objects ≤ 8) × ((s.values ≤ 256) × (s.links ≤ 2048)) }
     ensures { result ≡ counted s tag c.now }
 {
-    Progress {
-        last: tag,
-        count: count_after(s.count, tag, c),
-        objects: s.objects + one(tag == 0x61),
-        values: s.values + laws::wide(one(tag == 0x62)),
-        links: s.links + laws::wide(one(tag == 0x63)),
+    let now = Progress { last: tag, ..s };
+    match tag {
+        0x60 => Progress {
+            count: laws::byte(c, 0),
+            ..now
+        },
+        0x61 => Progress {
+            objects: s.objects + 1,
+            ..now
+        },
+        0x62 => Progress {
+            values: s.values + 1,
+            ..now
+        },
+        0x63 => Progress {
+            links: s.links + 1,
+            ..now
+        },
+        _ => now,
     }
 }
 
 // A file with no field, then missing objects.
-fn end_no(s: Progress) -> u8
-    ensures { result ≡ end_no s }
+fn check_end(s: Progress) -> Result<(), Refusal>
+    ensures { refusal_number result ≡ end_no s }
 {
-    let missing = !(s.objects == s.count);
-    refuse_if(s.last == 0, 2, refuse_if(missing, 4, 0))
+    if s.last == 0 {
+        return Err(Refusal::Misplaced);
+    }
+    if s.objects != s.count {
+        return Err(Refusal::Count);
+    }
+    Ok(())
 }
 
-// 0 where the file is accepted, else its refusal.
-pub fn check_record(file: &[u8]) -> u8
-    ensures { result ≡ refusal_of (read_record file.now) }
+// Whether the file is accepted, else its refusal.
+pub fn check_record(file: &[u8]) -> Result<(), Refusal>
+    ensures { refusal_number result ≡ refusal_of (read_record file.now) }
 {
     let mut s = Progress {
         last: 0,
@@ -188,29 +209,14 @@ pub fn check_record(file: &[u8]) -> u8
         links: 0,
     };
     let mut value = laws::front(file, 0);
-    let mut link = laws::front(file, 0);
+    let mut link = value;
     let mut rest = file;
-    while 0 < rest.len() {
-        match fields::read_head(rest) {
-            fields::Head::Cut => {
-                return 1;
-            }
-            fields::Head::Whole { tag, len } => {
-                let c = fields::content(rest, len);
-                let no = field_no(s, value, link, tag, c);
-                if no != 0 {
-                    return no;
-                }
-                let counts = count_field(s, tag, c);
-                let last_value = choose(tag == 0x62, c, value);
-                let last_link = choose(tag == 0x63, c, link);
-                let later = fields::after(rest, len);
-                s = counts;
-                value = last_value;
-                link = last_link;
-                rest = later;
-            }
-        }
+    while let Some(field) = fields::read_field(rest)? {
+        check_field(s, value, link, field.tag, field.content)?;
+        s = count_field(s, field.tag, field.content);
+        value = choose(field.tag == 0x62, field.content, value);
+        link = choose(field.tag == 0x63, field.content, link);
+        rest = field.rest;
     }
-    end_no(s)
+    check_end(s)
 }

@@ -7,11 +7,13 @@ ghost use Rattle.clashes.specs.Clashes.{FirstTargets, LinkedBack, Never};
 ghost use Rattle.clashes.specs.Sources.{SourcesKept};
 ghost use Rattle.clashes.specs.Refuted.{Refuted};
 
+use laws::Mask;
+use worlds::Tables;
+
 // Whether a column in the slot excludes them, where the links in the slot from types of the mask `there` are the links back. The tables
 // have the rows of the first object at x.
-fn is_apart_from_back<'a>(
-    sources: &'a [u32; 768],
-    lines: worlds::Lines,
+fn is_apart_from_back(
+    tables: &Tables,
     x: usize,
     first: u32,
     slot: u8,
@@ -21,12 +23,12 @@ fn is_apart_from_back<'a>(
     high: u8,
 ) -> bool
     requires { (first < 24) × (x ≡ first * 32) × (slot < 32) }
-    ensures { result ≡ true → (t : ℕ) → Never (λ w. FirstTargets first t mask low high w × SourcesKept sources.now w × ColumnsKept lines w × LinkedBack slot there t w) }
+    ensures { result ≡ true → (t : ℕ) → Never (λ w. FirstTargets first t mask low high w × SourcesKept tables.now.sources w × ColumnsKept tables.now.lines w × LinkedBack slot there t w) }
 {
-    let here = sources[x + laws::wide(slot)];
-    let mut i: usize = 0;
-    while i < 16 {
-        if (lines.columnslot[i] == slot) & laws::has32(lines.columnto[i], first) {
+    let here = tables.sources[x + usize::from(slot)];
+    let lines = &tables.lines;
+    for i in 0..16 {
+        if (lines.columnslot[i] == slot) & lines.columnto[i].has(first) {
             if crate::counts::is_apart_back(
                 here,
                 lines.columnfrom[i],
@@ -40,47 +42,37 @@ fn is_apart_from_back<'a>(
                 return true;
             }
         }
-        i += 1;
     }
     false
 }
 
 // Whether a column excludes the limits of a row of the first object by a mirror.
-pub fn is_bad_first_back<'a>(
-    targets: &'a [u32; 768],
-    sources: &'a [u32; 768],
-    lines: worlds::Lines,
-    types: &'a [u8; 8],
-    row: u8,
-    low: u8,
-    high: u8,
-) -> bool
-    requires { Slotted lines × (row < 32) × ((o : ℕ) → get_or types.now o 0 < 24) }
-    ensures { result ≡ true → (lows highs : List ℕ) (seeds : ℕ) → 0 < seeds → Refuted (λ w. (RowsKept targets.now lows highs w × InLimits low high (target_count w row 0)) × (SourcesKept sources.now w × ColumnsKept lines w × MirrorsKept lines w)) types.now seeds }
+pub fn is_bad_first_back(tables: &Tables, types: &[u8; 8], row: u8, low: u8, high: u8) -> bool
+    requires { Slotted tables.now.lines × (row < 32) × ((o : ℕ) → get_or types.now o 0 < 24) }
+    ensures { result ≡ true → (lows highs : List ℕ) (seeds : ℕ) → 0 < seeds → Refuted (λ w. (RowsKept tables.now.targets lows highs w × InLimits low high (target_count w row 0)) × (SourcesKept tables.now.sources w × ColumnsKept tables.now.lines w × MirrorsKept tables.now.lines w)) types.now seeds }
 {
     if (low == 0) & (8 <= high) {
         return false;
     }
     let x = crate::rows_at(types, 0);
     let first = crate::type_of(types, 0);
-    let mask = targets[x + laws::wide(row)];
-    let mut j: usize = 0;
-    while j < 16 {
+    let mask = tables.targets[x + usize::from(row)];
+    let lines = &tables.lines;
+    for j in 0..16 {
         let right = lines.mirrorright[j];
         let left = lines.mirrorleft[j];
         let from = lines.mirrorfrom[j];
         let to = lines.mirrorto[j];
-        if (left == row) & laws::has32(to, first) {
-            if is_apart_from_back(sources, lines, x, first, right, from, mask, low, high) {
+        if (left == row) & to.has(first) {
+            if is_apart_from_back(tables, x, first, right, from, mask, low, high) {
                 return true;
             }
         }
-        if (right == row) & laws::has32(from, first) {
-            if is_apart_from_back(sources, lines, x, first, left, to, mask, low, high) {
+        if (right == row) & from.has(first) {
+            if is_apart_from_back(tables, x, first, left, to, mask, low, high) {
                 return true;
             }
         }
-        j += 1;
     }
     false
 }

@@ -3,19 +3,17 @@ ghost use Rattle.std.specs.Prelude.{◌≡◌, true, ℕ, ◌*◌, ◌+◌, ◌<
 ghost use Rattle.laws.specs.Bounded.{any};
 ghost use Rattle.clashes.specs.Refuted.{BitsKept, Refuted, TargetsKept, bad_bit};
 
+use laws::Mask;
+
 // Whether a link of one row must stand and must not, or leads to a seed with no type of the mask.
 fn is_bad_row(must: u8, shut: u8, mask: u32, types: &[u8; 8], seeds: u8) -> bool
     requires { (seeds ≤ 8) × ((o : ℕ) → get_or types.now o 0 < 24) }
     ensures { result ≡ true → any (bad_bit must shut mask types.now) seeds ≡ true }
 {
-    let mut p: u8 = 0;
-    while p < seeds {
-        if laws::has8(must, p)
-            & (laws::has8(shut, p) | !laws::has32(mask, crate::type_of(types, p)))
-        {
+    for p in 0..seeds {
+        if must.has(p) & (shut.has(p) | !mask.has(crate::type_of(types, p))) {
             return true;
         }
-        p += 1;
     }
     false
 }
@@ -31,9 +29,8 @@ pub fn is_bad_bit<'a>(
     requires { (seeds ≤ 8) × ((o : ℕ) → get_or types.now o 0 < 24) }
     ensures { result ≡ true → Refuted (λ w. BitsKept must.now shut.now w × TargetsKept targets.now w) types.now seeds }
 {
-    let end = laws::wide(seeds) * 32;
-    let mut i: usize = 0;
-    while i < end {
+    let end = usize::from(seeds) * 32;
+    for i in 0..end {
         let m = must[i];
         if m != 0 {
             let x = crate::rows_at(types, (i / 32) as u8) + i % 32;
@@ -41,7 +38,6 @@ pub fn is_bad_bit<'a>(
                 return true;
             }
         }
-        i += 1;
     }
     false
 }

@@ -4,6 +4,21 @@ ghost use Rattle.worlds.specs.Kept.{ColumnsKept, MirrorsKept, RowsKept, Slotted,
 ghost use Rattle.clashes.specs.Refuted.{Refuted};
 ghost use Rattle.clashes.specs.Clashes.{FirstColumn, FirstSources, LinkedBack, Never, OtherSources, TurnedSources};
 
+use laws::Mask;
+use worlds::{Lines, Tables};
+
+// What is asked of the sources of the first object, which has the type `first`, in the slot: `least` to `most` of them have types of the
+// mask. Only types of the mask `here` have links to it there.
+#[derive(Clone, Copy)]
+struct Asked {
+    first: u32,
+    here: u32,
+    slot: u8,
+    mask: u32,
+    least: u8,
+    most: u8,
+}
+
 // No world has limits of both kinds for the sources of its first object, with types of two masks.
 fn is_apart(here: u32, mask: u32, least: u8, most: u8, other: u32, low: u8, high: u8) -> bool
     ensures { result ≡ true → (first s : ℕ) → Never (λ w. FirstSources first here s mask least most w × OtherSources s other low high w) }
@@ -37,26 +52,17 @@ pub fn is_apart_back(
 }
 
 // Whether a column excludes them.
-fn is_apart_from_columns(
-    lines: worlds::Lines,
-    first: u32,
-    here: u32,
-    slot: u8,
-    mask: u32,
-    least: u8,
-    most: u8,
-) -> bool
-    requires { first < 24 }
-    ensures { result ≡ true → Never (λ w. FirstSources first here slot mask least most w × ColumnsKept lines w) }
+fn is_apart_from_columns(lines: &Lines, asked: Asked) -> bool
+    requires { asked.first < 24 }
+    ensures { result ≡ true → Never (λ w. FirstSources asked.first asked.here asked.slot asked.mask asked.least asked.most w × ColumnsKept lines.now w) }
 {
-    let mut j: usize = 0;
-    while j < 16 {
-        if (lines.columnslot[j] == slot) & laws::has32(lines.columnto[j], first) {
+    for j in 0..16 {
+        if (lines.columnslot[j] == asked.slot) & lines.columnto[j].has(asked.first) {
             if is_apart(
-                here,
-                mask,
-                least,
-                most,
+                asked.here,
+                asked.mask,
+                asked.least,
+                asked.most,
                 lines.columnfrom[j],
                 lines.columnlow[j],
                 lines.columnhigh[j],
@@ -64,131 +70,107 @@ fn is_apart_from_columns(
                 return true;
             }
         }
-        j += 1;
     }
     false
 }
 
 // Whether a composition excludes them: an object is a part of one whole.
-fn is_apart_from_wholes(
-    lines: worlds::Lines,
-    first: u32,
-    here: u32,
-    slot: u8,
-    mask: u32,
-    least: u8,
-    most: u8,
-) -> bool
-    requires { first < 24 }
-    ensures { result ≡ true → Never (λ w. FirstSources first here slot mask least most w × WholesKept lines w) }
+fn is_apart_from_wholes(lines: &Lines, asked: Asked) -> bool
+    requires { asked.first < 24 }
+    ensures { result ≡ true → Never (λ w. FirstSources asked.first asked.here asked.slot asked.mask asked.least asked.most w × WholesKept lines.now w) }
 {
-    let mut j: usize = 0;
-    while j < 16 {
-        if (lines.wholeslot[j] == slot) & laws::has32(lines.wholeto[j], first) {
-            if is_apart(here, mask, least, most, lines.wholefrom[j], 0, 1) {
+    for j in 0..16 {
+        if (lines.wholeslot[j] == asked.slot) & lines.wholeto[j].has(asked.first) {
+            if is_apart(
+                asked.here,
+                asked.mask,
+                asked.least,
+                asked.most,
+                lines.wholefrom[j],
+                0,
+                1,
+            ) {
                 return true;
             }
         }
-        j += 1;
     }
     false
 }
 
 // Whether the row of the first object, at x in the tables, excludes them, where links to types of the mask `there` are links back.
-fn is_apart_from_row<'a>(
-    targets: &'a [u32; 768],
-    lows: &'a [u8; 768],
-    highs: &'a [u8; 768],
-    x: usize,
-    first: u32,
-    here: u32,
-    slot: u8,
-    mask: u32,
-    least: u8,
-    most: u8,
-    there: u32,
-    back: u8,
-) -> bool
-    requires { (first < 24) × (x ≡ first * 32) × (back < 32) }
-    ensures { result ≡ true → Never (λ w. FirstSources first here slot mask least most w × RowsKept targets.now lows.now highs.now w × LinkedBack slot there back w) }
+fn is_apart_from_row(tables: &Tables, x: usize, asked: Asked, there: u32, back: u8) -> bool
+    requires { (asked.first < 24) × (x ≡ asked.first * 32) × (back < 32) }
+    ensures { result ≡ true → Never (λ w. FirstSources asked.first asked.here asked.slot asked.mask asked.least asked.most w × RowsKept tables.now.targets tables.now.lows tables.now.highs w × LinkedBack asked.slot there back w) }
 {
-    let y = x + laws::wide(back);
+    let y = x + usize::from(back);
     is_apart_back(
-        here, mask, least, most, there, targets[y], lows[y], highs[y],
+        asked.here,
+        asked.mask,
+        asked.least,
+        asked.most,
+        there,
+        tables.targets[y],
+        tables.lows[y],
+        tables.highs[y],
     )
 }
 
 // Whether a row excludes them by a mirror.
-fn is_apart_from_mirrors<'a>(
-    targets: &'a [u32; 768],
-    lows: &'a [u8; 768],
-    highs: &'a [u8; 768],
-    lines: worlds::Lines,
-    x: usize,
-    first: u32,
-    here: u32,
-    slot: u8,
-    mask: u32,
-    least: u8,
-    most: u8,
-) -> bool
-    requires { Slotted lines × (first < 24) × (x ≡ first * 32) }
-    ensures { result ≡ true → Never (λ w. FirstSources first here slot mask least most w × RowsKept targets.now lows.now highs.now w × MirrorsKept lines w) }
+fn is_apart_from_mirrors(tables: &Tables, x: usize, asked: Asked) -> bool
+    requires { Slotted tables.now.lines × (asked.first < 24) × (x ≡ asked.first * 32) }
+    ensures { result ≡ true → Never (λ w. FirstSources asked.first asked.here asked.slot asked.mask asked.least asked.most w × RowsKept tables.now.targets tables.now.lows tables.now.highs w × MirrorsKept tables.now.lines w) }
 {
-    let mut j: usize = 0;
-    while j < 16 {
+    let lines = &tables.lines;
+    for j in 0..16 {
         let right = lines.mirrorright[j];
         let left = lines.mirrorleft[j];
         let from = lines.mirrorfrom[j];
         let to = lines.mirrorto[j];
-        if (right == slot) & laws::has32(to, first) {
-            if is_apart_from_row(
-                targets, lows, highs, x, first, here, slot, mask, least, most, from, left,
-            ) {
+        if (right == asked.slot) & to.has(asked.first) {
+            if is_apart_from_row(tables, x, asked, from, left) {
                 return true;
             }
         }
-        if (left == slot) & laws::has32(from, first) {
-            if is_apart_from_row(
-                targets, lows, highs, x, first, here, slot, mask, least, most, to, right,
-            ) {
+        if (left == asked.slot) & from.has(asked.first) {
+            if is_apart_from_row(tables, x, asked, to, right) {
                 return true;
             }
         }
-        j += 1;
     }
     false
 }
 
 // Whether the tables exclude the number of sources of the first object.
-pub fn is_bad_first_column<'a>(
-    targets: &'a [u32; 768],
-    sources: &'a [u32; 768],
-    lows: &'a [u8; 768],
-    highs: &'a [u8; 768],
-    lines: worlds::Lines,
-    types: &'a [u8; 8],
+pub fn is_bad_first_column(
+    tables: &Tables,
+    types: &[u8; 8],
     slot: u8,
     mask: u32,
     least: u8,
     most: u8,
 ) -> bool
-    requires { Slotted lines × (slot < 32) × ((o : ℕ) → get_or types.now o 0 < 24) }
-    ensures { result ≡ true → (seeds : ℕ) → 0 < seeds → Refuted (FirstColumn targets.now sources.now lows.now highs.now lines slot mask least most) types.now seeds }
+    requires { Slotted tables.now.lines × (slot < 32) × ((o : ℕ) → get_or types.now o 0 < 24) }
+    ensures { result ≡ true → (seeds : ℕ) → 0 < seeds → Refuted (FirstColumn tables.now.targets tables.now.sources tables.now.lows tables.now.highs tables.now.lines slot mask least most) types.now seeds }
 {
     let x = crate::rows_at(types, 0);
     let first = crate::type_of(types, 0);
-    let here = sources[x + laws::wide(slot)];
+    let here = tables.sources[x + usize::from(slot)];
     if (0 < least) & (mask & here == 0) {
         return true;
     }
-    if is_apart_from_columns(lines, first, here, slot, mask, least, most) {
+    let asked = Asked {
+        first,
+        here,
+        slot,
+        mask,
+        least,
+        most,
+    };
+    if is_apart_from_columns(&tables.lines, asked) {
         return true;
     }
-    if is_apart_from_wholes(lines, first, here, slot, mask, least, most) {
+    if is_apart_from_wholes(&tables.lines, asked) {
         return true;
     }
-    is_apart_from_mirrors(
-        targets, lows, highs, lines, x, first, here, slot, mask, least, most,
-    )
+    is_apart_from_mirrors(tables, x, asked)
 }

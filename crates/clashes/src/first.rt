@@ -5,18 +5,13 @@ ghost use Rattle.link_search.specs.Nets.{InLimits};
 ghost use Rattle.worlds.specs.Kept.{RowsKept};
 ghost use Rattle.clashes.specs.Refuted.{Refuted};
 
+use worlds::Tables;
+
 // Whether no number is within the limits of the first object's row and within these.
-pub fn is_bad_first_row<'a>(
-    lows: &'a [u8; 768],
-    highs: &'a [u8; 768],
-    types: &'a [u8; 8],
-    row: u8,
-    low: u8,
-    high: u8,
-) -> bool
+pub fn is_bad_first_row(tables: &Tables, types: &[u8; 8], row: u8, low: u8, high: u8) -> bool
     requires { (row < 32) × ((o : ℕ) → get_or types.now o 0 < 24) }
-    ensures { result ≡ true → (targets : List ℕ) (seeds : ℕ) → 0 < seeds → Refuted (λ w. RowsKept targets lows.now highs.now w × InLimits low high (target_count w row 0)) types.now seeds }
+    ensures { result ≡ true → (targets : List ℕ) (seeds : ℕ) → 0 < seeds → Refuted (λ w. RowsKept targets tables.now.lows tables.now.highs w × InLimits low high (target_count w row 0)) types.now seeds }
 {
-    let x = crate::rows_at(types, 0) + laws::wide(row);
-    type_tables::smaller(highs[x], high) < type_tables::larger(lows[x], low)
+    let x = crate::rows_at(types, 0) + usize::from(row);
+    tables.highs[x].min(high) < tables.lows[x].max(low)
 }

@@ -3,8 +3,10 @@
 
 ghost use Rattle.std.specs.Prelude.{◌≡◌, true, ℕ, ◌*◌, ◌<◌, ◌≤◌, get_or};
 ghost use Rattle.growing.specs.Growth.{Nowhere};
-ghost use Rattle.worlds.specs.Kept.{Slotted, SourceTable, sheet};
+ghost use Rattle.worlds.specs.Kept.{Coherent, sheet_of};
 ghost use Rattle.worlds.specs.Asked.{Sane, Solution};
+
+use worlds::{Query, Tables};
 
 mod back;
 mod bits;
@@ -19,7 +21,7 @@ pub fn type_of(types: &[u8; 8], o: u8) -> u32
     requires { (o < 8) × ((o : ℕ) → get_or types.now o 0 < 24) }
     ensures { (result ≡ get_or types.now o 0) × (result < 24) }
 {
-    types[laws::wide(o)] as u32
+    types[usize::from(o)] as u32
 }
 
 // Where the table has the rows of object o.
@@ -27,50 +29,35 @@ pub fn rows_at(types: &[u8; 8], o: u8) -> usize
     requires { (o < 8) × ((o : ℕ) → get_or types.now o 0 < 24) }
     ensures { (result ≡ get_or types.now o 0 * 32) × (result ≤ 736) }
 {
-    laws::wide(types[laws::wide(o)]) * 32
+    usize::from(types[usize::from(o)]) * 32
 }
 
 // Whether the query contradicts the tables, where its seeds have the given types.
-pub fn is_implied<'a>(
-    targets: &'a [u32; 768],
-    sources: &'a [u32; 768],
-    lows: &'a [u8; 768],
-    highs: &'a [u8; 768],
-    lines: worlds::Lines,
-    usable: u32,
-    singles: u32,
-    q: worlds::Query,
-    types: [u8; 8],
-    n: u8,
-) -> bool
-    requires { Slotted lines × SourceTable targets.now sources.now × Sane q × (n ≤ 8) × ((o : ℕ) → get_or types o 0 < 24) }
-    ensures { result ≡ true → Nowhere (Solution (sheet usable singles targets.now lows.now highs.now lines) q n) types q.seeds q.never n }
+pub fn is_implied(tables: &Tables, q: Query, types: [u8; 8], n: u8) -> bool
+    requires { Coherent tables.now × Sane q × (n ≤ 8) × ((o : ℕ) → get_or types o 0 < 24) }
+    ensures { result ≡ true → Nowhere (Solution (sheet_of tables.now) q n) types q.seeds q.never n }
 {
     let seeds = q.seeds;
     if seeds == 0 {
         return false;
     }
-    let must = q.must;
-    let shut = q.shut;
-    if bits::is_bad_bit(targets, &must, &shut, &types, seeds) {
+    if bits::is_bad_bit(&tables.targets, &q.must, &q.shut, &types, seeds) {
         return true;
     }
-    if mirrors::is_bad_turn(lines, &must, &shut, &types, seeds) {
+    if mirrors::is_bad_turn(&tables.lines, &q.must, &q.shut, &types, seeds) {
         return true;
     }
-    if wholes::is_bad_part(lines, &must, &types, seeds) {
+    if wholes::is_bad_part(&tables.lines, &q.must, &types, seeds) {
         return true;
     }
-    if parts::is_bad_first_part(lines, targets, &types, q.row, q.low) {
+    if parts::is_bad_first_part(tables, &types, q.row, q.low) {
         return true;
     }
-    if back::is_bad_first_back(targets, sources, lines, &types, q.row, q.low, q.high) {
+    if back::is_bad_first_back(tables, &types, q.row, q.low, q.high) {
         return true;
     }
-    if first::is_bad_first_row(lows, highs, &types, q.row, q.low, q.high) {
+    if first::is_bad_first_row(tables, &types, q.row, q.low, q.high) {
         return true;
     }
-    counts::is_bad_first_column(
-        targets, sources, lows, highs, lines, &types, q.column, q.from, q.least, q.most,
-    )
+    counts::is_bad_first_column(tables, &types, q.column, q.from, q.least, q.most)
 }

@@ -4,15 +4,11 @@ ghost use Rattle.worlds.specs.Kept.{MirrorsKept, Slotted};
 ghost use Rattle.clashes.specs.Clashes.{Never};
 ghost use Rattle.clashes.specs.Refuted.{BitsKept, MirroredBetween, Refuted};
 
+use laws::Mask;
+use worlds::Lines;
+
 // Whether the link from o to p must stand and the link back must not, or the other way.
-fn is_bad_pair<'a>(
-    must: &'a [u8; 256],
-    shut: &'a [u8; 256],
-    o: u8,
-    right: u8,
-    p: u8,
-    left: u8,
-) -> bool
+fn is_bad_pair(must: &[u8; 256], shut: &[u8; 256], o: u8, right: u8, p: u8, left: u8) -> bool
     requires { (o < 8) × (right < 32) × (p < 8) × (left < 32) }
     ensures { result ≡ true → Never (λ w. BitsKept must.now shut.now w × (w.link right o p ≡ w.link left p o)) }
 {
@@ -23,50 +19,45 @@ fn is_bad_pair<'a>(
 }
 
 // Whether a mirror has such a pair of seeds.
-fn is_bad_mirror<'a>(
+fn is_bad_mirror(
     from: u32,
     to: u32,
     right: u8,
     left: u8,
-    must: &'a [u8; 256],
-    shut: &'a [u8; 256],
-    types: &'a [u8; 8],
+    must: &[u8; 256],
+    shut: &[u8; 256],
+    types: &[u8; 8],
     seeds: u8,
 ) -> bool
     requires { (right < 32) × (left < 32) × (seeds ≤ 8) × ((o : ℕ) → get_or types.now o 0 < 24) }
     ensures { result ≡ true → Refuted (λ w. BitsKept must.now shut.now w × MirroredBetween from to right left w) types.now seeds }
 {
-    let mut y: u8 = 0;
-    while y < 64 {
+    for y in 0u8..64 {
         let o = y / 8;
         let p = y % 8;
         if (o < seeds) & (p < seeds) {
-            if laws::has32(from, crate::type_of(types, o))
-                & laws::has32(to, crate::type_of(types, p))
-            {
+            if from.has(crate::type_of(types, o)) & to.has(crate::type_of(types, p)) {
                 if is_bad_pair(must, shut, o, right, p, left) {
                     return true;
                 }
             }
         }
-        y += 1;
     }
     false
 }
 
 // Whether one of the mirrors has.
-pub fn is_bad_turn<'a>(
-    lines: worlds::Lines,
-    must: &'a [u8; 256],
-    shut: &'a [u8; 256],
-    types: &'a [u8; 8],
+pub fn is_bad_turn(
+    lines: &Lines,
+    must: &[u8; 256],
+    shut: &[u8; 256],
+    types: &[u8; 8],
     seeds: u8,
 ) -> bool
-    requires { Slotted lines × (seeds ≤ 8) × ((o : ℕ) → get_or types.now o 0 < 24) }
-    ensures { result ≡ true → Refuted (λ w. BitsKept must.now shut.now w × MirrorsKept lines w) types.now seeds }
+    requires { Slotted lines.now × (seeds ≤ 8) × ((o : ℕ) → get_or types.now o 0 < 24) }
+    ensures { result ≡ true → Refuted (λ w. BitsKept must.now shut.now w × MirrorsKept lines.now w) types.now seeds }
 {
-    let mut j: usize = 0;
-    while j < 16 {
+    for j in 0..16 {
         let from = lines.mirrorfrom[j];
         if from != 0 {
             if is_bad_mirror(
@@ -82,7 +73,6 @@ pub fn is_bad_turn<'a>(
                 return true;
             }
         }
-        j += 1;
     }
     false
 }

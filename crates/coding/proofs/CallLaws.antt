@@ -7,7 +7,7 @@ use mathlib.Core.Bool.{Bool, ◌&&◌, ◌||◌, cond, false, true, true≢false
 use mathlib.Core.List.{List}
 use mathlib.Core.Logic.{◌≢◌}
 use mathlib.Core.Option.{Option, none, some}
-use mathlib.Core.Path.{◌≡◌, refl, subst, sym}
+use mathlib.Core.Path.{◌∙◌, ◌≡◌, refl, subst, sym}
 use lib.Dec.{eqb, leb, ltb}
 use lib.ListN.{drop, get_or, length}
 use borrow.Author.Tests.{eq-eqb, leb-true, ltb-true, ne_eqb}
@@ -16,9 +16,12 @@ use Rattle.laws.proofs.BoundedLaws.{all-at}
 use Rattle.laws.proofs.ConnectiveLaws.{and_left, and_right}
 use Rattle.steps.specs.Effect.{effect}
 use Rattle.coding.specs.CallBytes.{Operands, Shape, call, call_of, code_byte, codes, halt, length_at, next_by, next_of, no_call, operands_of, read_call, row_at}
+use Rattle.std.specs.Prelude as rattle
+use Rattle.std.specs.Prelude.{None, Some}
 use Rattle.coding.specs.declared.Next.{Next}
 
 pub record Whole (s : List ℕ) (room : ℕ) (n : Next) : Type 0 where
+  pub least : 1 ≤ n.code
   pub known : n.code < length codes
   pub some : 0 < n.used
   pub little : n.used ≤ length s
@@ -46,34 +49,35 @@ module _ (s : List ℕ) (room : ℕ) where
   abbrev known : Bool
   known = leb 1 (code_byte s) && ltb (code_byte s) (length codes)
 
-  whole-by : (t : Bool) → known && leb used (length s) && leb (x.buffers * 5 + lend) room ≡ t → (cond t read no_call).code ≢ 0 → Whole s room (cond t read no_call)
-  whole-by true e h =
+  whole-by : (t : Bool) (n : Next) → known && leb used (length s) && leb (x.buffers * 5 + lend) room ≡ t → ◌≡◌ {A = rattle.Option Next} (cond t (Some read) None) (Some n)
+      → Whole s room n
+  whole-by true n e h =
       let within = leb used (length s) in
       let room-is = leb (x.buffers * 5 + lend) room in
       let most : known && within ≡ true = and_left (known && within) room-is e in
-      record {
+      let same : ◌≡◌ {A = Next} read n = cc in
+      subst (Whole s room) same
+      (record {
+        least = leb-true 1 (code_byte s) (and_left (leb 1 (code_byte s)) (ltb (code_byte s) (length codes)) (and_left known within most));
         known = ltb-true (code_byte s) (length codes) (and_right (leb 1 (code_byte s)) (ltb (code_byte s) (length codes)) (and_left known within most));
         some = omega arith;
         little = leb-true used (length s) (and_right known within most);
         fits = leb-true (x.buffers * 5 + lend) room (and_right (known && within) room-is e);
-      }
-  whole-by false e h = absurd (h refl)
+      })
+  whole-by false n e h = cc
 
-  whole-next : (next_of s room).code ≢ 0 → Whole s room (next_of s room)
+  pub whole-call : {y : rattle.Option Next} (n : Next) → y ≡ next_of s room → y ≡ Some n → Whole s room n
   unfolding next_of next_by
-  whole-next h = whole-by _ refl h
+  whole-call n e h = whole-by _ n refl (sym e ∙ h)
 
-  pub whole-call : {n : Next} → n ≡ next_of s room → n.code ≢ 0 → Whole s room n
-  whole-call e h = subst (Whole s room) (sym e) (whole-next (subst (λ (n : Next). n.code ≢ 0) e h))
-
-module _ (s room : List ℕ) {n : Next} (e : n ≡ next_of s (length room)) where
-  pub read-halt : n.code ≡ 0 → read_call s room ≡ halt
+module _ (s room : List ℕ) {y : rattle.Option Next} (e : y ≡ next_of s (length room)) where
+  pub read-halt : y ≡ None → read_call s room ≡ halt
   unfolding read_call
-  read-halt h = rw (← e, eq-eqb n.code 0 h)
+  read-halt h = rw (← e, h)
 
-  pub read-call : n.code ≢ 0 → read_call s room ≡ call (call_of n.code (operands_of s room n)) (drop n.used s)
+  pub read-call : (n : Next) → y ≡ Some n → read_call s room ≡ call (call_of n.code (operands_of s room n)) (drop n.used s)
   unfolding read_call
-  read-call h = rw (← e, ne_eqb n.code 0 h)
+  read-call n h = rw (← e, h)
 
 -- ---- only hand out is lent a buffer: one test of all codes
 

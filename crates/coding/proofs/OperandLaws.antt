@@ -9,6 +9,7 @@ use mathlib.Core.Path.{◌∙◌, ◌≡◌, ap, sym}
 use lib.ListN.{get_or-eq_default, get_or-map, get_or, length}
 use Rattle.coding.specs.CallBytes.{Shape, code_byte, codes, length_at, next_by, next_of, no_call, row_at}
 use Rattle.coding.specs.Operands.{IsRow}
+use Rattle.std.specs.Prelude.{Option, Some}
 use Rattle.coding.specs.declared.Next.{Next}
 use Rattle.coding.specs.declared.Row.{Row}
 
@@ -55,7 +56,7 @@ module _ (s : List ℕ) (room : ℕ) {code len lend : ℕ} {r : Row} (is : code 
   test = leb 1 code && ltb code (length codes) && leb used (length s) && leb (r.buffers * 5 + lend) room
 
   pub next-call : {byte : ℕ} → byte ≡ get_or s 1 0 → test ≡ true
-      → ◌≡◌ {A = Next} (record { code = code; byte = byte; from = 1 + r.bytes + r.files * 4; len = len; lend = lend; used = used }) (next_of s room)
+      → ◌≡◌ {A = Option Next} (Some (record { code = code; byte = byte; from = 1 + r.bytes + r.files * 4; len = len; lend = lend; used = used })) (next_of s room)
   unfolding next_by
   next-call e t = sym (by_row ∙ rw (← is, ← len_is, ← lend-is, ← e, t))
 

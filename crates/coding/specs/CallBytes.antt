@@ -9,7 +9,7 @@
 --   7 hand out   length of the buffer to lend
 --   8 load text  place, length, text
 -- Assumes nothing.
-use Rattle.std.specs.Prelude.{ℕ, ◌+◌, ◌*◌, ◌&&◌, cond, List, [], ◌∷◌, eqb, leb, ltb, drop, get_or, length, take}
+use Rattle.std.specs.Prelude.{ℕ, ◌+◌, ◌*◌, ◌&&◌, cond, List, [], ◌∷◌, eqb, leb, ltb, drop, get_or, length, take, Option, None, Some}
 use Rattle.steps.specs.Bench.{Call, Clear, Compare, Compile, Evaluate, HandOut, Judge, Load, LoadText}
 use Rattle.coding.specs.declared.Next.{Next}
 
@@ -57,23 +57,23 @@ abbrev pub code_byte : List ℕ → ℕ
 code_byte s = get_or s 0 0
 
 -- no call: it is cut off or unknown, or has no room for its reply
-abbrev pub no_call : Next
-no_call = record { code = 0; byte = 0; from = 0; len = 0; lend = 0; used = 0 }
+abbrev pub no_call : Option Next
+no_call = None
 
 -- a call with these operands: its code is one of the table, they end before s does, and a buffer to lend has room behind the reply's
 -- first five bytes
-unfoldable pub next_by : List ℕ → ℕ → ℕ → ℕ → ℕ → Next
+unfoldable pub next_by : List ℕ → ℕ → ℕ → ℕ → ℕ → Option Next
 next_by s room bytes files buffers =
     let from = 1 + bytes + files * 4 in
     let len = length_at s files (1 + bytes) in
     let lend = length_at s buffers (from + len) in
     let used = from + len + buffers * 4 in
     cond (leb 1 (code_byte s) && ltb (code_byte s) (length codes) && leb used (length s) && leb (buffers * 5 + lend) room)
-    (record { code = code_byte s; byte = get_or s 1 0; from = from; len = len; lend = lend; used = used })
+    (Some (record { code = code_byte s; byte = get_or s 1 0; from = from; len = len; lend = lend; used = used }))
     no_call
 
 -- what stands at the front of s, where there are `room` bytes for replies
-unfoldable pub next_of : List ℕ → ℕ → Next
+unfoldable pub next_of : List ℕ → ℕ → Option Next
 next_of s room = let x = row_at (code_byte s) in next_by s room x.bytes x.files x.buffers
 
 -- a call and what follows it, or a halt
@@ -88,7 +88,10 @@ operands_of s room n = record { byte = n.byte; file = take n.len (drop n.from s)
 unfoldable pub call_of : ℕ → Operands → Call
 call_of code x = (row_at code).call x
 
+abbrev pub read_by : List ℕ → List ℕ → Option Next → Read
+read_by s room (Some n) = call (call_of n.code (operands_of s room n)) (drop n.used s)
+read_by s room None = halt
+
 -- the call at the front of s, whose reply goes to the front of room
 unfoldable pub read_call : List ℕ → List ℕ → Read
-read_call s room =
-    let n = next_of s (length room) in cond (eqb n.code 0) halt (call (call_of n.code (operands_of s room n)) (drop n.used s))
+read_call s room = read_by s room (next_of s (length room))

@@ -1,5 +1,4 @@
 pub mod CallBytes
 pub mod Operands
 pub mod ReplyBytes
-pub mod Parts
 pub mod Puts

@@ -5,17 +5,15 @@ ghost use Rattle.std.specs.Prelude.{◌≡◌, [], ◌++◌, ◌<◌, length};
 ghost use Rattle.bench.specs.View.{reply_of};
 ghost use Rattle.coding.specs.CallBytes.{length_at, long_at, next_of, row_at};
 ghost use Rattle.coding.specs.Operands.{IsRow};
-ghost use Rattle.coding.specs.Parts.{parts_by, parts_in};
 ghost use Rattle.coding.specs.Puts.{Puts};
-ghost use Rattle.coding.specs.ReplyBytes.{head_bytes, reply_bytes};
+ghost use Rattle.coding.specs.ReplyBytes.{head_bytes, parts_of, reply_bytes};
 
 use bench::Reply;
 
 // ---- calls
 
 // The call at the front of a list of calls: its code, a byte, where a file stands and how long it is, how long a buffer is to lend,
-// and how many bytes the call takes. The code is 0 where there is none: nothing is left, or a call is cut off or unknown, or has no
-// room for its reply.
+// and how many bytes the call takes.
 #[derive(Clone, Copy)]
 pub struct Next {
     pub code: u8,
@@ -26,7 +24,7 @@ pub struct Next {
     pub used: usize,
 }
 
-// The operands of a call.
+// The operands of a call, as counts: an enum is no plainer, since positions are computed from them.
 #[derive(Clone, Copy)]
 struct Row {
     bytes: usize,
@@ -51,11 +49,11 @@ fn row_at(code: u8) -> Row
             buffers: 0,
         };
     }
-    let at = laws::wide(code);
+    let at = usize::from(code);
     Row {
-        bytes: laws::wide(BYTES[at]),
-        files: laws::wide(FILES[at]),
-        buffers: laws::wide(BUFFERS[at]),
+        bytes: usize::from(BYTES[at]),
+        files: usize::from(FILES[at]),
+        buffers: usize::from(BUFFERS[at]),
     }
 }
 
@@ -64,11 +62,12 @@ fn long_at(s: &[u8], i: usize) -> usize
     requires { i < 1152921504606846976 }
     ensures { (result ≡ long_at s.now i) × (result < 4294967296) }
 {
-    let a = laws::wide(laws::byte(s, i));
-    let b = laws::wide(laws::byte(s, i + 1));
-    let c = laws::wide(laws::byte(s, i + 2));
-    let d = laws::wide(laws::byte(s, i + 3));
-    ((a * 256 + b) * 256 + c) * 256 + d
+    u32::from_be_bytes([
+        laws::byte(s, i),
+        laws::byte(s, i + 1),
+        laws::byte(s, i + 2),
+        laws::byte(s, i + 3),
+    ]) as usize
 }
 
 // The same where there is such an operand, else 0.
@@ -79,8 +78,9 @@ fn length_at(s: &[u8], many: usize, i: usize) -> usize
     if many == 0 { 0 } else { long_at(s, i) }
 }
 
-// The call at the front of s, where there are `room` bytes for replies.
-pub fn read_next(s: &[u8], room: usize) -> Next
+// The call at the front of s, where there are `room` bytes for replies; none where nothing is left, or a call is cut off or unknown, or
+// has no room for its reply.
+pub fn read_next(s: &[u8], room: usize) -> Option<Next>
     ensures { result ≡ next_of s.now room }
 {
     let code = laws::byte(s, 0);
@@ -91,108 +91,75 @@ pub fn read_next(s: &[u8], room: usize) -> Next
     let lend = length_at(s, r.buffers, at);
     let used = at + r.buffers * 4;
     if (1 <= code) & (code < 9) & (used <= s.len()) & (r.buffers * 5 + lend <= room) {
-        return Next {
+        return Some(Next {
             code,
             byte: laws::byte(s, 1),
             from,
             len,
             lend,
             used,
-        };
+        });
     }
-    Next {
-        code: 0,
-        byte: 0,
-        from: 0,
-        len: 0,
-        lend: 0,
-        used: 0,
-    }
+    None
 }
 
 // ---- replies
 
-// Puts xs and behind it ys at the front of out if both fit.
-fn put(out: &mut [u8], xs: &[u8], ys: &[u8]) -> usize
+// Puts xs and behind it ys at the front of out if both fit; how many bytes.
+fn put(out: &mut [u8], xs: &[u8], ys: &[u8]) -> Option<usize>
     ensures { Puts (xs.now ++ ys.now) out.old result out.new }
 {
     if out.len() < xs.len() {
-        return 0;
+        return None;
     }
     if out.len() - xs.len() < ys.len() {
-        return 0;
+        return None;
     }
     let n = laws::copy(xs, out);
     let m = laws::copy(ys, &mut out[n..]);
-    n + m
-}
-
-// A reply taken apart: its status, how many bytes follow it and which, whether compile's list stands behind them, and the length
-// that was written.
-#[derive(Clone, Copy)]
-struct Parts {
-    status: u8,
-    many: u8,
-    first: u8,
-    second: u8,
-    listed: bool,
-    length: usize,
-}
-
-fn told(status: u8, many: u8, first: u8, second: u8, listed: bool, length: usize) -> Parts
-    ensures { result ≡ parts_by status many first second listed length }
-{
-    Parts {
-        status,
-        many,
-        first,
-        second,
-        listed,
-        length,
-    }
-}
-
-fn parts_of(r: Reply) -> Parts
-    ensures { result ≡ parts_in r }
-{
-    match r {
-        Reply::Done => told(0, 0, 0, 0, false, 0),
-        Reply::Rule(n) => told(0, 1, n, 0, false, 0),
-        Reply::Records(n) => told(0, 1, n, 0, true, 0),
-        Reply::FirstFalse(n) => told(0, 1, n, 0, false, 0),
-        Reply::NoDifference => told(0, 1, 0, 0, false, 0),
-        Reply::Difference(n) => told(0, 2, 1, n, false, 0),
-        Reply::Written(n) => told(0, 0, 0, 0, false, n),
-        Reply::Refused(n) => told(n, 0, 0, 0, false, 0),
-    }
+    Some(n + m)
 }
 
 // Puts a reply, with compile's list where it has one.
-pub fn say(out: &mut [u8], r: Reply, list: &[u8]) -> usize
+#[tactic(auto, unfolding(crate::specs::ReplyBytes::parts_of, crate::specs::ReplyBytes::reply_bytes))]
+pub fn say(out: &mut [u8], r: Reply, list: &[u8]) -> Option<usize>
     ensures { Puts (reply_bytes (reply_of r list.now)) out.old result out.new }
 {
-    let p = parts_of(r);
-    let a = [p.status, p.first, p.second];
-    let bytes = laws::front(&a, 1 + laws::wide(p.many));
-    let none = laws::front(list, 0);
-    if p.listed {
-        return put(out, bytes, list);
+    match r {
+        Reply::Done => put(out, &[0], &[]),
+        Reply::Rule(n) => put(out, &[0, n], &[]),
+        Reply::Records(n) => put(out, &[0, n], list),
+        Reply::FirstFalse(n) => put(out, &[0, n], &[]),
+        Reply::NoDifference => put(out, &[0, 0], &[]),
+        Reply::Difference(n) => put(out, &[0, 1, n], &[]),
+        Reply::Written(_) => put(out, &[0], &[]),
+        Reply::Refused(refusal) => put(out, &[refusal.number()], &[]),
     }
-    put(out, bytes, none)
+}
+
+// The status and the length that was written.
+#[tactic(auto, unfolding(crate::specs::ReplyBytes::parts_of))]
+fn told(r: Reply) -> (u8, usize)
+    ensures { (result.0 ≡ (parts_of (reply_of r [])).status) × (result.1 ≡ (parts_of (reply_of r [])).length) }
+{
+    match r {
+        Reply::Written(n) => (0, n),
+        Reply::Refused(refusal) => (refusal.number(), 0),
+        _ => (0, 0),
+    }
 }
 
 // Puts the first five bytes of the reply to a call that was lent a buffer.
-pub fn head(out: &mut [u8], r: Reply) -> usize
+pub fn head(out: &mut [u8], r: Reply) -> Option<usize>
     ensures { Puts (head_bytes (reply_of r [])) out.old result out.new }
 {
-    let p = parts_of(r);
-    let n = p.length;
+    let (status, n) = told(r);
     let a = [
-        p.status,
+        status,
         fields::low(n / 16777216),
         fields::low(n / 65536),
         fields::low(n / 256),
         fields::low(n),
     ];
-    put(out, &a, laws::front(&a, 0))
+    put(out, &a, &[])
 }

@@ -7,6 +7,8 @@ use mathlib.Core.Path.{◌∙◌, ◌≡◌, ap}
 use native.Mathlib.Omega.{arith}
 use lib.Bits.{bit_and}
 use lib.ListN.{get_or}
+use Rattle.std.specs.Prelude.{Option, None, Some, IfSome}
+use Rattle.std.specs.Option.{unwrap_or}
 use Rattle.laws.specs.Bits.{bit}
 use Rattle.laws.specs.Bounded.{tally}
 use Rattle.laws.proofs.BitLaws.{bit-both}
@@ -57,3 +59,8 @@ common-both x t a b f g = record {
     typed = λ o m h. bit-both (w.kind o) a b ((f.at w c d p l e).typed o m h) ((g.at w c d p l e).typed o m h);
   };
 }
+
+-- one mask more, where there may be one
+pub common-more : (x : Lines) (t m : ℕ) (k : Option ℕ) → IfSome k (Common x t) → Common x t m → Common x t (bit_and (unwrap_or k m) m)
+common-more x t m None f g = common-both x t m m g g
+common-more x t m (Some a) f g = common-both x t a m f g

@@ -1,16 +1,10 @@
 // Parts whose whole is given by more than one composition: each asks for a whole, and there is only one.
 #![tactic(auto)]
 
-ghost use Rattle.std.specs.Prelude.{◌≡◌, true, ℕ, ◌<◌, get_or};
-ghost use Rattle.worlds.specs.declared.Lines.{Lines};
+ghost use Rattle.std.specs.Prelude.{◌≡◌, true, ◌<◌, get_or, IfSome};
 ghost use Rattle.common_wholes.specs.Common.{Common};
 
-// some: each object of a type has a whole. Its whole has a type of the mask.
-#[derive(Clone, Copy)]
-pub struct Shared {
-    pub some: bool,
-    pub mask: u32,
-}
+use laws::Mask;
 
 // Whether composition j gives each object of type t its whole: it asks for a source, and its sources are wholes.
 fn is_giving(lines: worlds::Lines, t: u32, j: usize) -> bool
@@ -23,39 +17,22 @@ fn is_giving(lines: worlds::Lines, t: u32, j: usize) -> bool
     if lines.wholeslot[j] != lines.columnslot[j] {
         return false;
     }
-    laws::has32(lines.columnto[j], t)
-        & laws::has32(lines.wholeto[j], t)
+    lines.columnto[j].has(t)
+        & lines.wholeto[j].has(t)
         & type_tables::is_inside(lines.columnfrom[j], lines.wholefrom[j])
 }
 
-// What is known of the whole, with one more mask for its type.
-fn also(known: Shared, mask: u32) -> Shared
-    ensures { (x : Lines) (t : ℕ) → (known.some ≡ true → Common x t known.mask) → Common x t mask → Common x t result.mask }
-{
-    if known.some {
-        return Shared {
-            some: true,
-            mask: known.mask & mask,
-        };
-    }
-    Shared { some: true, mask }
-}
-
-// What is known of the whole of each object of type t.
-pub fn common_whole(lines: worlds::Lines, t: u32) -> Shared
+// The types that the whole of an object of type t may have, where each has a whole.
+pub fn common_whole(lines: worlds::Lines, t: u32) -> Option<u32>
     requires { t < 24 }
-    ensures { result.some ≡ true → Common lines t result.mask }
+    ensures { IfSome result (Common lines t) }
 {
-    let mut known = Shared {
-        some: false,
-        mask: 0,
-    };
-    let mut j: usize = 0;
-    while j < 16 {
+    let mut known = None;
+    for j in 0..16 {
         if is_giving(lines, t, j) {
-            known = also(known, lines.columnfrom[j]);
+            let mask = lines.columnfrom[j];
+            known = Some(known.unwrap_or(mask) & mask);
         }
-        j += 1;
     }
     known
 }

@@ -24,7 +24,9 @@ module _ (old new : StoredDiagram) {dues own targets sources lows highs targets2
       → UsableTypes (diagram_of old) usable → SingleTypes (diagram_of old) (diagram_of old) singles → RowTables (diagram_of old) (diagram_of new) targets2 lows2 highs2
       → LinesOf (diagram_of old) (diagram_of new) lines2 → SingleTypes (diagram_of old) (diagram_of new) singles2 → missing ≡ single_missing (diagram_of old) (diagram_of new)
       → BadTypes (diagram_of old) (diagram_of new) values → MissingLinks (diagram_of old) (diagram_of new) roles
-      → Ready (diagram_of old) (diagram_of new) dues (sheet usable singles targets lows highs lines) sources (bit_or values roles) singles2 missing targets2 lows2 highs2 lines2
+      → Ready (diagram_of old) (diagram_of new) dues
+      (record { targets = targets; sources = sources; lows = lows; highs = highs; lines = lines; usable = usable; singles = singles })
+      (record { targets = targets2; lows = lows2; highs = highs2; lines = lines2; bad = bit_or values roles; singles = singles2; missing = missing })
   unfolding either
   ready held of-dues rows narrow turned of-lines of-usable of-singles rows2 of-lines2 of-singles2 is bad lacking = record {
     dues-are = of-dues;

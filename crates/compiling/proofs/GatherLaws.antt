@@ -5,10 +5,10 @@ use native.Mathlib.Omega.{arith}
 use native.Mathlib.Decide.{dec_lt}
 use mathlib.Core.List.{List, ◌++◌}
 use mathlib.Core.Path.{◌≡◌, refl, sym, ap, ◌∙◌}
-use lib.ListN.{length, get_or-eq_default}
+use lib.ListN.{length, get_or, replicate, get_or-eq_default, length-replicate}
 use Rattle.laws.specs.Lists.{joined}
 use Rattle.laws.proofs.JoinedLaws.{joined-more, joined-ext}
-use Rattle.laws.proofs.ListLaws.{zeros}
+use Rattle.std.proofs.lemmas.List.{get_or-replicate}
 use Rattle.files.specs.Diagram.{Association, association_at}
 use Rattle.diagrams.specs.View.{association_in, diagram_of}
 use Rattle.diagrams.specs.Held.{Held}
@@ -17,14 +17,22 @@ use Rattle.diagrams.specs.declared.StoredDiagram.{StoredDiagram}
 use Rattle.diagrams.proofs.ViewLaws.{association-count, association-at}
 use Rattle.rules.specs.Compile.{Entry, bare, compile, entries_of, entry_at}
 use Rattle.entries.specs.declared.Entries.{Entries}
-use Rattle.entries.specs.View.{Appends, entries_in, entry_in, entry_of, no_entries}
+use Rattle.entries.specs.View.{Appends, entries_in, entry_in, entry_seen, no_entries, zero_entry}
+use Rattle.entries.specs.declared.Entry as stored
 use Rattle.compiling.specs.Compiled.{Compiles, Gathered, entries_to}
 use Rattle.entries.proofs.AppendLaws.{entry-at, grown, number_is}
+
+zero-at : (n k : ℕ) → get_or (replicate n zero_entry) k zero_entry ≡ zero_entry
+zero-at n k = go (dec_lt k n)
+  where
+    go : Dec (k < n) → get_or (replicate n zero_entry) k zero_entry ≡ zero_entry
+    go (yes l) = get_or-replicate n k zero_entry zero_entry l
+    go (no l) = get_or-eq_default (replicate n zero_entry) zero_entry (let h : length (replicate n zero_entry) ≤ k = omega (arith, length-replicate {A = stored.Entry} n zero_entry) in h)
 
 module _ (a : Associations) where
   pub gathered_none : Gathered a 0 no_entries
   unfolding no_entries entries_in entries_to joined entry_in
-  gathered_none = record { entries = refl; most = omega arith; rest = λ k h. ap (λ (x : ℕ). entry_of x x x x x) (zeros 64 k) }
+  gathered_none = record { entries = refl; most = omega arith; rest = λ k h. ap entry_seen (zero-at 64 k) }
 
   pub gathered-more : {i : ℕ} {r q : Entries} → Gathered a i r → Appends r q (entries_of i (association_in a i)) → q.number ≤ r.number + 4 → Gathered a (i + 1) q
   unfolding entries_to

@@ -20,17 +20,19 @@ use Rattle.compiling.specs.Table.{asked, entries_for, whole_for}
 use Rattle.entries.proofs.AppendLaws.{appends-as, appends-then}
 
 -- the code's table
-abbrev pub kinds : List (List ℕ)
-kinds = (0 ∷ 0 ∷ 0 ∷ []) ∷ (1 ∷ 3 ∷ 0 ∷ []) ∷ (1 ∷ 3 ∷ 0 ∷ []) ∷ (1 ∷ 1 ∷ 5 ∷ []) ∷ (1 ∷ 1 ∷ 5 ∷ []) ∷ []
-
-abbrev pub sides : List (List ℕ)
-sides = (0 ∷ 0 ∷ 0 ∷ []) ∷ (0 ∷ 0 ∷ 0 ∷ []) ∷ (1 ∷ 1 ∷ 0 ∷ []) ∷ (0 ∷ 1 ∷ 0 ∷ []) ∷ (0 ∷ 1 ∷ 0 ∷ []) ∷ []
+abbrev pub table_rows : List (List (ℕ × ℕ))
+table_rows =
+    ((0, 0) ∷ (0, 0) ∷ (0, 0) ∷ [])
+    ∷ ((1, 0) ∷ (3, 0) ∷ (0, 0) ∷ [])
+    ∷ ((1, 1) ∷ (3, 1) ∷ (0, 0) ∷ [])
+    ∷ ((1, 0) ∷ (1, 1) ∷ (5, 0) ∷ [])
+    ∷ ((1, 0) ∷ (1, 1) ∷ (5, 0) ∷ []) ∷ []
 
 abbrev pub kind_at : ℕ → ℕ → ℕ
-kind_at arrow s = get_or (get_or kinds arrow []) s 0
+kind_at arrow s = (get_or (get_or table_rows arrow []) s (0, 0)).0
 
 abbrev pub side_at : ℕ → ℕ → ℕ
-side_at arrow s = get_or (get_or sides arrow []) s 0
+side_at arrow s = (get_or (get_or table_rows arrow []) s (0, 0)).1
 
 -- what the first s places of an arrow's row ask for
 unfoldable pub asked_to : ℕ → ℕ → List Asked

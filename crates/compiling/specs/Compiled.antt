@@ -1,6 +1,6 @@
 -- What the compiler gives: the entries of a diagram, and their bytes.
 -- Assumes nothing.
-use Rattle.std.specs.Prelude.{ℕ, ◌*◌, ◌<◌, ◌≤◌, List, ◌≡◌, get_or, length, replicate}
+use Rattle.std.specs.Prelude.{ℕ, ◌*◌, ◌<◌, ◌≤◌, List, ◌≡◌, length, replicate}
 use Rattle.laws.specs.Lists.{joined, over}
 use Rattle.diagrams.specs.View.{association_in, diagram_of}
 use Rattle.diagrams.specs.declared.Associations.{Associations}
@@ -28,8 +28,8 @@ pub record Compiles (d : StoredDiagram) (r : Entries) : Type 0 where
 
 -- the limits of each entry fit their bytes
 pub record Small (e : Entries) : Type 0 where
-  pub low : (k : ℕ) → get_or e.lows k 0 < 256
-  pub up : (k : ℕ) → get_or e.ups k 0 < 256
+  pub low : (k : ℕ) → (entry_in e k).low < 256
+  pub up : (k : ℕ) → (entry_in e k).up < 256
 
 -- the bytes of the first n entries
 unfoldable pub bytes_to : Entries → ℕ → List ℕ

@@ -10,85 +10,102 @@ ghost use Rattle.entries.specs.View.{Appends};
 ghost use Rattle.compiling.specs.Table.{asked, entries_for, whole_for};
 ghost use Rattle.compiling.specs.Compiled.{Compiles, Gives, Small, bytes_to, written};
 
-use entries::Entries;
+use diagrams::Associations;
+use entries::{Entries, Entry};
 
+// The list is the reply's: 64 places of five bytes each, of which `number` are entries.
 #[derive(Clone, Copy)]
 pub struct Compiled {
     pub number: usize,
     pub list: [u8; 320],
 }
 
-// Of each arrow, the kinds of its entries in order, 0 for none, and their sides. No arrow has the number 0.
-const KINDS: [[u8; 3]; 5] = [[0, 0, 0], [1, 3, 0], [1, 3, 0], [1, 1, 5], [1, 1, 5]];
-
-const SIDES: [[u8; 3]; 5] = [[0, 0, 0], [0, 0, 0], [1, 1, 0], [0, 1, 0], [0, 1, 0]];
+// Of each arrow, the kinds of its entries in order with their sides, kind 0 for none.
+const ROWS: [[(u8, u8); 3]; 5] = [
+    [(0, 0), (0, 0), (0, 0)], // no arrow has the number 0
+    [(1, 0), (3, 0), (0, 0)], // arrow 1
+    [(1, 1), (3, 1), (0, 0)], // arrow 2
+    [(1, 0), (1, 1), (5, 0)], // arrow 3
+    [(1, 0), (1, 1), (5, 0)], // arrow 4
+];
 
 // ---- entries
 
 // One entry more, of a kind with limits: without an upper one it is the next kind, and up is 0.
-fn push_limited(e: Entries, kind: u8, association: u8, side: u8, low: u16, up: u16) -> Entries
-    requires { (e.number < 64) × ((kind < 4) × (side ≤ 1)) }
-    ensures { Appends e result (limited kind association (side_of side) low (upper_in up) ∷ []) × (result.number ≡ e.number + 1) }
+fn push_limited(r: &mut Entries, kind: u8, association: u8, side: u8, low: u16, up: u16)
+    requires { (r.old.number < 64) × ((kind < 4) × (side ≤ 1)) }
+    ensures { Appends r.old r.new (limited kind association (side_of side) low (upper_in up) ∷ []) × (r.new.number ≡ r.old.number + 1) }
 {
     if up == 65535 {
-        return entries::push(e, kind + 1, association, side, low, 0);
+        r.push(Entry {
+            kind: kind + 1,
+            association,
+            side,
+            low,
+            up: 0,
+        });
+    } else {
+        r.push(Entry {
+            kind,
+            association,
+            side,
+            low,
+            up,
+        });
     }
-    entries::push(e, kind, association, side, low, up)
 }
 
 // What a place of the table asks for, of association i. Side 0 goes from the left end to the right one, side 1 back; rule 6 has the
 // limits of the end that the side's links go to, rule 7 those of the end that they come from.
-fn push_asked(e: Entries, a: diagrams::Associations, i: usize, kind: u8, side: u8) -> Entries
-    requires { (e.number < 64) × ((i < 16) × (side ≤ 1)) }
-    ensures { Appends e result (entries_for i (association_in a i) (asked kind side)) × (result.number ≤ e.number + 1) }
+fn push_asked(r: &mut Entries, a: &Associations, i: usize, kind: u8, side: u8)
+    requires { (r.old.number < 64) × ((i < 16) × (side ≤ 1)) }
+    ensures { Appends r.old r.new (entries_for i (association_in a.now i) (asked kind side)) × (r.new.number ≤ r.old.number + 1) }
 {
     if kind == 0 {
-        return e;
+        return;
     }
     if kind == 5 {
-        return entries::push(e, 5, i as u8, 0, 0, 0);
+        r.push(Entry::bare(5, i as u8));
+        return;
     }
-    let from = i * 2 + laws::wide(side);
-    let to = i * 2 + 1 - laws::wide(side);
+    let from = i * 2 + usize::from(side);
+    let to = i * 2 + 1 - usize::from(side);
     if kind == 1 {
-        return push_limited(e, 1, i as u8, side, a.lows[to], a.ups[to]);
+        push_limited(r, 1, i as u8, side, a.lows[to], a.ups[to]);
+    } else {
+        push_limited(r, 3, i as u8, side, a.lows[from], a.ups[from]);
     }
-    push_limited(e, 3, i as u8, side, a.lows[from], a.ups[from])
 }
 
 // What the row of association i's arrow asks for.
-fn push_row(e: Entries, a: diagrams::Associations, i: usize) -> Entries
-    requires { (e.number < 62) × ((i < 16) × ((association_in a i).arrow < 5)) }
-    ensures { Appends e result (entries_for i (association_in a i) (row_of (association_in a i))) × (result.number ≤ e.number + 3) }
+fn push_row(r: &mut Entries, a: &Associations, i: usize)
+    requires { (r.old.number < 62) × ((i < 16) × ((association_in a.now i).arrow < 5)) }
+    ensures { Appends r.old r.new (entries_for i (association_in a.now i) (row_of (association_in a.now i))) × (r.new.number ≤ r.old.number + 3) }
 {
-    let arrow = laws::wide(a.arrows[i]);
-    let mut r = e;
-    let mut s: usize = 0;
-    while s < 3 {
-        r = push_asked(r, a, i, KINDS[arrow][s], SIDES[arrow][s]);
-        s += 1;
+    let arrow = usize::from(a.arrows[i]);
+    let row = &ROWS[arrow];
+    for (kind, side) in row {
+        push_asked(r, a, i, *kind, *side);
     }
-    r
 }
 
 // Kind 6 of association i, if it is a composition.
-fn push_whole(e: Entries, a: diagrams::Associations, i: usize) -> Entries
-    requires { (e.number < 64) × (i < 16) }
-    ensures { Appends e result (whole_for i (association_in a i)) × (result.number ≤ e.number + 1) }
+fn push_whole(r: &mut Entries, a: &Associations, i: usize)
+    requires { (r.old.number < 64) × (i < 16) }
+    ensures { Appends r.old r.new (whole_for i (association_in a.now i)) × (r.new.number ≤ r.old.number + 1) }
 {
     if a.forms[i] == 1 {
-        return entries::push(e, 6, i as u8, 0, 0, 0);
+        r.push(Entry::bare(6, i as u8));
     }
-    e
 }
 
 // The entries of association i: its row's, and kind 6 last.
-fn push_association(e: Entries, a: diagrams::Associations, i: usize) -> Entries
-    requires { (e.number < 61) × ((i < 16) × ((association_in a i).arrow < 5)) }
-    ensures { Appends e result (entries_of i (association_in a i)) × (result.number ≤ e.number + 4) }
+fn push_association(r: &mut Entries, a: &Associations, i: usize)
+    requires { (r.old.number < 61) × ((i < 16) × ((association_in a.now i).arrow < 5)) }
+    ensures { Appends r.old r.new (entries_of i (association_in a.now i)) × (r.new.number ≤ r.old.number + 4) }
 {
-    let r = push_row(e, a, i);
-    push_whole(r, a, i)
+    push_row(r, a, i);
+    push_whole(r, a, i);
 }
 
 // The entries of a diagram, association by association.
@@ -96,13 +113,9 @@ pub fn compile_entries(d: diagrams::StoredDiagram) -> Entries
     requires { Held d }
     ensures { Compiles d result }
 {
-    let a = d.associations;
-    let count = a.count;
-    let mut r = entries::no_entries();
-    let mut i: usize = 0;
-    while i < count {
-        r = push_association(r, a, i);
-        i += 1;
+    let mut r = Entries::none();
+    for i in 0..d.associations.count {
+        push_association(&mut r, &d.associations, i);
     }
     r
 }
@@ -110,16 +123,17 @@ pub fn compile_entries(d: diagrams::StoredDiagram) -> Entries
 // ---- bytes
 
 // The bytes of entry i into its place.
-fn put_entry(list: &mut [u8; 320], e: Entries, i: usize)
-    requires { (i < 64) × ((list.old ≡ written e i) × Small e) }
-    ensures { list.new ≡ written e (i + 1) }
+fn put_entry(list: &mut [u8; 320], e: &Entries, i: usize)
+    requires { (i < 64) × ((list.old ≡ written e.now i) × Small e.now) }
+    ensures { list.new ≡ written e.now (i + 1) }
 {
     let at = i * 5;
-    list[at] = e.kinds[i];
-    list[at + 1] = e.associations[i];
-    list[at + 2] = e.sides[i];
-    list[at + 3] = e.lows[i] as u8;
-    list[at + 4] = e.ups[i] as u8;
+    let entry = e.list[i];
+    list[at] = entry.kind;
+    list[at + 1] = entry.association;
+    list[at + 2] = entry.side;
+    list[at + 3] = entry.low as u8;
+    list[at + 4] = entry.up as u8;
 }
 
 // The 64 entries, five bytes each.
@@ -128,10 +142,8 @@ pub fn list_bytes(e: Entries) -> [u8; 320]
     ensures { result ≡ bytes_to e 64 }
 {
     let mut list = [0u8; 320];
-    let mut i: usize = 0;
-    while i < 64 {
-        put_entry(&mut list, e, i);
-        i += 1;
+    for i in 0..64 {
+        put_entry(&mut list, &e, i);
     }
     list
 }
@@ -145,6 +157,6 @@ pub fn compile(d: diagrams::StoredDiagram) -> Compiled
     let list = list_bytes(e);
     Compiled {
         number: e.number,
-        list: list,
+        list,
     }
 }

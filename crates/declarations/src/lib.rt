@@ -1,88 +1,46 @@
-// The declarations of an attribute name for an object, by the tables of instances and slots.
+// The declarations of an attribute name for an object, by the tables of instances and of the attributes' slots.
 #![tactic(auto)]
 
 ghost use Rattle.std.specs.Prelude.{◌≡◌, ◌<◌};
 ghost use Rattle.laws.specs.Bounded.{all, any};
 ghost use Rattle.declarations.specs.Declares.{declares_at, agrees_at};
 
+use diagrams::Attributes;
+use laws::Mask;
+use tables::Tables;
+
 // Attribute a is one of object o's type or of an ancestor, and has the name in slot s.
-fn is_declaring<'a>(
-    owners: &'a [u8; 32],
-    masks: &'a [u8; 24],
-    slots: &'a [u8; 32],
-    o: u8,
-    s: u8,
-    a: u8,
-) -> bool
+fn is_declaring(attributes: &Attributes, t: &Tables, o: u8, s: u8, a: usize) -> bool
     requires { o < 8 }
-    ensures { result ≡ declares_at owners.now masks.now slots.now o s a }
+    ensures { result ≡ declares_at attributes.now.owners t.now.masks t.now.slots o s a }
 {
-    let owner = laws::byte(owners, laws::wide(a));
-    laws::has8(laws::byte(masks, laws::wide(owner)), o) & (laws::byte(slots, laws::wide(a)) == s)
+    let owner = laws::byte(&attributes.owners, a);
+    laws::byte(&t.masks, usize::from(owner)).has(o) & (laws::byte(&t.slots, a) == s)
 }
 
-// One of n attributes is such a declaration.
-pub fn is_declared<'a>(
-    owners: &'a [u8; 32],
-    masks: &'a [u8; 24],
-    slots: &'a [u8; 32],
-    n: u8,
-    o: u8,
-    s: u8,
-) -> bool
+// One of the attributes is such a declaration.
+pub fn is_declared(attributes: &Attributes, t: &Tables, o: u8, s: u8) -> bool
     requires { o < 8 }
-    ensures { result ≡ any (declares_at owners.now masks.now slots.now o s) n }
+    ensures { result ≡ any (declares_at attributes.now.owners t.now.masks t.now.slots o s) attributes.now.count }
 {
-    let mut a: u8 = 0;
-    while a < n {
-        if is_declaring(owners, masks, slots, o, s, a) {
-            return true;
-        }
-        a += 1;
-    }
-    false
+    (0..attributes.count).any(|a| is_declaring(attributes, t, o, s, a))
 }
 
-// Attribute a, if it is a declaration for object o and slot s, has value type t.
-fn is_agreeing<'a>(
-    owners: &'a [u8; 32],
-    types: &'a [u8; 32],
-    masks: &'a [u8; 24],
-    slots: &'a [u8; 32],
-    o: u8,
-    s: u8,
-    t: u8,
-    a: u8,
-) -> bool
+// Attribute a, if it is a declaration for object o and slot s, has the value type.
+fn is_agreeing(attributes: &Attributes, t: &Tables, o: u8, s: u8, value_type: u8, a: usize) -> bool
     requires { o < 8 }
-    ensures { result ≡ agrees_at owners.now types.now masks.now slots.now o s t a }
+    ensures { result ≡ agrees_at attributes.now.owners attributes.now.types t.now.masks t.now.slots o s value_type a }
 {
-    if !is_declaring(owners, masks, slots, o, s, a) {
+    if !is_declaring(attributes, t, o, s, a) {
         return true;
     }
-    laws::byte(types, laws::wide(a)) == t
+    laws::byte(&attributes.types, a) == value_type
 }
 
-// Each of n attributes that is such a declaration has value type t.
-pub fn are_agreeing<'a>(
-    owners: &'a [u8; 32],
-    types: &'a [u8; 32],
-    masks: &'a [u8; 24],
-    slots: &'a [u8; 32],
-    n: u8,
-    o: u8,
-    s: u8,
-    t: u8,
-) -> bool
+// Each of the attributes that is such a declaration has the value type.
+pub fn are_agreeing(attributes: &Attributes, t: &Tables, o: u8, s: u8, value_type: u8) -> bool
     requires { o < 8 }
-    ensures { result ≡ all (agrees_at owners.now types.now masks.now slots.now o s t) n }
+    ensures { result ≡ all (agrees_at attributes.now.owners attributes.now.types t.now.masks t.now.slots o s value_type) attributes.now.count }
 {
-    let mut a: u8 = 0;
-    while a < n {
-        if !is_agreeing(owners, types, masks, slots, o, s, t, a) {
-            return false;
-        }
-        a += 1;
-    }
-    true
+    (0..attributes.count).all(|a| is_agreeing(attributes, t, o, s, value_type, a))
 }

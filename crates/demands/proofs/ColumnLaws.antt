@@ -1,5 +1,6 @@
 -- The columns of the given objects are limits.
 -- Assumes nothing.
+use Rattle.std.specs.Prelude.{Option}
 use Prim.Native.Nat.{◌*◌, ◌+◌, ◌<◌, ℕ}
 use mathlib.Core.Bool.{Bool, ◌&&◌, true}
 use mathlib.Core.List.{List}
@@ -15,12 +16,11 @@ use Rattle.link_search.specs.Nets.{InLimits}
 use Rattle.worlds.specs.declared.Lines.{Lines}
 use Rattle.worlds.specs.Kept.{ColumnsKept}
 use Rattle.demands.specs.declared.Start.{Start}
-use Rattle.demands.specs.declared.Wish.{Wish}
 use Rattle.demands.specs.Wishes.{Limited, Sharpens, Started}
 use Rattle.clashes.specs.Sources.{SourcesKept}
 use Rattle.demands.specs.Families.{SourcesWithin}
 
-module _ (s : Start) (sources : List ℕ) (best r : Wish) where
+module _ (s : Start) (sources : List ℕ) (best r : Option ℕ) where
   -- x: where the table has the sources of object p in the slot
   pub sources-sharp : (slot mask low high p x : ℕ) → slot < 32 → p < s.k → x ≡ get_or s.types p 0 * 32 + slot
       → ((q : World → ℕ → Bool) → Sharpens (λ w. Limited low high (bit_and mask (get_or sources x 0)) 0 (q w) w) s best r)

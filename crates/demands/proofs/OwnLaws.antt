@@ -1,5 +1,6 @@
 -- What a query asks of its first object: a wish that the object's row or column sharpens, the query sharpens.
 -- Assumes nothing.
+use Rattle.std.specs.Prelude.{Option}
 use Prim.Native.Nat.{◌<◌, ℕ}
 use mathlib.Core.List.{List}
 use Rattle.growing.specs.World.{source_count, target_count}
@@ -7,13 +8,12 @@ use Rattle.link_search.specs.Nets.{InLimits}
 use Rattle.worlds.specs.declared.Query.{Query}
 use Rattle.worlds.specs.Asked.{Satisfies}
 use Rattle.demands.specs.declared.Start.{Start}
-use Rattle.demands.specs.declared.Wish.{Wish}
 use Rattle.demands.specs.Wishes.{Sharpens}
 use Rattle.clashes.specs.Sources.{SourcesKept}
 use Rattle.demands.specs.Families.{RowsOpen}
 use Rattle.demands.proofs.NeedLaws.{sharp-from, sharp-trans}
 
-pub own-sharp : (targets sources lows highs : List ℕ) (q : Query) (s : Start) (a b c : Wish) → 0 < q.seeds
+pub own-sharp : (targets sources lows highs : List ℕ) (q : Query) (s : Start) (a b c : Option ℕ) → 0 < q.seeds
     → Sharpens (λ w. RowsOpen targets lows highs q.shut w × InLimits q.low q.high (target_count w q.row 0)) s a b
     → Sharpens (λ w. SourcesKept sources w × InLimits q.least q.most (source_count w q.column q.from 0)) s b c
     → Sharpens (λ w. RowsOpen targets lows highs q.shut w × SourcesKept sources w × Satisfies q w) s a c

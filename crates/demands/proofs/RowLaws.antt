@@ -1,5 +1,6 @@
 -- The rows of the given objects are limits, and so is the row of the first object with limits of its own.
 -- Assumes nothing.
+use Rattle.std.specs.Prelude.{Option}
 use Prim.Native.Nat.{◌*◌, ◌+◌, ◌<◌, max, min, ℕ}
 use mathlib.Core.Bool.{Bool, false, true}
 use mathlib.Core.List.{List}
@@ -12,7 +13,6 @@ use Rattle.laws.proofs.ConnectiveLaws.{known, true-false}
 use Rattle.growing.specs.World.{World, target_count}
 use Rattle.link_search.specs.Nets.{InLimits}
 use Rattle.demands.specs.declared.Start.{Start}
-use Rattle.demands.specs.declared.Wish.{Wish}
 use Rattle.demands.specs.Wishes.{Known, Limited, Sharpens, Started}
 use Rattle.demands.specs.Families.{RowsOpen}
 
@@ -46,7 +46,7 @@ module _ (targets lows highs shut : List ℕ) (s : Start) (fine : Known s) (o i 
 
   -- ---- what the wish of limits says of a row, and of a row with limits of its own
 
-  module _ (best r : Wish) where
+  module _ (best r : Option ℕ) where
     pub row-sharp
         : ((p : World → ℕ → Bool) → Sharpens (λ w. Limited (get_or lows (x + i) 0) (get_or highs (x + i) 0) (get_or targets (x + i) 0) (get_or shut y 0) (p w) w) s best r)
         → Sharpens (RowsOpen targets lows highs shut) s best r

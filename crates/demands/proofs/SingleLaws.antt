@@ -1,5 +1,6 @@
 -- A singleton that is not among the given objects is a need.
 -- Assumes nothing.
+use Rattle.std.specs.Prelude.{Option}
 use Prim.Native.Nat.{◌+◌, ◌<◌, ◌≤◌, ℕ}
 use mathlib.Core.Bool.{◌&&◌, ◌||◌, false, not, true}
 use mathlib.Core.List.{List}
@@ -18,7 +19,6 @@ use Rattle.growing.specs.Demand.{extras}
 use Rattle.growing.proofs.DemandLaws.{single-needs}
 use Rattle.worlds.specs.Kept.{SinglesKept}
 use Rattle.demands.specs.declared.Start.{Start}
-use Rattle.demands.specs.declared.Wish.{Wish}
 use Rattle.demands.specs.Wishes.{Sharpens, Started, present}
 
 -- a type of the mask of those that are missing is a singleton, and not there
@@ -44,6 +44,6 @@ module _ (s : Start) (singles t : ℕ) (small : t < 24) (single : bit t singles 
       S : World → Type 0
       S v = Started s v × SinglesKept singles v
 
-  pub single-sharp : (best r : Wish) (m : ℕ) → ((j : ℕ) → bit j m ≡ bit j 0 || eqb j t)
+  pub single-sharp : (best r : Option ℕ) (m : ℕ) → ((j : ℕ) → bit j m ≡ bit j 0 || eqb j t)
       → Sharpens (λ w. 1 ≤ extras (bit_and m s.free) s.k w) s best r → Sharpens (SinglesKept singles) s best r
   single-sharp best r m is f = record { at = λ w a h. f.at w a (single-need m is w a h) }

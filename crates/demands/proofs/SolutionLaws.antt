@@ -1,5 +1,6 @@
--- What a solution keeps, family by family: a wish that one family sharpens, a solution sharpens.
+-- What a solution keeps, family by family: what one family sharpens, a solution sharpens.
 -- Assumes nothing.
+use Rattle.std.specs.Prelude.{Option}
 use Prim.Native.Nat.{ℕ}
 use mathlib.Core.List.{List}
 use Rattle.growing.specs.World.{World}
@@ -7,7 +8,6 @@ use Rattle.worlds.specs.declared.Query.{Query}
 use Rattle.worlds.specs.Asked.{Satisfies, Solution}
 use Rattle.worlds.specs.Kept.{Allowed, ColumnsKept, Sheet, SinglesKept, SourceTable, WholesKept, sheet}
 use Rattle.demands.specs.declared.Start.{Start}
-use Rattle.demands.specs.declared.Wish.{Wish}
 use Rattle.demands.specs.Wishes.{Sharpens}
 use Rattle.clashes.specs.Sources.{SourcesKept}
 use Rattle.clashes.proofs.SolutionLaws.{sources-kept}
@@ -18,7 +18,7 @@ module _ (x : Sheet) (q : Query) (n : ℕ) where
   pub rows-open : (w : World) → Solution x q n w → RowsOpen x.targets x.lows x.highs q.shut w
   rows-open w s = record { rows = s.allowed.rows; apart = s.asked.shut }
 
-  module _ (s : Start) (a b : Wish) where
+  module _ (s : Start) (a b : Option ℕ) where
     pub by-singles : Sharpens (SinglesKept x.singles) s a b → Sharpens (Solution x q n) s a b
     by-singles = sharp-from s a b (λ w _ h. h.allowed.singles)
 

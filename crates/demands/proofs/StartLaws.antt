@@ -1,6 +1,7 @@
--- A solution that extends the given types starts with them, and its extra objects have available types; and a wish that is right about
+-- A solution that extends the given types starts with them, and its extra objects have available types; and what is right about
 -- all solutions is what a demand promises.
 -- Assumes nothing.
+use Rattle.std.specs.Prelude.{Option, Some, is_none, unwrap_or}
 use Prim.Native.Nat.{◌-◌, ◌<◌, ◌≤◌, ℕ}
 use mathlib.Core.Bool.{Bool, ◌&&◌, false, not, true}
 use mathlib.Core.List.{List}
@@ -22,11 +23,10 @@ use Rattle.worlds.specs.declared.Query.{Query}
 use Rattle.worlds.specs.Asked.{Solution}
 use Rattle.worlds.specs.Kept.{Sheet}
 use Rattle.demands.specs.declared.Start.{Start}
-use Rattle.demands.specs.declared.Wish.{Wish}
 use Rattle.demands.specs.Wishes.{Right, Sharpens, Started, available, present}
 
 -- nothing is known but the available types
-right-free : (s : Start) (w : World) → Started s w → Right s.k (record { dead = false; g = s.free }) w
+right-free : (s : Start) (w : World) → Started s w → Right s.k (Some s.free) w
 right-free s w a = record {
   alive = refl;
   extra = λ l. record { at = s.k; past = omega arith; below = l; small = a.known s.k l; typed = a.extra s.k (omega arith) l };
@@ -68,10 +68,10 @@ module _ (x : Sheet) (q : Query) (n : ℕ) (types : List ℕ) (k forb free : ℕ
       extra = all-free w e s;
     }
 
-    -- from what is known with no count to a wish that a solution sharpens
-    pub demanded : (r : Wish)
-        → Sharpens (Solution x q n) (record { types = types; k = k; spare = n - k; free = free }) (record { dead = false; g = free }) r
-        → Demanded (Solution x q n) 24 types k forb n r.dead (ltb k n) r.g
+    -- from what is known with no count to what a solution sharpens
+    pub demanded : (r : Option ℕ)
+        → Sharpens (Solution x q n) (record { types = types; k = k; spare = n - k; free = free }) (Some free) r
+        → Demanded (Solution x q n) 24 types k forb n (is_none r) (ltb k n) (unwrap_or r 0)
     demanded r sharp = record {
       nowhere = λ d w e s. true-false d (right w e s).alive;
       beyond = λ h w e s. omega (arith, ltb-true k n h, s.size);

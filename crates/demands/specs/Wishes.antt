@@ -1,13 +1,13 @@
--- What is known of a world that is looked for, and what a wish says of it.
+-- What is known of a world that is looked for, and what is demanded of it: one more object with a type of a mask, or that there is no such
+-- world.
 -- Assumes nothing.
-use Rattle.std.specs.Prelude.{◌+◌, ◌<◌, ◌≤◌, ℕ, Bool, ◌&&◌, false, not, true, List, ◌≡◌, eqb, get_or}
+use Rattle.std.specs.Prelude.{◌+◌, ◌<◌, ◌≤◌, ℕ, Bool, ◌&&◌, false, not, true, List, Option, ◌≡◌, eqb, get_or, is_none, unwrap_or}
 use Rattle.laws.specs.Bits.{bit}
 use Rattle.laws.specs.Bounded.{any, tally}
 use Rattle.growing.specs.World.{World}
 use Rattle.growing.specs.Growth.{Extra}
 use Rattle.link_search.specs.Nets.{InLimits}
 use Rattle.demands.specs.declared.Start.{Start}
-use Rattle.demands.specs.declared.Wish.{Wish}
 
 -- one of the first k objects has type t
 abbrev pub present : List ℕ → ℕ → ℕ → Bool
@@ -31,13 +31,13 @@ pub record Started (s : Start) (w : World) : Type 0 where
   pub kept : (o : ℕ) → o < s.k → w.kind o ≡ get_or s.types o 0
   pub extra : (o : ℕ) → s.k ≤ o → o < w.size → bit (w.kind o) s.free ≡ true
 
--- the wish is right about w: not dead, and where w has extra objects, one has a type of the mask
-pub record Right (k : ℕ) (r : Wish) (w : World) : Type 0 where
-  pub alive : r.dead ≡ false
-  pub extra : k < w.size → Extra 24 k r.g w
+-- what is demanded is right about w: there is something, and where w has extra objects, one has a type of the mask
+pub record Right (k : ℕ) (r : Option ℕ) (w : World) : Type 0 where
+  pub alive : is_none r ≡ false
+  pub extra : k < w.size → Extra 24 k (unwrap_or r 0) w
 
--- of each world with the property P that starts so: where the wish a is right about it, b is
-pub record Sharpens (P : World → Type 0) (s : Start) (a b : Wish) : Type 0 where
+-- of each world with the property P that starts so: where a is right about it, b is
+pub record Sharpens (P : World → Type 0) (s : Start) (a b : Option ℕ) : Type 0 where
   pub at : (w : World) → Started s w → P w → Right s.k a w → Right s.k b w
 
 -- p holds at `low` to `high` objects of w; these have types of the mask, and are not among the objects `shut`

@@ -3,16 +3,16 @@ ghost use Rattle.std.specs.Prelude.{◌≡◌, List, ℕ, ◌<◌, ◌≤◌, ge
 ghost use Rattle.laws.specs.Bits.{bit};
 ghost use Rattle.demands.specs.Wishes.{available, present};
 
+use laws::Mask;
+
 // The types of the first k objects.
 pub fn types_present(types: &[u8; 8], k: u8) -> u32
     requires { (k ≤ 8) × ((o : ℕ) → get_or types.now o 0 < 24) }
     ensures { (t : ℕ) → bit t result ≡ present types.now k t }
 {
     let mut mask: u32 = 0;
-    let mut o: u8 = 0;
-    while o < k {
-        mask = laws::with32(mask, clashes::type_of(types, o));
-        o += 1;
+    for o in 0..k {
+        mask = mask.with(clashes::type_of(types, o));
     }
     mask
 }

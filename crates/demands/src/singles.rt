@@ -1,27 +1,25 @@
 // Needs by singletons: each has exactly one object.
-ghost use Rattle.std.specs.Prelude.{◌≡◌, ℕ};
+ghost use Rattle.std.specs.Prelude.{◌≡◌, Some, ℕ};
 ghost use Rattle.laws.specs.Bits.{bit};
 ghost use Rattle.worlds.specs.Kept.{SinglesKept};
 ghost use Rattle.demands.specs.Wishes.{Sharpens, present};
 
-use crate::{Start, Wish};
+use crate::Start;
+use laws::Mask;
 
 // One more object for each singleton that is not among the types `here` of the given objects.
-pub fn with_singles(best: Wish, s: Start, singles: u32, here: u32) -> Wish
+pub fn with_singles(mut best: u32, s: Start, singles: u32, here: u32) -> Option<u32>
     requires { (t : ℕ) → bit t here ≡ present s.types s.k t }
-    ensures { Sharpens (SinglesKept singles) s best result }
+    ensures { Sharpens (SinglesKept singles) s (Some best) result }
 {
     let missing = type_tables::without(singles, here);
     if missing == 0 {
-        return best;
+        return Some(best);
     }
-    let mut wish = best;
-    let mut t: u32 = 0;
-    while t < 24 {
-        if laws::has32(missing, t) {
-            wish = crate::needs::with_need(wish, s, laws::with32(0, t) & s.free, 1);
+    for t in 0u32..24 {
+        if missing.has(t) {
+            best = crate::needs::with_need(best, s, 0u32.with(t) & s.free, 1)?;
         }
-        t += 1;
     }
-    wish
+    Some(best)
 }

@@ -46,6 +46,7 @@ pub struct Associations {
     pub roles: [u8; 544],
 }
 
+// Passed by value, with flat arrays of names and indices: a rule of the project.
 #[derive(Clone, Copy)]
 pub struct StoredDiagram {
     pub values: ValueTypes,
@@ -54,38 +55,39 @@ pub struct StoredDiagram {
     pub associations: Associations,
 }
 
+// Nothing declared. Spelled out: a derived Default promises each element of an array, and not the array.
 pub fn empty_diagram() -> StoredDiagram
     ensures { result ≡ empty_diagram }
 {
     StoredDiagram {
         values: ValueTypes {
             count: 0,
-            names: [0u8; 204],
-            sizes: [0u8; 12],
-            constants: [0u8; 1632],
+            names: [0; 204],
+            sizes: [0; 12],
+            constants: [0; 1632],
         },
         types: Types {
             count: 0,
-            kinds: [0u8; 24],
-            names: [0u8; 408],
-            sizes: [0u8; 24],
-            parents: [0u8; 96],
-            sets: [0u32; 24],
+            kinds: [0; 24],
+            names: [0; 408],
+            sizes: [0; 24],
+            parents: [0; 96],
+            sets: [0; 24],
         },
         attributes: Attributes {
             count: 0,
-            owners: [0u8; 32],
-            names: [0u8; 544],
-            types: [0u8; 32],
+            owners: [0; 32],
+            names: [0; 544],
+            types: [0; 32],
         },
         associations: Associations {
             count: 0,
-            forms: [0u8; 16],
-            arrows: [0u8; 16],
-            types: [0u8; 32],
-            lows: [0u16; 32],
-            ups: [0u16; 32],
-            roles: [0u8; 544],
+            forms: [0; 16],
+            arrows: [0; 16],
+            types: [0; 32],
+            lows: [0; 32],
+            ups: [0; 32],
+            roles: [0; 544],
         },
     }
 }

@@ -12,7 +12,8 @@ use Rattle.laws.specs.Lists.{joined}
 use Rattle.laws.proofs.JoinedLaws.{joined-more, joined-ext, length-each, get_or-each}
 use Rattle.rules.specs.Compile.{Entry, bare, entry_at}
 use Rattle.entries.specs.declared.Entries.{Entries}
-use Rattle.entries.specs.View.{Appends, entries_in, entry_in, entry_of}
+use Rattle.entries.specs.View.{Appends, entries_in, entry_in, entry_seen, zero_entry}
+use Rattle.entries.specs.declared.Entry as stored
 
 pub number_is : (e : Entries) → length (entries_in e) ≡ e.number
 unfolding entries_in
@@ -50,28 +51,16 @@ appends-one e r x n at other = record {
   kept = λ k h. other k (λ p. let z : ⊥ = omega arith in z);
 }
 
-entry-ext : {k k' a a' s s' l l' u u' : ℕ} → k ≡ k' → a ≡ a' → s ≡ s' → l ≡ l' → u ≡ u' → entry_of k a s l u ≡ entry_of k' a' s' l' u'
-entry-ext p q r s t = cc
+pub one-as : {x y : Entry} → x ≡ y → x ∷ [] ≡ y ∷ []
+one-as e = ap (λ (x : Entry). x ∷ []) e
 
-module _ (e : Entries) (kind association side low up : ℕ) where
-  -- what the five stores at the number leave
-  abbrev pub stored : Entries
-  stored = record {
-    number = e.number + 1;
-    kinds = set e.kinds e.number kind;
-    associations = set e.associations e.number association;
-    sides = set e.sides e.number side;
-    lows = set e.lows e.number low;
-    ups = set e.ups e.number up;
-  }
+-- what the store at the number leaves
+module _ (e : Entries) (x : stored.Entry) where
+  abbrev pub stored_with : Entries
+  stored_with = record { number = e.number + 1; list = set e.list e.number x }
 
-  pub pushed : e.number < length e.kinds → e.number < length e.associations → e.number < length e.sides → e.number < length e.lows
-      → e.number < length e.ups → Appends e stored (entry_of kind association side low up ∷ [])
+  pub pushed : e.number < length e.list → Appends e stored_with (entry_seen x ∷ [])
   unfolding entry_in
-  pushed a b c d f =
-      let n = e.number in
-      appends-one e stored (entry_of kind association side low up) refl
-      (entry-ext (get_or-set_same e.kinds n kind 0 a) (get_or-set_same e.associations n association 0 b) (get_or-set_same e.sides n side 0 c)
-      (get_or-set_same e.lows n low 0 d) (get_or-set_same e.ups n up 0 f))
-      (λ k p. entry-ext (get_or-set_other e.kinds n k kind 0 p) (get_or-set_other e.associations n k association 0 p)
-      (get_or-set_other e.sides n k side 0 p) (get_or-set_other e.lows n k low 0 p) (get_or-set_other e.ups n k up 0 p))
+  pushed l =
+      appends-one e stored_with (entry_seen x) refl (ap entry_seen (get_or-set_same e.list e.number x zero_entry l))
+      (λ k p. ap entry_seen (get_or-set_other e.list e.number k x zero_entry p))

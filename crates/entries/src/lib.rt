@@ -2,45 +2,61 @@
 #![tactic(auto)]
 
 ghost use Rattle.std.specs.Prelude.{◌≡◌, [], ◌∷◌, ◌+◌, ◌<◌};
-ghost use Rattle.entries.specs.View.{entry_of, no_entries, Appends};
 
-// Entry i, for i below the number, is kind, association, side, low and up at i.
+// Kind and side are kept as the numbers that the compiled record has: a list from elsewhere may hold any.
+#[derive(Clone, Copy)]
+pub struct Entry {
+    pub kind: u8,
+    pub association: u8,
+    pub side: u8,
+    pub low: u16,
+    pub up: u16,
+}
+
+// The first `number` of the list are its entries.
 #[derive(Clone, Copy)]
 pub struct Entries {
     pub number: usize,
-    pub kinds: [u8; 64],
-    pub associations: [u8; 64],
-    pub sides: [u8; 64],
-    pub lows: [u16; 64],
-    pub ups: [u16; 64],
+    pub list: [Entry; 64],
 }
 
-// No entry: all zero.
-pub fn no_entries() -> Entries
-    ensures { result ≡ no_entries }
-{
-    Entries {
-        number: 0,
-        kinds: [0u8; 64],
-        associations: [0u8; 64],
-        sides: [0u8; 64],
-        lows: [0u16; 64],
-        ups: [0u16; 64],
+impl Entry {
+    ghost use Rattle.rules.specs.Compile.{bare};
+    ghost use Rattle.entries.specs.View.{entry_seen};
+
+    // An entry of a kind that has no side and no limits.
+    pub fn bare(kind: u8, association: u8) -> Self
+        ensures { entry_seen result ≡ bare kind association }
+    {
+        Entry {
+            kind,
+            association,
+            side: 0,
+            low: 0,
+            up: 0,
+        }
     }
 }
 
-// One entry more.
-pub fn push(e: Entries, kind: u8, association: u8, side: u8, low: u16, up: u16) -> Entries
-    requires { e.number < 64 }
-    ensures { Appends e result (entry_of kind association side low up ∷ []) × (result.number ≡ e.number + 1) }
-{
-    let mut r = e;
-    let at = e.number;
-    r.kinds[at] = kind;
-    r.associations[at] = association;
-    r.sides[at] = side;
-    r.lows[at] = low;
-    r.ups[at] = up;
-    r.number = at + 1;
-    r
+impl Entries {
+    ghost use Rattle.entries.specs.View.{entry_seen, no_entries, Appends};
+
+    // No entry: all zero.
+    pub fn none() -> Self
+        ensures { result ≡ no_entries }
+    {
+        Entries {
+            number: 0,
+            list: [Entry::bare(0, 0); 64],
+        }
+    }
+
+    // One entry more.
+    pub fn push(&mut self, entry: Entry)
+        requires { self.old.number < 64 }
+        ensures { Appends self.old self.new (entry_seen entry ∷ []) × (self.new.number ≡ self.old.number + 1) }
+    {
+        self.list[self.number] = entry;
+        self.number += 1;
+    }
 }

@@ -73,5 +73,3 @@ module _ (d : Diagram) (x : Site) (kind i side low up : ℕ) {r : Bool} where
   pub holds-6 : kind ≢ 1 → kind ≢ 2 → kind ≢ 3 → kind ≢ 4 → kind ≢ 5 → r ≡ one_whole d x (association_at d i) → r ≡ holds d x (entry_of kind i side low up)
   unfolding holds
   holds-6 k1 k2 k3 k4 k5 e = rw (ne_eqb kind 1 k1, ne_eqb kind 2 k2, ne_eqb kind 3 k3, ne_eqb kind 4 k4, ne_eqb kind 5 k5) e
-
-pub ruleset kinds = (holds-1, holds-2, holds-3, holds-4, holds-5, holds-6)

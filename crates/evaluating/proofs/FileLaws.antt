@@ -2,8 +2,7 @@
 -- Assumes nothing.
 use Prim.Native.Nat.{ℕ}
 use mathlib.Core.List.{List}
-use mathlib.Core.Logic.{◌≢◌}
-use mathlib.Core.Path.{◌≡◌, sym, ◌∙◌}
+use mathlib.Core.Path.{◌≡◌, ap, ◌∙◌}
 use Rattle.files.specs.Diagram.{Diagram}
 use Rattle.files.specs.RecordFile.{read_record}
 use Rattle.files.specs.Refusal.{refusal_of}
@@ -16,12 +15,16 @@ use Rattle.rules.specs.Compile.{compile}
 use Rattle.rules.specs.Evaluate.{first_failing}
 use Rattle.memory_rules.specs.SiteIn.{site_in}
 use Rattle.memory_rules.proofs.JudgeInLaws.{evaluate-in}
-use Rattle.judging.proofs.FileLaws.{file-stands, no-record}
+use Rattle.judging.proofs.FileLaws.{file-stands}
+use Rattle.std.specs.Prelude.{Result, Ok, Err, IsErrAnd}
+use Rattle.fields.specs.Refusal.{number_of}
+use Rattle.fields.specs.declared.Refusal.{Refusal}
 use Rattle.evaluating.specs.Evaluates.{Evaluates}
 
-pub file-evaluated : {d : StoredDiagram} {file : List ℕ} {m : MemoryRecord} → Held d → Resolves (diagram_of d) file m → {no first : ℕ} → no ≡ refusal_of (read_record file) → no ≡ 0
-    → first ≡ first_failing (diagram_of d) (site_in (diagram_of d) m) (compile (diagram_of d)) → Evaluates (diagram_of d) file (record { no = 0; first = first })
-file-evaluated {d} {file} {m} held is e z f = record { refusal = sym z ∙ e; first = λ r h. f ∙ evaluate-in (diagram_of d) r m (file-stands held is r h) }
+pub file-evaluated : {d : StoredDiagram} {file : List ℕ} {m : MemoryRecord} → Held d → Resolves (diagram_of d) file m → {first : ℕ} → 0 ≡ refusal_of (read_record file)
+    → first ≡ first_failing (diagram_of d) (site_in (diagram_of d) m) (compile (diagram_of d)) → Evaluates (diagram_of d) file (Ok first)
+file-evaluated {d} {file} {m} held is e f = record { refusal = e; first = λ r h. f ∙ evaluate-in (diagram_of d) r m (file-stands held is r h) }
 
-pub file-refused : (d : Diagram) (file : List ℕ) {no : ℕ} → no ≡ refusal_of (read_record file) → no ≢ 0 → Evaluates d file (record { no = no; first = 0 })
-file-refused d file e n = record { refusal = e; first = λ r h. absurd (no-record file r (λ z. n (e ∙ z)) h) }
+pub file-refused : (d : Diagram) (file : List ℕ) (y : Refusal) (v : Result ℕ Refusal) → number_of y ≡ refusal_of (read_record file) → IsErrAnd v (λ z. z ≡ y) → Evaluates d file v
+file-refused d file y (Ok n) e h = absurd h
+file-refused d file y (Err z) e h = record { refusal = ap number_of h ∙ e; first = tt }

@@ -18,10 +18,8 @@ pub fn put_head(out: &mut [u8], tag: u8, n: usize, b: u8)
     requires { (4 ≤ length out.old) × (n < 65536) }
     ensures { Put (head tag n b) out.old 4 out.new }
 {
-    out[0] = tag;
-    out[1] = fields::high(n);
-    out[2] = fields::low(n);
-    out[3] = b;
+    let [high, low] = (n as u16).to_be_bytes();
+    out[..4].copy_from_slice(&[tag, high, low, b]);
 }
 
 // A name: its length and its bytes.
@@ -30,7 +28,7 @@ pub fn put_name(out: &mut [u8], w: &[u8]) -> usize
     ensures { (result ≡ 1 + length w.now) × Put (name_bytes w.now) out.old result out.new }
 {
     let n = w.len();
-    out[0] = narrow(n);
+    out[0] = n as u8;
     let m = laws::copy(w, &mut out[1..]);
     1 + m
 }

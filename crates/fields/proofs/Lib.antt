@@ -1,2 +1,3 @@
 pub mod HeadLaws
 pub mod NameLaws
+pub mod RefusalLaws

@@ -1,2 +1,3 @@
-pub mod Head
+pub mod Field
+pub mod Refusal
 pub mod Slot

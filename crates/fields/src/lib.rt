@@ -4,53 +4,85 @@
 ghost use Rattle.std.specs.Prelude.{◌≡◌, ◌+◌, ◌*◌, ◌/◌, ◌%◌, ◌<◌, min, take, drop};
 ghost use Rattle.files.specs.Name.{name_byte, valid_name, same_name, before};
 ghost use Rattle.files.specs.Content.{name_in, past_name, starts_name, starts_constant};
-ghost use Rattle.fields.specs.Head.{head_of};
+ghost use Rattle.fields.specs.Field.{ReadsField};
+ghost use Rattle.fields.specs.Refusal.{number_of};
 ghost use Rattle.fields.specs.Slot.{slot_name};
+
+// ---- refusals
+
+// Why a file, a text or a call is refused; each has its number.
+#[derive(Clone, Copy, Debug, PartialEq, Eq)]
+pub enum Refusal {
+    // A field passes the end of the file.
+    Cut = 1,
+    // A tag of no such file, falling, again where it comes once, or another first tag; an empty file.
+    Misplaced = 2,
+    // A content off its layout.
+    Layout = 3,
+    // Too many of a kind, or another number of objects than the count says.
+    Count = 4,
+    // A name twice where names differ, or numbers, values or links that do not rise.
+    Order = 5,
+    // An index or object number that names nothing.
+    Unknown = 6,
+    // An interface with a parent that is none.
+    Parent = 7,
+    // A composition with its whole at the right end.
+    Whole = 8,
+    // A bound above 8.
+    Bound = 9,
+    // A place above 1.
+    Place = 10,
+    // A buffer for the witness that is too short.
+    Buffer = 20,
+    // A place that the call needs is empty.
+    Empty = 21,
+    // There is no witness.
+    NoWitness = 22,
+    // A text outside the grammar, with a long name, or with limits that no file has.
+    Grammar = 23,
+    // A text with a parent or an end that is not declared.
+    Undeclared = 24,
+}
+
+impl Refusal {
+    pub fn number(self) -> u8
+        ensures { result ≡ number_of self }
+    {
+        self as u8
+    }
+}
 
 // ---- a field at the front
 
-// What stands at the front of the unread rest.
+// A whole field, and the rest behind it: parts of the file itself.
 #[derive(Clone, Copy)]
-pub enum Head {
-    // A whole field: its tag, and the length of its content.
-    Whole { tag: u8, len: usize },
-    // The field passes the end.
-    Cut,
+pub struct Field<'a> {
+    pub tag: u8,
+    pub content: &'a [u8],
+    pub rest: &'a [u8],
 }
 
-// A number of two bytes, high byte first.
-fn number(h: u8, l: u8) -> usize
-    ensures { (result ≡ h * 256 + l) × (result < 65536) }
+// The field at the front of a file's unread rest; none where nothing is left.
+pub fn read_field(s: &[u8]) -> Result<Option<Field<'_>>, Refusal>
+    ensures { ReadsField s.now result }
 {
-    (h as usize) * 256 + (l as usize)
-}
-
-pub fn read_head(s: &[u8]) -> Head
-    ensures { result ≡ head_of s.now }
-{
-    if s.len() < 3 {
-        return Head::Cut;
+    if s.is_empty() {
+        return Ok(None);
     }
-    let len = number(s[1], s[2]);
-    if len <= s.len() - 3 {
-        Head::Whole { tag: s[0], len }
-    } else {
-        Head::Cut
+    let [tag, high, low, behind @ ..] = s else {
+        return Err(Refusal::Cut);
+    };
+    let len = usize::from(u16::from_be_bytes([*high, *low]));
+    if behind.len() < len {
+        return Err(Refusal::Cut);
     }
-}
-
-// The content of the field at the front: a part of the file itself.
-pub fn content(s: &[u8], len: usize) -> &[u8]
-    ensures { result.now ≡ take len (drop 3 s.now) }
-{
-    laws::front(laws::past(s, 3), len)
-}
-
-// What follows that field.
-pub fn after(s: &[u8], len: usize) -> &[u8]
-    ensures { result.now ≡ drop len (drop 3 s.now) }
-{
-    laws::past(laws::past(s, 3), len)
+    let (content, rest) = behind.split_at(len);
+    Ok(Some(Field {
+        tag: *tag,
+        content,
+        rest,
+    }))
 }
 
 // ---- names
@@ -72,12 +104,10 @@ pub fn valid_name(w: &[u8]) -> bool
     if 16 < w.len() {
         return false;
     }
-    let mut i = 0;
-    while i < w.len() {
-        if !name_byte(w[i]) {
+    for b in w {
+        if !name_byte(*b) {
             return false;
         }
-        i += 1;
     }
     true
 }
@@ -85,13 +115,13 @@ pub fn valid_name(w: &[u8]) -> bool
 pub fn same_name(a: &[u8], b: &[u8]) -> bool
     ensures { result ≡ same_name a.now b.now }
 {
-    laws::is_equal(laws::compare(a, b))
+    a == b
 }
 
 pub fn name_before(a: &[u8], b: &[u8]) -> bool
     ensures { result ≡ before a.now b.now }
 {
-    laws::is_less(laws::compare(a, b))
+    a < b
 }
 
 // ---- a name at the front of a content
@@ -100,21 +130,21 @@ pub fn name_before(a: &[u8], b: &[u8]) -> bool
 pub fn name_in(c: &[u8]) -> &[u8]
     ensures { result.now ≡ name_in c.now }
 {
-    laws::front(laws::past(c, 1), laws::wide(laws::byte(c, 0)))
+    laws::front(laws::past(c, 1), usize::from(laws::byte(c, 0)))
 }
 
 // What follows them.
 pub fn past_name(c: &[u8]) -> &[u8]
     ensures { result.now ≡ past_name c.now }
 {
-    laws::past(c, 1 + laws::wide(laws::byte(c, 0)))
+    laws::past(c, 1 + usize::from(laws::byte(c, 0)))
 }
 
 // A name stands there whole.
 pub fn starts_name(c: &[u8]) -> bool
     ensures { result ≡ starts_name c.now }
 {
-    (1 + laws::wide(laws::byte(c, 0)) <= c.len()) & valid_name(name_in(c))
+    (1 + usize::from(laws::byte(c, 0)) <= c.len()) & valid_name(name_in(c))
 }
 
 // A constant's name stands there whole, or the unnamed value's, of length 0.
@@ -126,23 +156,20 @@ pub fn starts_constant(c: &[u8]) -> bool
 
 // ---- names in a row of slots, each a length byte and room for 16 bytes
 
-fn at_most_16(b: u8) -> usize
-    ensures { result ≡ min 16 b }
-{
-    if b < 16 { b as usize } else { 16 }
-}
-
 // The name in slot i.
 pub fn slot_name(names: &[u8], i: u8) -> &[u8]
     ensures { result.now ≡ slot_name names.now i }
 {
-    let at = laws::wide(i) * 17;
-    laws::front(laws::past(names, at + 1), at_most_16(laws::byte(names, at)))
+    let at = usize::from(i) * 17;
+    laws::front(
+        laws::past(names, at + 1),
+        usize::from(laws::byte(names, at)).min(16),
+    )
 }
 
 // ---- written
 
-// The high byte of a number of two bytes.
+// The high byte of a number of two bytes; `to_be_bytes` is no plainer, as it needs a u16 and so a proof that n fits one.
 pub fn high(n: usize) -> u8
     ensures { result ≡ n / 256 % 256 }
 {

@@ -21,6 +21,9 @@ use Rattle.memory_rules.specs.Stands.{Stands}
 use Rattle.memory_rules.specs.JudgeIn.{lowest_in}
 use Rattle.memory_rules.proofs.JudgeInLaws.{judge-in}
 use Rattle.tables.specs.Tables.{Coded}
+use Rattle.std.specs.Prelude.{Result, Ok, Err, IsErrAnd}
+use Rattle.fields.specs.Refusal.{number_of}
+use Rattle.fields.specs.declared.Refusal.{Refusal}
 use Rattle.judging.specs.Judges.{Judges}
 use Rattle.tables.proofs.CodedLaws.{stands-coded}
 
@@ -42,11 +45,12 @@ module _ {d : StoredDiagram} {file : List ℕ} {m : MemoryRecord} (held : Held d
   pub file-stands : (r : Record) → read_record file ≡ accepted r → Stands (diagram_of d) r m
   file-stands r e = record { wf-diagram = held.wf; wf-record = read-wf file r e; count = is.count r e; represents = is.stands r e }
 
-  pub file-coded : {no : ℕ} → no ≡ refusal_of (read_record file) → no ≡ 0 → Coded (diagram_of d) m
-  file-coded e z = let w = record-of file (sym e ∙ z) in stands-coded (file-stands w.0 w.1)
+  pub file-coded : 0 ≡ refusal_of (read_record file) → Coded (diagram_of d) m
+  file-coded e = let w = record-of file (sym e) in stands-coded (file-stands w.0 w.1)
 
-  pub file-judged : {no rule : ℕ} → no ≡ refusal_of (read_record file) → no ≡ 0 → rule ≡ lowest_in (diagram_of d) m → Judges (diagram_of d) file (record { no = 0; rule = rule })
-  file-judged e z f = record { refusal = sym z ∙ e; rule = λ r h. f ∙ judge-in (diagram_of d) r m (file-stands r h) }
+  pub file-judged : {rule : ℕ} → 0 ≡ refusal_of (read_record file) → rule ≡ lowest_in (diagram_of d) m → Judges (diagram_of d) file (Ok rule)
+  file-judged e f = record { refusal = e; rule = λ r h. f ∙ judge-in (diagram_of d) r m (file-stands r h) }
 
-pub file-refused : (d : Diagram) (file : List ℕ) {no : ℕ} → no ≡ refusal_of (read_record file) → no ≢ 0 → Judges d file (record { no = no; rule = 0 })
-file-refused d file e n = record { refusal = e; rule = λ r h. absurd (no-record file r (λ z. n (e ∙ z)) h) }
+pub file-refused : (d : Diagram) (file : List ℕ) (y : Refusal) (j : Result ℕ Refusal) → number_of y ≡ refusal_of (read_record file) → IsErrAnd j (λ z. z ≡ y) → Judges d file j
+file-refused d file y (Ok n) e h = absurd h
+file-refused d file y (Err z) e h = record { refusal = ap number_of h ∙ e; rule = tt }

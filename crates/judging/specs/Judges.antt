@@ -1,13 +1,14 @@
 -- What judging a record file under a diagram promises: its refusal, or the lowest rule broken.
 -- Assumes nothing.
-use Rattle.std.specs.Prelude.{ℕ, List, ◌≡◌}
+use Rattle.std.specs.Prelude.{ℕ, List, ◌≡◌, Result, IfOk}
 use Rattle.files.specs.Diagram.{Diagram}
 use Rattle.files.specs.Record.{Record}
 use Rattle.files.specs.RecordFile.{read_record}
 use Rattle.files.specs.Refusal.{accepted, refusal_of}
 use Rattle.rules.specs.Judge.{judge}
-use Rattle.judging.specs.declared.Judgement.{Judgement}
+use Rattle.fields.specs.Refusal.{refusal_number}
+use Rattle.fields.specs.declared.Refusal.{Refusal}
 
-pub record Judges (d : Diagram) (file : List ℕ) (j : Judgement) : Type 0 where
-  pub refusal : j.no ≡ refusal_of (read_record file)
-  pub rule : (r : Record) → read_record file ≡ accepted r → j.rule ≡ judge d r
+pub record Judges (d : Diagram) (file : List ℕ) (j : Result ℕ Refusal) : Type 0 where
+  pub refusal : refusal_number j ≡ refusal_of (read_record file)
+  pub rule : IfOk j (λ n. (r : Record) → read_record file ≡ accepted r → n ≡ judge d r)

@@ -28,9 +28,6 @@ pub past_next : (c : List ℕ) (i : ℕ) {r s : List ℕ} → r ≡ past_names i
 unfolding past_names
 past_next c i e f = f ∙ ap past_name e ∙ sym (ap (λ (n : ℕ). past_names n c) (add-one i))
 
-pub past-done : (c : List ℕ) (n i : ℕ) {r : List ℕ} → i ≤ n → n ≤ i → r ≡ past_names i c → r ≡ past_names n c
-past-done c n i h l e = e ∙ ap (λ (k : ℕ). past_names k c) (le_antisymm h l)
-
 -- ---- whether names stand there
 
 abbrev pub starts : List ℕ → ℕ → Bool

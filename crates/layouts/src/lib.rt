@@ -17,11 +17,8 @@ pub fn past_names(c: &[u8], n: u8) -> &[u8]
     ensures { result.now ≡ past_names n c.now }
 {
     let mut rest = c;
-    let mut i: u8 = 0;
-    while i < n {
-        let next = fields::past_name(rest);
-        rest = next;
-        i += 1;
+    for i in 0..n {
+        rest = fields::past_name(rest);
     }
     rest
 }
@@ -31,14 +28,11 @@ pub fn names_laid(c: &[u8], n: u8) -> bool
     ensures { result ≡ names_laid c.now n }
 {
     let mut rest = c;
-    let mut i: u8 = 0;
-    while i < n {
+    for i in 0..n {
         if !fields::starts_name(rest) {
             return false;
         }
-        let next = fields::past_name(rest);
-        rest = next;
-        i += 1;
+        rest = fields::past_name(rest);
     }
     rest.len() == 0
 }
@@ -57,33 +51,22 @@ fn same_names(c: &[u8], i: u8, j: u8) -> bool
 fn repeats(c: &[u8], i: u8) -> bool
     ensures { result ≡ any (λ j. same_name (name_in (past_names j c.now)) (name_in (past_names i c.now))) i }
 {
-    let mut j: u8 = 0;
-    while j < i {
+    for j in 0..i {
         if same_names(c, j, i) {
             return true;
         }
-        j += 1;
     }
     false
-}
-
-// Name i is none of those before it.
-fn is_new(c: &[u8], i: u8) -> bool
-    ensures { result ≡ not (any (λ j. same_name (name_in (past_names j c.now)) (name_in (past_names i c.now))) i) }
-{
-    !repeats(c, i)
 }
 
 // Each of the first n names is none of those before it.
 fn all_new(c: &[u8], n: u8) -> bool
     ensures { result ≡ all (λ i. not (any (λ j. same_name (name_in (past_names j c.now)) (name_in (past_names i c.now))) i)) n }
 {
-    let mut i: u8 = 0;
-    while i < n {
-        if !is_new(c, i) {
+    for i in 0..n {
+        if repeats(c, i) {
             return false;
         }
-        i += 1;
     }
     true
 }
@@ -120,7 +103,7 @@ pub fn type_laid(c: &[u8]) -> bool
     let rest = fields::past_name(laws::past(c, 1));
     let n = laws::byte(rest, 0);
     (laws::byte(c, 0) <= 3)
-        & (fields::starts_name(laws::past(c, 1)) & ((n <= 4) & (rest.len() == 1 + laws::wide(n))))
+        & (fields::starts_name(laws::past(c, 1)) & ((n <= 4) & (rest.len() == 1 + usize::from(n))))
 }
 
 // 0x40: owner, name, value type.

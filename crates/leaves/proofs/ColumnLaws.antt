@@ -17,7 +17,7 @@ use Rattle.worlds.specs.declared.Lines.{Lines}
 use Rattle.worlds.specs.declared.Query.{Query}
 use Rattle.worlds.specs.Kept.{ColumnsKept, Slotted, source_by}
 use Rattle.worlds.specs.Asked.{source_asked}
-use Rattle.leaves.specs.declared.ColumnArrays.{ColumnArrays}
+use Rattle.link_search.specs.declared.ColumnArrays.{ColumnArrays}
 use Rattle.leaves.specs.Fitting.{typed}
 use Rattle.leaves.specs.Arrays.{ColumnsAsk, column_by, is_asked}
 use Rattle.leaves.proofs.NetCountLaws.{Agree, column-count}

@@ -12,9 +12,12 @@ use Rattle.link_search.specs.Answers.{NetAnswer}
 use Rattle.worlds.specs.declared.Lines.{Lines}
 use Rattle.worlds.specs.declared.Query.{Query}
 use Rattle.worlds.specs.Kept.{Slotted, sheet, world_in}
-use Rattle.worlds.specs.Asked.{Sane, Solution}
-use Rattle.leaves.specs.declared.ColumnArrays.{ColumnArrays}
-use Rattle.leaves.specs.declared.RowArrays.{RowArrays}
+use Rattle.std.specs.Bool.{then_some}
+use Rattle.std.specs.Prelude.{is_some}
+use Rattle.worlds.specs.declared.Site.{Site}
+use Rattle.worlds.specs.Asked.{Sane, Solution, world_built}
+use Rattle.link_search.specs.declared.ColumnArrays.{ColumnArrays}
+use Rattle.link_search.specs.declared.RowArrays.{RowArrays}
 use Rattle.leaves.specs.Fitting.{SmallTypes, types_fit}
 use Rattle.leaves.specs.Arrays.{Mays, Prepared, all_covered}
 use Rattle.leaves.proofs.FittingLaws.{fit_at}
@@ -53,4 +56,15 @@ module _ (usable singles : ℕ) (targets lows highs : List ℕ) (x : Lines) (q :
     complete = λ e _ w size kept s.
         let t = retyped (sheet usable singles targets lows highs x) q n types w size kept s in
         z.complete e (net_in w.link) (world-between usable singles targets lows highs x q types n w.link t may a.mays) (net-fits usable singles targets lows highs x q types n w.link t slotted sane may r c mf mt wf wt a);
+  }
+
+  -- a world is given where the links were found
+  pub ended-given : (ok : Bool) (s : Site) → Ended Wanted types n false ok (world_in n s.types s.links)
+      → Ended Wanted types n false (is_some (then_some ok s)) (world_built n (then_some ok s))
+  ended-given true s a = a
+  ended-given false s a = record {
+    size = λ e. absurd (false≢true e);
+    kept = λ e. absurd (false≢true e);
+    sound = λ e. absurd (false≢true e);
+    complete = a.complete;
   }

@@ -14,7 +14,7 @@ use Rattle.laws.proofs.CountLaws.{tally-le}
 use Rattle.link_search.specs.Nets.{Net, InLimits}
 use Rattle.link_search.specs.Families.{RowsFit}
 use Rattle.worlds.specs.declared.Query.{Query}
-use Rattle.leaves.specs.declared.RowArrays.{RowArrays}
+use Rattle.link_search.specs.declared.RowArrays.{RowArrays}
 use Rattle.leaves.specs.Arrays.{RowsAsk, row_high, row_low, spot_of}
 use Rattle.leaves.proofs.NetCountLaws.{Agree, off, row_count}
 use Rattle.leaves.proofs.WithinLaws.{tight-first, tight-of, tight-own, within_same}

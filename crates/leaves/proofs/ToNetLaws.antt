@@ -14,9 +14,9 @@ use Rattle.worlds.specs.declared.Lines.{Lines}
 use Rattle.worlds.specs.declared.Query.{Query}
 use Rattle.worlds.specs.Kept.{Slotted, sheet}
 use Rattle.worlds.specs.Asked.{Sane, Solution}
-use Rattle.leaves.specs.declared.ColumnArrays.{ColumnArrays}
-use Rattle.leaves.specs.declared.RowArrays.{RowArrays}
-use Rattle.leaves.specs.Fitting.{typed, types_fit}
+use Rattle.link_search.specs.declared.ColumnArrays.{ColumnArrays}
+use Rattle.link_search.specs.declared.RowArrays.{RowArrays}
+use Rattle.leaves.specs.Fitting.{types_fit}
 use Rattle.leaves.specs.Arrays.{Mays, Prepared, all_covered}
 use Rattle.leaves.proofs.FittingLaws.{fit_of}
 use Rattle.leaves.proofs.RetypedLaws.{made}

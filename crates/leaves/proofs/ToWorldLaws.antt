@@ -17,8 +17,8 @@ use Rattle.worlds.specs.declared.Lines.{Lines}
 use Rattle.worlds.specs.declared.Query.{Query}
 use Rattle.worlds.specs.Kept.{Slotted, sheet}
 use Rattle.worlds.specs.Asked.{Sane, Solution}
-use Rattle.leaves.specs.declared.ColumnArrays.{ColumnArrays}
-use Rattle.leaves.specs.declared.RowArrays.{RowArrays}
+use Rattle.link_search.specs.declared.ColumnArrays.{ColumnArrays}
+use Rattle.link_search.specs.declared.RowArrays.{RowArrays}
 use Rattle.leaves.specs.Fitting.{SmallTypes, typed}
 use Rattle.leaves.specs.Arrays.{Prepared, all_covered}
 use Rattle.leaves.proofs.FittingLaws.{Fit}

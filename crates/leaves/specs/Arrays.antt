@@ -6,8 +6,8 @@ use Rattle.laws.specs.Bounded.{all}
 use Rattle.laws.specs.Connective.{imp}
 use Rattle.worlds.specs.declared.Lines.{Lines}
 use Rattle.worlds.specs.declared.Query.{Query}
-use Rattle.leaves.specs.declared.RowArrays.{RowArrays}
-use Rattle.leaves.specs.declared.ColumnArrays.{ColumnArrays}
+use Rattle.link_search.specs.declared.RowArrays.{RowArrays}
+use Rattle.link_search.specs.declared.ColumnArrays.{ColumnArrays}
 use Rattle.leaves.specs.Filled.{FilledTo}
 use Rattle.leaves.specs.Fitting.{typed}
 

@@ -2,20 +2,17 @@
 ghost use Rattle.std.specs.Prelude.{◌≡◌, ◌<◌, ◌≤◌};
 ghost use Rattle.leaves.specs.Arrays.{ColumnsAsk, Longer, Objects, Spread, limit_at};
 
-use crate::{ColumnArrays, among, pick};
+use crate::among;
+use laws::Mask;
+use link_search::ColumnArrays;
+use type_tables::pick;
 
 // For each set of types, which of the first n objects have a type of it.
-pub fn objects<'a>(types: &'a [u8; 8], n: u8, sets: &'a [u32; 16]) -> [u8; 16]
+pub fn objects(types: &[u8; 8], n: u8, sets: &[u32; 16]) -> [u8; 16]
     requires { n ≤ 8 }
     ensures { Objects types.now n sets.now result }
 {
-    let mut r = [0u8; 16];
-    let mut j: usize = 0;
-    while j < 16 {
-        r[j] = among(types, n, sets[j]);
-        j += 1;
-    }
-    r
+    sets.map(|set| among(types, n, set))
 }
 
 // An array and one element more.
@@ -23,32 +20,26 @@ fn longer(l: &[u8; 16], x: u8) -> [u8; 17]
     ensures { Longer l.now x result }
 {
     let mut r = [x; 17];
-    let mut j: usize = 0;
-    while j < 16 {
-        r[j] = l[j];
-        j += 1;
-    }
+    r[..16].copy_from_slice(l);
     r
 }
 
 // The limit of one target by one column.
-fn limit_at<'a>(to: &'a [u8; 17], limit: &'a [u8; 17], d: u8, x: usize) -> u8
+fn limit_at(to: &[u8; 17], limit: &[u8; 17], d: u8, x: usize) -> u8
     requires { x < 136 }
     ensures { result ≡ limit_at to.now limit.now d x }
 {
     let j = x / 8;
-    pick(laws::has8(to[j], (x % 8) as u8), limit[j], d)
+    pick(to[j].has((x % 8) as u8), limit[j], d)
 }
 
 // The limits of all targets by all columns.
-fn spread<'a>(to: &'a [u8; 17], limit: &'a [u8; 17], d: u8) -> [u8; 136]
+fn spread(to: &[u8; 17], limit: &[u8; 17], d: u8) -> [u8; 136]
     ensures { Spread to.now limit.now d result }
 {
     let mut r = [d; 136];
-    let mut x: usize = 0;
-    while x < 136 {
+    for x in 0..136 {
         r[x] = limit_at(to, limit, d, x);
-        x += 1;
     }
     r
 }

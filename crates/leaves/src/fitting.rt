@@ -1,31 +1,19 @@
 // What is asked of the types of the objects.
-ghost use Rattle.std.specs.Prelude.{◌≡◌, cond, ◌<◌, ◌≤◌};
+ghost use Rattle.std.specs.Prelude.{◌≡◌, ◌<◌, ◌≤◌};
 ghost use Rattle.laws.specs.Bounded.{all};
 ghost use Rattle.leaves.specs.Fitting.{count_of, single_fits, type_fits, types_fit};
 
-// x where the test holds, else y.
-fn pick_test(b: bool, x: bool, y: bool) -> bool
-    ensures { result ≡ cond b x y }
-{
-    if b { x } else { y }
-}
+use type_tables::pick;
 
 // The type of object o fits.
-fn type_fits<'a>(
-    usable: u32,
-    seeds: u8,
-    wanted: &'a [u32; 8],
-    never: u32,
-    types: &'a [u8; 8],
-    o: u8,
-) -> bool
+fn type_fits(usable: u32, seeds: u8, wanted: &[u32; 8], never: u32, types: &[u8; 8], o: u8) -> bool
     requires { o < 8 }
     ensures { result ≡ type_fits usable seeds wanted.now never types.now o }
 {
-    let i = laws::wide(o);
+    let i = usize::from(o);
     let t = types[i];
     type_tables::is_in(usable, t)
-        & pick_test(
+        & pick(
             o < seeds,
             type_tables::is_in(wanted[i], t),
             !type_tables::is_in(never, t),
@@ -33,23 +21,14 @@ fn type_fits<'a>(
 }
 
 // The types of the first n objects fit.
-fn each_fits<'a>(
-    usable: u32,
-    seeds: u8,
-    wanted: &'a [u32; 8],
-    never: u32,
-    types: &'a [u8; 8],
-    n: u8,
-) -> bool
+fn each_fits(usable: u32, seeds: u8, wanted: &[u32; 8], never: u32, types: &[u8; 8], n: u8) -> bool
     requires { n ≤ 8 }
     ensures { result ≡ all (type_fits usable seeds wanted.now never types.now) n }
 {
-    let mut o: u8 = 0;
-    while o < n {
+    for o in 0..n {
         if !type_fits(usable, seeds, wanted, never, types, o) {
             return false;
         }
-        o += 1;
     }
     true
 }
@@ -60,12 +39,10 @@ fn count_of(types: &[u8; 8], n: u8, t: u8) -> u8
     ensures { result ≡ count_of types.now n t }
 {
     let mut c: u8 = 0;
-    let mut o: u8 = 0;
-    while o < n {
-        if types[laws::wide(o)] == t {
+    for o in 0..n {
+        if types[usize::from(o)] == t {
             c += 1;
         }
-        o += 1;
     }
     c
 }
@@ -86,12 +63,10 @@ fn singles_fit(singles: u32, types: &[u8; 8], n: u8) -> bool
     requires { n ≤ 8 }
     ensures { result ≡ all (single_fits singles types.now n) 24 }
 {
-    let mut t: u8 = 0;
-    while t < 24 {
+    for t in 0u8..24 {
         if !single_fits(singles, types, n, t) {
             return false;
         }
-        t += 1;
     }
     true
 }

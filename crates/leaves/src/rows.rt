@@ -4,47 +4,47 @@ ghost use Rattle.laws.specs.Bits.{bit, Marks};
 ghost use Rattle.leaves.specs.Fitting.{SmallTypes};
 ghost use Rattle.leaves.specs.Arrays.{Mays, RowLimits, RowsAsk, all_covered, covered, may_go, spot_of};
 
-use crate::{RowArrays, among, pick};
+use crate::among;
+use link_search::RowArrays;
+use type_tables::pick;
 
 // Where a table has row i.
 fn spot(types: &[u8; 8], i: usize) -> usize
     requires { (i < 256) × SmallTypes types.now }
     ensures { (result ≡ spot_of types.now i) × (result < 768) }
 {
-    laws::wide(types[i / 32]) * 32 + i % 32
+    usize::from(types[i / 32]) * 32 + i % 32
 }
 
 // The limits by a table; d past the first n objects.
-fn row_limits<'a>(table: &'a [u8; 768], types: &'a [u8; 8], n: u8, d: u8) -> [u8; 256]
+fn row_limits(table: &[u8; 768], types: &[u8; 8], n: u8, d: u8) -> [u8; 256]
     requires { (n ≤ 8) × SmallTypes types.now }
     ensures { RowLimits table.now types.now n d result }
 {
-    let end = laws::wide(n) * 32;
+    let end = usize::from(n) * 32;
     let mut r = [d; 256];
-    let mut i: usize = 0;
-    while i < end {
+    for i in 0..end {
         r[i] = table[spot(types, i)];
-        i += 1;
     }
     r
 }
 
 // The limits of all rows, with the query's for the first seed.
-pub fn row_arrays<'a>(
-    lows: &'a [u8; 768],
-    highs: &'a [u8; 768],
-    types: &'a [u8; 8],
+pub fn row_arrays(
+    lows: &[u8; 768],
+    highs: &[u8; 768],
+    types: &[u8; 8],
     n: u8,
     q: worlds::Query,
 ) -> RowArrays
     requires { (n ≤ 8) × SmallTypes types.now × (q.row < 32) }
     ensures { RowsAsk lows.now highs.now types.now n q result }
 {
-    let at = laws::wide(q.row);
+    let at = usize::from(q.row);
     let mut l = row_limits(lows, types, n, 0);
     let mut h = row_limits(highs, types, n, 8);
-    l[at] = type_tables::larger(l[at], pick(0 < q.seeds, q.low, 0));
-    h[at] = type_tables::smaller(h[at], pick(0 < q.seeds, q.high, 8));
+    l[at] = l[at].max(pick(0 < q.seeds, q.low, 0));
+    h[at] = h[at].min(pick(0 < q.seeds, q.high, 8));
     RowArrays { low: l, high: h }
 }
 
@@ -56,13 +56,7 @@ fn without(m: u8, s: u8) -> u8
 }
 
 // The objects that row i may go to.
-fn may_row<'a>(
-    targets: &'a [u32; 768],
-    types: &'a [u8; 8],
-    n: u8,
-    shut: &'a [u8; 256],
-    i: usize,
-) -> u8
+fn may_row(targets: &[u32; 768], types: &[u8; 8], n: u8, shut: &[u8; 256], i: usize) -> u8
     requires { (n ≤ 8) × SmallTypes types.now × (i < 256) }
     ensures { Marks (may_go targets.now types.now shut.now i) n result }
 {
@@ -70,21 +64,14 @@ fn may_row<'a>(
 }
 
 // The objects that each row may go to.
-pub fn mays<'a>(
-    targets: &'a [u32; 768],
-    types: &'a [u8; 8],
-    n: u8,
-    shut: &'a [u8; 256],
-) -> [u8; 256]
+pub fn mays(targets: &[u32; 768], types: &[u8; 8], n: u8, shut: &[u8; 256]) -> [u8; 256]
     requires { (n ≤ 8) × SmallTypes types.now }
     ensures { Mays targets.now types.now n shut.now result }
 {
-    let end = laws::wide(n) * 32;
+    let end = usize::from(n) * 32;
     let mut r = [0u8; 256];
-    let mut i: usize = 0;
-    while i < end {
+    for i in 0..end {
         r[i] = may_row(targets, types, n, shut, i);
-        i += 1;
     }
     r
 }
@@ -97,15 +84,13 @@ fn is_covered(a: u8, b: u8) -> bool
 }
 
 // So it is at each row.
-pub fn all_covered<'a>(must: &'a [u8; 256], may: &'a [u8; 256]) -> bool
+pub fn all_covered(must: &[u8; 256], may: &[u8; 256]) -> bool
     ensures { result ≡ all_covered must.now may.now }
 {
-    let mut i: usize = 0;
-    while i < 256 {
+    for i in 0..256 {
         if !is_covered(must[i], may[i]) {
             return false;
         }
-        i += 1;
     }
     true
 }

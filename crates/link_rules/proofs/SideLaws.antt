@@ -66,13 +66,13 @@ module _ (d : Diagram) (m : MemoryRecord) (a : Associations) (masks slots : List
 -- ---- the same with the side by its number and the test on the arrow by its answer, as the code has them
 
 module _ (a : Associations) (links masks slots : List ℕ) (n : ℕ) (s : Side) (i : ℕ) {k : ℕ} {r : Bool} where
-  pub own-targets : r ≡ targets_in a links masks slots n s i (end_limits a (i * 2 + 1 - k)) → k ≡ side_number s → r ≡ own_targets_in a links masks slots n s i
+  pub own-targets : {limits : Limits} → r ≡ targets_in a links masks slots n s i limits → limits ≡ end_limits a (i * 2 + 1 - k) → k ≡ side_number s → r ≡ own_targets_in a links masks slots n s i
   unfolding own_targets_in
-  own-targets e q = e ∙ ap (λ (k : ℕ). targets_in a links masks slots n s i (end_limits a (i * 2 + 1 - k))) q
+  own-targets e l q = e ∙ ap (targets_in a links masks slots n s i) l ∙ ap (λ (k : ℕ). targets_in a links masks slots n s i (end_limits a (i * 2 + 1 - k))) q
 
-  pub own-sources : r ≡ sources_in a links masks slots n s i (end_limits a (i * 2 + k)) → k ≡ side_number s → r ≡ own_sources_in a links masks slots n s i
+  pub own-sources : {limits : Limits} → r ≡ sources_in a links masks slots n s i limits → limits ≡ end_limits a (i * 2 + k) → k ≡ side_number s → r ≡ own_sources_in a links masks slots n s i
   unfolding own_sources_in
-  own-sources e q = e ∙ ap (λ (k : ℕ). sources_in a links masks slots n s i (end_limits a (i * 2 + k))) q
+  own-sources e l q = e ∙ ap (sources_in a links masks slots n s i) l ∙ ap (λ (k : ℕ). sources_in a links masks slots n s i (end_limits a (i * 2 + k))) q
 
 pub imp-as : {b p r : Bool} (q : Bool) → r ≡ imp b q → b ≡ p → r ≡ imp p q
 imp-as q e h = e ∙ ap (λ (x : Bool). imp x q) h

@@ -1,12 +1,15 @@
 -- Where the tables are those of a diagram and of a record in memory, and what a test says there.
 -- Assumes nothing.
-use Rattle.std.specs.Prelude.{ℕ, ◌≤◌, Bool, List, ◌≡◌}
+use Rattle.std.specs.Prelude.{ℕ, ◌≤◌, List, ◌≡◌}
 use Rattle.files.specs.Diagram.{Diagram}
 use Rattle.files.specs.WellFormedDiagram.{WfDiagram}
 use Rattle.diagrams.specs.declared.Associations.{Associations}
 use Rattle.diagrams.specs.View.{associations_of}
 use Rattle.records.specs.declared.MemoryRecord.{MemoryRecord}
+use Rattle.laws.specs.Connective.{unless}
 use Rattle.rules.specs.Site.{Site}
+use Rattle.rules.specs.LinkRules.{rule6, rule7, rule8}
+use Rattle.rules.specs.WholeRule.{rule9}
 use Rattle.memory_rules.specs.SiteIn.{site_in}
 use Rattle.tables.specs.Tables.{Instances, RoleSlots}
 
@@ -20,5 +23,9 @@ pub record Judged (d : Diagram) (m : MemoryRecord) (a : Associations) (links mas
   pub few : n ≤ 8
 
 -- r is what the rule says, for every diagram and record that the tables belong to
-abbrev pub Says : (Diagram → Site → Bool) → Associations → List ℕ → List ℕ → List ℕ → ℕ → Bool → Type 0
+abbrev pub Says : {A : Type 0} → (Diagram → Site → A) → Associations → List ℕ → List ℕ → List ℕ → ℕ → A → Type 0
 Says rule a links masks slots n r = (d : Diagram) (m : MemoryRecord) → Judged d m a links masks slots n → r ≡ rule d (site_in d m)
+
+-- the lowest of rules 6 to 9 that is broken, or 0
+abbrev pub lowest_of_links : Diagram → Site → ℕ
+lowest_of_links d x = unless (rule6 d x) 6 (unless (rule7 d x) 7 (unless (rule8 d x) 8 (unless (rule9 d x) 9 0)))

@@ -2,6 +2,5 @@ pub mod JudgeLaws
 pub mod NetLaws
 pub mod SeenLaws
 pub mod ColumnLaws
-pub mod JoinLaws
 pub mod MirrorLaws
 pub mod WholeLaws

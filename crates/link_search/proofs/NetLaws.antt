@@ -14,7 +14,8 @@ use Rattle.laws.specs.Bits.{bit}
 use Rattle.laws.proofs.ConnectiveLaws.{true-false}
 use Rattle.laws.proofs.CountLaws.{tally-less}
 use Rattle.link_search.specs.Nets.{Net, net_of, Between, open_bits}
-use Rattle.link_search.specs.Answers.{NetAnswer}
+use Rattle.link_search.specs.declared.Spot.{Spot}
+use Rattle.link_search.specs.Answers.{NetAnswer, Wanted}
 
 -- what holds at one bit, and at every other
 pub spot-cases : (P : ℕ → ℕ → Type 0) (i p : ℕ) → P i p → ((j q : ℕ) → (j ≡ i → q ≡ p → ⊥) → P j q) → (j q : ℕ) → P j q
@@ -116,6 +117,11 @@ pub record Try (must may : List ℕ) (i p y m : ℕ) : Type 0 where
   pub long_may : length may ≡ 256
   pub on : (q : ℕ) → bit q y ≡ bit q (get_or must i 0) || eqb q p
   pub off : (q : ℕ) → bit q m ≡ bit q (get_or may i 0) && not (eqb q p)
+
+-- so it is where the bit was wanted
+pub tried : {y m : ℕ} (must may : List ℕ) (s : Spot) → Wanted may s → length must ≡ 256 → length may ≡ 256
+    → ((q : ℕ) → bit q y ≡ bit q (get_or must s.row 0) || eqb q s.target) → ((q : ℕ) → bit q m ≡ bit q (get_or may s.row 0) && not (eqb q s.target)) → Try must may s.row s.target y m
+tried must may s w long long_may on off = record { below = w.below; target = w.inside; spot = w.spot; long = long; long_may = long_may; on = on; off = off }
 
 module _ (C : Net → Type 0) {must may : List ℕ} {i p y m : ℕ} (r : Try must may i p y m) where
   linked : Bit must i p true (set must i y)

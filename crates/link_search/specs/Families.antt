@@ -4,6 +4,7 @@ use Rattle.std.specs.Prelude.{ℕ, ◌+◌, ◌*◌, ◌≤◌, ◌<◌, ◌≡�
 use Rattle.laws.specs.Bits.{bit}
 use Rattle.laws.specs.Bounded.{any, tally}
 use Rattle.link_search.specs.Nets.{Net, InLimits}
+use Rattle.link_search.specs.declared.NetArrays.{NetArrays}
 
 -- the number of targets of each row lies within its limits
 pub record RowsFit (low high : List ℕ) (w : Net) : Type 0 where
@@ -47,3 +48,11 @@ pub record NetFits (row_low row_high column_slot column_from column_low column_h
   pub columns : Columns column_slot column_from column_low column_high w
   pub mirrors : Mirrors mirror_right mirror_left mirror_from mirror_to w
   pub wholes : Wholes whole_slot whole_from whole_to w
+
+-- the same, where the lists stand in arrays
+abbrev pub Fits : NetArrays → Net → Type 0
+Fits a = NetFits a.rows.low a.rows.high a.columns.slot a.columns.from a.columns.low a.columns.high a.mirrors.right a.mirrors.left a.mirrors.from a.mirrors.to a.wholes.slot a.wholes.from a.wholes.to
+
+-- all slots are slots of roles
+abbrev pub Slotted : NetArrays → Type 0
+Slotted a = Slots a.columns.slot 17 × Slots a.mirrors.right 16 × Slots a.mirrors.left 16 × Slots a.wholes.slot 16

@@ -6,21 +6,68 @@ ghost use Rattle.std.specs.Prelude.{◌≡◌, true, false, ◌<◌, ◌+◌, �
 ghost use Rattle.laws.specs.Bits.{bit};
 ghost use Rattle.laws.specs.Bounded.{tally};
 ghost use Rattle.link_search.specs.Nets.{net_of};
-ghost use Rattle.link_search.specs.Families.{Slots, NetFits};
-ghost use Rattle.link_search.specs.Answers.{BitsJudged, Looked, joined, NetAnswer};
+ghost use Rattle.link_search.specs.Families.{Fits, Slotted};
+ghost use Rattle.link_search.specs.Answers.{BitsJudged, Looked, NetAnswer};
+
+use laws::Mask;
 
 mod columns;
 mod mirrors;
 mod rows;
 mod wholes;
 
-// What a look says. kind 0: nothing is missing. 1: no net between is right. 2: the bit `target` of row `row` may stand, and is wanted.
+// What is asked of rows: for object o and role slot s at o * 32 + s, how many targets there are at least and at most.
 #[derive(Clone, Copy)]
-pub struct Sight {
-    pub kind: u8,
-    pub row: usize,
-    pub target: u8,
+pub struct RowArrays {
+    pub low: [u8; 256],
+    pub high: [u8; 256],
 }
+
+// Of columns: the slot of column j and the objects whose links count, and for target p at j * 8 + p how many there are at least and at most.
+#[derive(Clone, Copy)]
+pub struct ColumnArrays {
+    pub slot: [u8; 17],
+    pub from: [u8; 17],
+    pub low: [u8; 136],
+    pub high: [u8; 136],
+}
+
+// Of mirrors: the slots of the links and of the links back, and the objects at either end.
+#[derive(Clone, Copy)]
+pub struct MirrorArrays {
+    pub right: [u8; 16],
+    pub left: [u8; 16],
+    pub from: [u8; 16],
+    pub to: [u8; 16],
+}
+
+// Of wholes: the slot of a composition's links, and the objects that may be wholes and parts.
+#[derive(Clone, Copy)]
+pub struct WholeArrays {
+    pub slot: [u8; 16],
+    pub from: [u8; 16],
+    pub to: [u8; 16],
+}
+
+// Everything that is asked.
+#[derive(Clone, Copy)]
+pub struct NetArrays {
+    pub rows: RowArrays,
+    pub columns: ColumnArrays,
+    pub mirrors: MirrorArrays,
+    pub wholes: WholeArrays,
+}
+
+// One bit: the link of row `row` to object `target`.
+#[derive(Clone, Copy)]
+struct Spot {
+    row: usize,
+    target: u8,
+}
+
+// No net between is right.
+#[derive(Clone, Copy)]
+struct NoNet;
 
 // A byte as a count of bits.
 fn number(x: u8) -> u32
@@ -34,7 +81,7 @@ pub fn is_link(rows: &[u8; 256], o: u8, slot: u8, p: u8) -> bool
     requires { (o < 8) × (slot < 32) × (p < 8) }
     ensures { result ≡ net_of rows.now (o * 32 + slot) p }
 {
-    laws::has8(rows[laws::wide(o) * 32 + laws::wide(slot)], p)
+    rows[usize::from(o) * 32 + usize::from(slot)].has(p)
 }
 
 // The lowest bit that is set, of a mask that has one.
@@ -42,182 +89,66 @@ fn lowest(m: u8) -> u8
     requires { 0 < tally (λ k. bit k m) 8 }
     ensures { (result < 8) × (bit result m ≡ true) }
 {
-    let mut k: u8 = 0;
-    while k < 7 {
-        if laws::has8(m, k) {
+    for k in 0u8..7 {
+        if m.has(k) {
             return k;
         }
-        k += 1;
     }
     7
 }
 
-// One set of bits: 8 it is within its limits, 9 no set between is, else a bit that may stand.
-fn judge(must: u8, may: u8, low: u8, high: u8) -> u8
+// One set of bits between limits: none is missing, or a bit that may stand is wanted, or no set between is right.
+fn judge(must: u8, may: u8, low: u8, high: u8) -> Result<Option<u8>, NoNet>
     ensures { BitsJudged must may low high result }
 {
     let y = laws::count8(must);
     let a = laws::count8(may);
     if number(high) < y {
-        return 9;
+        return Err(NoNet);
     }
     if y + a < number(low) {
-        return 9;
+        return Err(NoNet);
     }
     if y < number(low) {
-        return lowest(may);
+        return Ok(Some(lowest(may)));
     }
-    8
-}
-
-// Two looks as one: no net between is right if either says so; else a bit that is wanted.
-fn join(a: Sight, b: Sight) -> Sight
-    ensures { result ≡ joined a b }
-{
-    if a.kind == 1 {
-        return a;
-    }
-    if b.kind == 1 {
-        return b;
-    }
-    if a.kind == 2 {
-        return a;
-    }
-    b
+    Ok(None)
 }
 
 // A look at everything that is asked. What a mirror wants comes first: it has no other value.
-fn look_all<'a>(
-    row_low: &'a [u8; 256],
-    row_high: &'a [u8; 256],
-    column_slot: &'a [u8; 17],
-    column_from: &'a [u8; 17],
-    column_low: &'a [u8; 136],
-    column_high: &'a [u8; 136],
-    mirror_right: &'a [u8; 16],
-    mirror_left: &'a [u8; 16],
-    mirror_from: &'a [u8; 16],
-    mirror_to: &'a [u8; 16],
-    whole_slot: &'a [u8; 16],
-    whole_from: &'a [u8; 16],
-    whole_to: &'a [u8; 16],
-    must: &'a [u8; 256],
-    may: &'a [u8; 256],
-) -> Sight
-    requires { Slots column_slot.now 17 × Slots mirror_right.now 16 × Slots mirror_left.now 16 × Slots whole_slot.now 16 }
-    ensures { Looked (NetFits row_low.now row_high.now column_slot.now column_from.now column_low.now column_high.now mirror_right.now mirror_left.now mirror_from.now mirror_to.now whole_slot.now whole_from.now whole_to.now) must.now may.now result }
+fn look_all(net: &NetArrays, must: &[u8; 256], may: &[u8; 256]) -> Result<Option<Spot>, NoNet>
+    requires { Slotted net.now }
+    ensures { Looked (Fits net.now) must.now may.now result }
 {
-    let rows = rows::look_rows(row_low, row_high, must, may);
-    if rows.kind == 1 {
-        return rows;
-    }
-    let columns = columns::look_columns(
-        column_slot,
-        column_from,
-        column_low,
-        column_high,
-        must,
-        may,
-    );
-    let mirrors = mirrors::look_mirrors(
-        mirror_right,
-        mirror_left,
-        mirror_from,
-        mirror_to,
-        must,
-        may,
-    );
-    let wholes = wholes::look_wholes(whole_slot, whole_from, whole_to, must, may);
-    join(join(join(mirrors, rows), columns), wholes)
+    let rows = rows::look_rows(&net.rows, must, may)?;
+    let columns = columns::look_columns(&net.columns, must, may)?;
+    let mirrors = mirrors::look_mirrors(&net.mirrors, must, may)?;
+    wholes::look_wholes(&net.wholes, must)?;
+    Ok(mirrors.or(rows).or(columns))
 }
 
 // Links between `must` and `may` that are right, left in `must`. Each bit that is wanted is tried as a link and then as none; a try that
 // fails leaves both arrays as they were.
-pub fn links<'a>(
-    row_low: &'a [u8; 256],
-    row_high: &'a [u8; 256],
-    column_slot: &'a [u8; 17],
-    column_from: &'a [u8; 17],
-    column_low: &'a [u8; 136],
-    column_high: &'a [u8; 136],
-    mirror_right: &'a [u8; 16],
-    mirror_left: &'a [u8; 16],
-    mirror_from: &'a [u8; 16],
-    mirror_to: &'a [u8; 16],
-    whole_slot: &'a [u8; 16],
-    whole_from: &'a [u8; 16],
-    whole_to: &'a [u8; 16],
-    must: &mut [u8; 256],
-    may: &mut [u8; 256],
-) -> bool
-    requires { Slots column_slot.now 17 × Slots mirror_right.now 16 × Slots mirror_left.now 16 × Slots whole_slot.now 16 × (length must.old ≡ 256) × (length may.old ≡ 256) }
-    ensures { NetAnswer (NetFits row_low.now row_high.now column_slot.now column_from.now column_low.now column_high.now mirror_right.now mirror_left.now mirror_from.now mirror_to.now whole_slot.now whole_from.now whole_to.now) must.old may.old must.new may.new result }
+pub fn links(net: &NetArrays, must: &mut [u8; 256], may: &mut [u8; 256]) -> bool
+    requires { Slotted net.now × (length must.old ≡ 256) × (length may.old ≡ 256) }
+    ensures { NetAnswer (Fits net.now) must.old may.old must.new may.new result }
 {
-    let l = look_all(
-        row_low,
-        row_high,
-        column_slot,
-        column_from,
-        column_low,
-        column_high,
-        mirror_right,
-        mirror_left,
-        mirror_from,
-        mirror_to,
-        whole_slot,
-        whole_from,
-        whole_to,
-        must,
-        may,
-    );
-    if l.kind == 1 {
+    let Ok(wanted) = look_all(net, must, may) else {
         return false;
-    }
-    if l.kind == 0 {
+    };
+    let Some(spot) = wanted else {
         return true;
-    }
-    let i = l.row;
+    };
+    let i = spot.row;
     let y = must[i];
     let m = may[i];
-    may[i] = laws::off8(m, l.target);
-    must[i] = laws::with8(y, l.target);
-    if links(
-        row_low,
-        row_high,
-        column_slot,
-        column_from,
-        column_low,
-        column_high,
-        mirror_right,
-        mirror_left,
-        mirror_from,
-        mirror_to,
-        whole_slot,
-        whole_from,
-        whole_to,
-        must,
-        may,
-    ) {
+    may[i] = laws::off8(m, spot.target);
+    must[i] = y.with(spot.target);
+    if links(net, must, may) {
         return true;
     }
     must[i] = y;
-    if links(
-        row_low,
-        row_high,
-        column_slot,
-        column_from,
-        column_low,
-        column_high,
-        mirror_right,
-        mirror_left,
-        mirror_from,
-        mirror_to,
-        whole_slot,
-        whole_from,
-        whole_to,
-        must,
-        may,
-    ) {
+    if links(net, must, may) {
         return true;
     }
     may[i] = m;

@@ -1,108 +1,88 @@
 // Mirrors: a link by one role stands exactly when the link back by the other does.
 ghost use Rattle.std.specs.Prelude.{◌<◌, ◌+◌, ◌*◌, get_or};
-ghost use Rattle.link_search.specs.Families.{Mirrors, Slots};
-ghost use Rattle.link_search.specs.Answers.{Paired, MirrorSaid, Looked};
+ghost use Rattle.link_search.specs.Families.{MirrorHolds, Mirrors, Slots};
+ghost use Rattle.link_search.specs.Answers.{Looked, Paired};
 
-use crate::{Sight, is_link};
+use crate::{MirrorArrays, NoNet, Spot, is_link};
+use laws::Mask;
 
-// A link and the link back, each by what must stand and what may: 0 both must or neither, 1 they cannot agree, 2 the first is wanted,
-// 3 the second.
-fn pair(first: bool, may_first: bool, second: bool, may_second: bool) -> u8
-    ensures { Paired first may_first second may_second result }
-{
-    if first {
-        if second {
-            return 0;
-        }
-        if may_second {
-            return 3;
-        }
-        return 1;
-    }
-    if second {
-        if may_first {
-            return 2;
-        }
-        return 1;
-    }
-    0
+// Of a link and the link back, the one that is wanted.
+#[derive(Clone, Copy)]
+enum Side {
+    There,
+    Back,
 }
 
-// Object o and object p by mirror j, as `pair`.
-fn judge_mirror<'a>(
-    right: &'a [u8; 16],
-    left: &'a [u8; 16],
-    from: &'a [u8; 16],
-    to: &'a [u8; 16],
-    must: &'a [u8; 256],
-    may: &'a [u8; 256],
+// A link and the link back, each by what must stand and what may: where one must stand and not the other, the other is wanted.
+fn pair(first: bool, may_first: bool, second: bool, may_second: bool) -> Result<Option<Side>, NoNet>
+    ensures { Paired first may_first second may_second result }
+{
+    if first == second {
+        return Ok(None);
+    }
+    if first & may_second {
+        return Ok(Some(Side::Back));
+    }
+    if second & may_first {
+        return Ok(Some(Side::There));
+    }
+    Err(NoNet)
+}
+
+// Object o and object p by mirror j.
+fn judge_mirror(
+    mirrors: &MirrorArrays,
+    must: &[u8; 256],
+    may: &[u8; 256],
     j: usize,
     o: u8,
     p: u8,
-) -> u8
-    requires { (j < 16) × (o < 8) × (p < 8) × (get_or right.now j 0 < 32) × (get_or left.now j 0 < 32) }
-    ensures { MirrorSaid right.now left.now from.now to.now must.now may.now j o p result }
+) -> Result<Option<Spot>, NoNet>
+    requires { (j < 16) × (o < 8) × (p < 8) × (get_or mirrors.now.right j 0 < 32) × (get_or mirrors.now.left j 0 < 32) }
+    ensures { Looked (λ w. MirrorHolds mirrors.now.right mirrors.now.left mirrors.now.from mirrors.now.to w j o p) must.now may.now result }
 {
-    if !laws::has8(from[j], o) {
-        return 0;
+    if !mirrors.from[j].has(o) {
+        return Ok(None);
     }
-    if !laws::has8(to[j], p) {
-        return 0;
+    if !mirrors.to[j].has(p) {
+        return Ok(None);
     }
-    let r = right[j];
-    let l = left[j];
-    pair(
+    let r = mirrors.right[j];
+    let l = mirrors.left[j];
+    let wanted = pair(
         is_link(must, o, r, p),
         is_link(may, o, r, p),
         is_link(must, p, l, o),
         is_link(may, p, l, o),
-    )
+    )?;
+    Ok(match wanted {
+        None => None,
+        Some(Side::There) => Some(Spot {
+            row: usize::from(o) * 32 + usize::from(r),
+            target: p,
+        }),
+        Some(Side::Back) => Some(Spot {
+            row: usize::from(p) * 32 + usize::from(l),
+            target: o,
+        }),
+    })
 }
 
 // A look at the mirrors, up to the first bit that is wanted.
-pub fn look_mirrors<'a>(
-    right: &'a [u8; 16],
-    left: &'a [u8; 16],
-    from: &'a [u8; 16],
-    to: &'a [u8; 16],
-    must: &'a [u8; 256],
-    may: &'a [u8; 256],
-) -> Sight
-    requires { Slots right.now 16 × Slots left.now 16 }
-    ensures { Looked (Mirrors right.now left.now from.now to.now) must.now may.now result }
+pub fn look_mirrors(
+    mirrors: &MirrorArrays,
+    must: &[u8; 256],
+    may: &[u8; 256],
+) -> Result<Option<Spot>, NoNet>
+    requires { Slots mirrors.now.right 16 × Slots mirrors.now.left 16 }
+    ensures { Looked (Mirrors mirrors.now.right mirrors.now.left mirrors.now.from mirrors.now.to) must.now may.now result }
 {
-    let mut x: usize = 0;
-    while x < 1024 {
-        let j = x / 64;
+    for x in 0..1024 {
         let o = (x / 8 % 8) as u8;
         let p = (x % 8) as u8;
-        let v = judge_mirror(right, left, from, to, must, may, j, o, p);
-        if v == 1 {
-            return Sight {
-                kind: 1,
-                row: 0,
-                target: 0,
-            };
+        if let Some(spot) = judge_mirror(mirrors, must, may, x / 64, o, p)? {
+            return Ok(Some(spot));
         }
-        if v == 2 {
-            return Sight {
-                kind: 2,
-                row: laws::wide(o) * 32 + laws::wide(right[j]),
-                target: p,
-            };
-        }
-        if v == 3 {
-            return Sight {
-                kind: 2,
-                row: laws::wide(p) * 32 + laws::wide(left[j]),
-                target: o,
-            };
-        }
-        x += 1;
     }
-    Sight {
-        kind: 0,
-        row: 0,
-        target: 0,
-    }
+    Ok(None)
 }

@@ -106,14 +106,15 @@ module _ (d : StoredDiagram) (t : ℕ) (c : List ℕ) (a : FieldPasses d t c) wh
   unfolding diagram_refusal
   by-tag = (refuse-passed _ 1 _ a.passed).1
 
-  pub allowed-value-type : (t ≡ 16 → ⊥) → t ≡ 32 → ValueTypeFits d.values c
-  allowed-value-type n y = value-type-fits d c a.held (rw (ne_eqb t 16 n, eq-eqb t 32 y) at by-tag)
+  pub allowed-value-type : t ≡ 32 → ValueTypeFits d.values c
+  allowed-value-type y = value-type-fits d c a.held (rw (ne_eqb t 16 (λ h. omega arith), eq-eqb t 32 y) at by-tag)
 
-  pub allowed-type : (t ≡ 16 → ⊥) → (t ≡ 32 → ⊥) → t ≡ 48 → TypeFits d.types c
-  allowed-type n o y = type-fits d c a.held (rw (ne_eqb t 16 n, ne_eqb t 32 o, eq-eqb t 48 y) at by-tag)
+  pub allowed-type : t ≡ 48 → TypeFits d.types c
+  allowed-type y = type-fits d c a.held (rw (ne_eqb t 16 (λ h. omega arith), ne_eqb t 32 (λ h. omega arith), eq-eqb t 48 y) at by-tag)
 
-  pub allowed-attribute : (t ≡ 16 → ⊥) → (t ≡ 32 → ⊥) → (t ≡ 48 → ⊥) → t ≡ 64 → AttributeFits d.attributes c
-  allowed-attribute n o p y = attribute-fits d c (rw (ne_eqb t 16 n, ne_eqb t 32 o, ne_eqb t 48 p, eq-eqb t 64 y) at by-tag)
+  pub allowed-attribute : t ≡ 64 → AttributeFits d.attributes c
+  allowed-attribute y =
+      attribute-fits d c (rw (ne_eqb t 16 (λ h. omega arith), ne_eqb t 32 (λ h. omega arith), ne_eqb t 48 (λ h. omega arith), eq-eqb t 64 y) at by-tag)
 
   pub allowed-association : (t ≡ 16 → ⊥) → (t ≡ 32 → ⊥) → (t ≡ 48 → ⊥) → (t ≡ 64 → ⊥) → AssociationFits d.associations c
   allowed-association n o p q = association-fits d c (rw (ne_eqb t 16 n, ne_eqb t 32 o, ne_eqb t 48 p, ne_eqb t 64 q) at by-tag)
@@ -129,36 +130,36 @@ module _ (d : StoredDiagram) (t : ℕ) (c : List ℕ) (a : FieldPasses d t c) wh
   unfolding diagram_with
   grown-edition y = grown d (rw (eq-eqb t 16 y)) a.held.counts a.held.sets
 
-  pub grown-value-type : (v : ValueTypes) → (t ≡ 16 → ⊥) → t ≡ 32 → ValueTypeStored d.values c v
+  pub grown-value-type : (v : ValueTypes) → t ≡ 32 → ValueTypeStored d.values c v
       → WithField d t c (record { values = v; types = d.types; attributes = d.attributes; associations = d.associations })
   unfolding diagram_of diagram_with with_value_type
-  grown-value-type v n y s =
+  grown-value-type v y s =
       let old : Counts d = a.held.counts in
-      let fits : ValueTypeFits d.values c = allowed-value-type n y in
+      let fits : ValueTypeFits d.values c = allowed-value-type y in
       grown (record { values = v; types = d.types; attributes = d.attributes; associations = d.associations })
-      (rw (ne_eqb t 16 n, eq-eqb t 32 y)
+      (rw (ne_eqb t 16 (λ h. omega arith), eq-eqb t 32 y)
       (ap (λ (x : List ValueType). record { value_types = x; types = (diagram_of d).types; attributes = (diagram_of d).attributes; associations = (diagram_of d).associations }) s.says))
       (record { value-types = omega (arith, s.count, fits.room); types = old.types; attributes = old.attributes; associations = old.associations }) a.held.sets
 
-  pub grown-type : (v : Types) → (t ≡ 16 → ⊥) → (t ≡ 32 → ⊥) → t ≡ 48 → TypeStored d.types c v
+  pub grown-type : (v : Types) → t ≡ 48 → TypeStored d.types c v
       → WithField d t c (record { values = d.values; types = v; attributes = d.attributes; associations = d.associations })
   unfolding diagram_of diagram_with with_type
-  grown-type v n o y s =
+  grown-type v y s =
       let old : Counts d = a.held.counts in
-      let fits : TypeFits d.types c = allowed-type n o y in
+      let fits : TypeFits d.types c = allowed-type y in
       grown (record { values = d.values; types = v; attributes = d.attributes; associations = d.associations })
-      (rw (ne_eqb t 16 n, ne_eqb t 32 o, eq-eqb t 48 y)
+      (rw (ne_eqb t 16 (λ h. omega arith), ne_eqb t 32 (λ h. omega arith), eq-eqb t 48 y)
       (ap (λ (x : List TypeDef). record { value_types = (diagram_of d).value_types; types = x; attributes = (diagram_of d).attributes; associations = (diagram_of d).associations }) s.says))
       (record { value-types = old.value-types; types = omega (arith, s.count, fits.room); attributes = old.attributes; associations = old.associations }) s.sets
 
-  pub grown-attribute : (v : Attributes) → (t ≡ 16 → ⊥) → (t ≡ 32 → ⊥) → (t ≡ 48 → ⊥) → t ≡ 64 → AttributeStored d.attributes c v
+  pub grown-attribute : (v : Attributes) → t ≡ 64 → AttributeStored d.attributes c v
       → WithField d t c (record { values = d.values; types = d.types; attributes = v; associations = d.associations })
   unfolding diagram_of diagram_with with_attribute
-  grown-attribute v n o p y s =
+  grown-attribute v y s =
       let old : Counts d = a.held.counts in
-      let fits : AttributeFits d.attributes c = allowed-attribute n o p y in
+      let fits : AttributeFits d.attributes c = allowed-attribute y in
       grown (record { values = d.values; types = d.types; attributes = v; associations = d.associations })
-      (rw (ne_eqb t 16 n, ne_eqb t 32 o, ne_eqb t 48 p, eq-eqb t 64 y)
+      (rw (ne_eqb t 16 (λ h. omega arith), ne_eqb t 32 (λ h. omega arith), ne_eqb t 48 (λ h. omega arith), eq-eqb t 64 y)
       (ap (λ (x : List Attribute). record { value_types = (diagram_of d).value_types; types = (diagram_of d).types; attributes = x; associations = (diagram_of d).associations }) s.says))
       (record { value-types = old.value-types; types = old.types; attributes = omega (arith, s.count, fits.room); associations = old.associations }) a.held.sets
 

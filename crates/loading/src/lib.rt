@@ -7,13 +7,7 @@ ghost use Rattle.loading.specs.Loads.{Loads};
 pub mod storing; // storing.rt: a diagram in memory with one field more
 
 use diagrams::StoredDiagram;
-
-#[derive(Clone, Copy)]
-pub struct Loaded {
-    // 0, or the refusal.
-    pub no: u8,
-    pub diagram: diagrams::StoredDiagram,
-}
+use fields::Refusal;
 
 // ---- a field
 
@@ -22,64 +16,44 @@ fn with_field(d: StoredDiagram, tag: u8, c: &[u8]) -> StoredDiagram
     requires { FieldPasses d tag c.now }
     ensures { WithField d tag c.now result }
 {
-    if tag == 16 {
-        return d;
+    match tag {
+        16 => d,
+        32 => StoredDiagram {
+            values: storing::with_value_type(d.values, c),
+            ..d
+        },
+        48 => StoredDiagram {
+            types: storing::with_type(d.types, c),
+            ..d
+        },
+        64 => StoredDiagram {
+            attributes: storing::with_attribute(d.attributes, c),
+            ..d
+        },
+        _ => StoredDiagram {
+            associations: storing::with_association(d.associations, c),
+            ..d
+        },
     }
-    let mut r = d;
-    if tag == 32 {
-        let old = d.values;
-        let new = storing::with_value_type(old, c);
-        r.values = new;
-        return r;
-    }
-    if tag == 48 {
-        let old = d.types;
-        let new = storing::with_type(old, c);
-        r.types = new;
-        return r;
-    }
-    if tag == 64 {
-        let old = d.attributes;
-        let new = storing::with_attribute(old, c);
-        r.attributes = new;
-        return r;
-    }
-    let old = d.associations;
-    let new = storing::with_association(old, c);
-    r.associations = new;
-    r
 }
 
 // ---- a file
 
 // Reads a diagram file: its fields from left to right, up to the first refusal.
-pub fn read_diagram(file: &[u8]) -> Loaded
+pub fn read_diagram(file: &[u8]) -> Result<StoredDiagram, Refusal>
     ensures { Loads file.now result }
 {
     let mut d = diagrams::empty_diagram();
-    let mut last: u8 = 0;
+    let mut last = 0;
     let mut rest = file;
-    while 0 < rest.len() {
-        match fields::read_head(rest) {
-            fields::Head::Cut => {
-                return Loaded { no: 1, diagram: d };
-            }
-            fields::Head::Whole { tag, len } => {
-                let c = fields::content(rest, len);
-                let no = refusing::field_no(d, last, tag, c);
-                if no != 0 {
-                    return Loaded { no, diagram: d };
-                }
-                let grown = with_field(d, tag, c);
-                d = grown;
-                last = tag;
-                let next = fields::after(rest, len);
-                rest = next;
-            }
-        }
+    while let Some(field) = fields::read_field(rest)? {
+        refusing::check_field(d, last, field.tag, field.content)?;
+        d = with_field(d, field.tag, field.content);
+        last = field.tag;
+        rest = field.rest;
     }
     if last == 0 {
-        return Loaded { no: 2, diagram: d };
+        return Err(Refusal::Misplaced);
     }
-    Loaded { no: 0, diagram: d }
+    Ok(d)
 }

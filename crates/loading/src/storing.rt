@@ -7,16 +7,9 @@ ghost use Rattle.diagrams.specs.View.{upper_in};
 ghost use Rattle.loading.specs.Stored.{NameStored, ConstantsStored, ValueTypeFits, ValueTypeStored, ParentsStored, SetOf, TypeFits, TypeStored, AttributeFits, AttributeStored, EndStored, AssociationFits, AssociationStored};
 
 use diagrams::{Associations, Attributes, Types, ValueTypes};
+use laws::Mask;
 
 // ---- names
-
-// A number below 256 as a byte.
-fn narrow(n: usize) -> u8
-    requires { n < 256 }
-    ensures { result ≡ n }
-{
-    n as u8
-}
 
 // The name w into slot i.
 pub fn store_name(names: &mut [u8], i: usize, w: &[u8])
@@ -24,7 +17,7 @@ pub fn store_name(names: &mut [u8], i: usize, w: &[u8])
     ensures { NameStored names.old i w.now names.new }
 {
     let at = i * 17;
-    names[at] = narrow(w.len());
+    names[at] = w.len() as u8;
     let n = laws::copy(w, &mut names[at + 1..]);
 }
 
@@ -37,12 +30,9 @@ fn with_constants(constants: [u8; 1632], v: usize, c: &[u8], n: u8) -> [u8; 1632
 {
     let mut out = constants;
     let mut rest = c;
-    let mut i: u8 = 0;
-    while i < n {
-        store_name(&mut out, v * 8 + laws::wide(i), fields::name_in(rest));
-        let next = fields::past_name(rest);
-        rest = next;
-        i += 1;
+    for i in 0..n {
+        store_name(&mut out, v * 8 + usize::from(i), fields::name_in(rest));
+        rest = fields::past_name(rest);
     }
     out
 }
@@ -59,8 +49,7 @@ pub(crate) fn with_value_type(v: ValueTypes, c: &[u8]) -> ValueTypes
     store_name(&mut names, i, fields::name_in(c));
     let mut sizes = v.sizes;
     sizes[i] = n;
-    let old = v.constants;
-    let constants = with_constants(old, i, laws::past(rest, 1), n);
+    let constants = with_constants(v.constants, i, laws::past(rest, 1), n);
     ValueTypes {
         count: i + 1,
         names,
@@ -86,12 +75,9 @@ fn ancestor_set(sets: [u32; 24], t: usize, ps: &[u8]) -> u32
     requires { (t < 24) × ((s : ℕ) → s < length ps.now → get_or ps.now s 0 < t) }
     ensures { SetOf sets t ps.now result }
 {
-    let mut set = laws::with32(0, t as u32);
-    let mut s = 0;
-    while s < ps.len() {
-        let p = laws::wide(ps[s]);
-        set = set | sets[p];
-        s += 1;
+    let mut set = 0u32.with(t as u32);
+    for p in ps {
+        set |= sets[usize::from(*p)];
     }
     set
 }
@@ -111,8 +97,7 @@ pub(crate) fn with_type(t: Types, c: &[u8]) -> Types
     store_name(&mut names, i, fields::name_in(name));
     let mut sizes = t.sizes;
     sizes[i] = laws::byte(rest, 0);
-    let old = t.parents;
-    let parents = with_parents(old, i, ps);
+    let parents = with_parents(t.parents, i, ps);
     let mut sets = t.sets;
     sets[i] = ancestor_set(sets, i, ps);
     Types {
@@ -150,18 +135,11 @@ pub(crate) fn with_attribute(a: Attributes, c: &[u8]) -> Attributes
 
 // ---- associations
 
-// A byte as a limit.
-fn wide16(b: u8) -> u16
-    ensures { result ≡ b }
-{
-    b as u16
-}
-
 // An upper limit as it is kept: byte 255, no limit, is 65,535.
 fn upper(b: u8) -> u16
     ensures { upper_in result ≡ upper_of b }
 {
-    if b == 255 { 65535 } else { wide16(b) }
+    if b == 255 { 65535 } else { u16::from(b) }
 }
 
 // What c says of an end, as end e.
@@ -172,21 +150,17 @@ fn with_end(a: Associations, e: usize, c: &[u8]) -> Associations
     let mut types = a.types;
     types[e] = laws::byte(c, 0);
     let mut lows = a.lows;
-    lows[e] = wide16(laws::byte(c, 1));
+    lows[e] = u16::from(laws::byte(c, 1));
     let mut ups = a.ups;
     ups[e] = upper(laws::byte(c, 2));
     let mut roles = a.roles;
     store_name(&mut roles, e, fields::name_in(laws::past(c, 3)));
-    let forms = a.forms;
-    let arrows = a.arrows;
     Associations {
-        count: a.count,
-        forms,
-        arrows,
         types,
         lows,
         ups,
         roles,
+        ..a
     }
 }
 

@@ -1,1 +1,2 @@
 pub mod MaskRuleLaws
+pub mod RangeLaws

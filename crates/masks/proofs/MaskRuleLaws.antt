@@ -3,7 +3,7 @@
 use Prim.Native.Nat.{ℕ, ◌^◌, ◌<◌, ◌≤◌}
 use native.Mathlib.Decide.{dec_lt}
 use native.Mathlib.Omega.{arith}
-use mathlib.Core.Bool.{Bool, true, false, cond, ◌&&◌}
+use mathlib.Core.Bool.{beq, Bool, true, false, cond, ◌&&◌}
 use mathlib.Core.List.{List, [], ◌∷◌}
 use mathlib.Core.Path.{◌≡◌, refl, sym, ap, ap₂, ◌∙◌}
 use lib.Bits.{bit_and}
@@ -93,3 +93,11 @@ row-test targets to low up k ht hto e f =
 -- the row's bits among the first n objects
 pub row-among : (links : ℕ → Bool) (a b n p : ℕ) → ((p : ℕ) → bit p a ≡ links p) → ((p : ℕ) → bit p b ≡ ltb p n) → bit p (bit_and a b) ≡ links p && ltb p n
 row-among links a b n p f g = bit-and p a b ∙ ap₂ (λ (x y : Bool). x && y) (f p) (g p)
+
+-- the library's equality of tests
+pub same-beq : (a b : Bool) → beq a b ≡ same a b
+unfolding same
+same-beq true true = refl
+same-beq true false = refl
+same-beq false true = refl
+same-beq false false = refl

@@ -17,35 +17,30 @@ pub fn no_names() -> Names
 {
     Names {
         count: 0,
-        names: [0u8; 408],
+        names: [0; 408],
     }
 }
 
 // One name more.
-pub fn push_name(n: Names, w: &[u8]) -> Names
+pub fn push_name(mut n: Names, w: &[u8]) -> Names
     requires { (n.count < 24) × (length w.now ≤ 16) }
     ensures { (result.count ≡ n.count + 1) × (names_in result ≡ names_in n ++ (w.now ∷ [])) }
 {
     let i = n.count;
-    let mut names = n.names;
-    loading::storing::store_name(&mut names, i, w);
-    Names {
-        count: i + 1,
-        names,
-    }
+    loading::storing::store_name(&mut n.names, i, w);
+    n.count = i + 1;
+    n
 }
 
-// The first place of the name w, or their number.
+// The first place of the name w, or their number: a number, since the writers of fields put it into the file as it is.
 pub fn find_name(n: Names, w: &[u8]) -> usize
     requires { n.count ≤ 24 }
     ensures { (result ≡ first (λ i. same_name (get_or (names_in n) i []) w.now) n.count) × (result ≤ n.count) }
 {
-    let mut i = 0;
-    while i < n.count {
+    for i in 0..n.count {
         if fields::same_name(fields::slot_name(&n.names, i as u8), w) {
             return i;
         }
-        i += 1;
     }
     n.count
 }

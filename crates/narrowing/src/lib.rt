@@ -20,14 +20,12 @@ fn usable_row(mask: u32, high: u8, usable: u32, t: u8) -> u32
 }
 
 // What is left of the table where objects have types of the mask `usable`.
-pub fn narrowed<'a>(targets: &'a [u32; 768], highs: &'a [u8; 768], usable: u32) -> [u32; 768]
+pub fn narrowed(targets: &[u32; 768], highs: &[u8; 768], usable: u32) -> [u32; 768]
     ensures { (singles : ℕ) (lows : List ℕ) (x : Lines) → Narrows (sheet usable singles targets.now lows highs.now x) result }
 {
     let mut r = [0u32; 768];
-    let mut i: usize = 0;
-    while i < 768 {
+    for i in 0..768 {
         r[i] = usable_row(targets[i], highs[i], usable, (i / 32) as u8);
-        i += 1;
     }
     r
 }

@@ -17,101 +17,60 @@ mod rule3;
 mod rule4;
 mod rule5;
 
+use diagrams::StoredDiagram;
+use records::MemoryRecord;
+use tables::Tables;
+
 // Rule 1: each object's type is a class or singleton class of the diagram.
-pub fn types_concrete(d: diagrams::StoredDiagram, m: records::MemoryRecord) -> bool
-    requires { Held d × Coded (diagram_of d) m }
-    ensures { result ≡ rule1 (diagram_of d) (site_in (diagram_of d) m) }
+pub fn types_concrete(d: &StoredDiagram, m: &MemoryRecord) -> bool
+    requires { Held d.now × Coded (diagram_of d.now) m.now }
+    ensures { result ≡ rule1 (diagram_of d.now) (site_in (diagram_of d.now) m.now) }
 {
-    let count = m.count as u8;
-    let t = d.types;
-    let types = m.types;
-    rule1::are_concrete(&t.kinds, t.count, &types, count)
+    rule1::are_concrete(&d.types, m)
 }
 
 // Rule 2: each singleton class is the type itself of exactly one object.
-pub fn singletons_single(d: diagrams::StoredDiagram, m: records::MemoryRecord) -> bool
-    requires { Held d × Coded (diagram_of d) m }
-    ensures { result ≡ rule2 (diagram_of d) (site_in (diagram_of d) m) }
+pub fn singletons_single(d: &StoredDiagram, m: &MemoryRecord) -> bool
+    requires { Held d.now × Coded (diagram_of d.now) m.now }
+    ensures { result ≡ rule2 (diagram_of d.now) (site_in (diagram_of d.now) m.now) }
 {
-    let n = m.count as u8;
-    let t = d.types;
-    let types = m.types;
-    rule2::are_single(&t.kinds, &types, n, t.count as u8)
+    rule2::are_single(&d.types, m)
 }
 
 // Slot s is one of n, and its name's own.
-fn is_own(slots: &[u8; 32], n: u8, s: u8) -> bool
-    ensures { result ≡ own_slot slots.now n s }
+fn is_own(t: &Tables, n: usize, s: u8) -> bool
+    ensures { result ≡ own_slot t.now.slots n s }
 {
-    (s < n) & (laws::byte(slots, laws::wide(s)) == s)
+    let at = usize::from(s);
+    (at < n) & (laws::byte(&t.slots, at) == s)
 }
 
 // Rule 3: an object has a value for an attribute name exactly when its type or an ancestor declares it.
-pub fn values_declared<'a>(
-    d: diagrams::StoredDiagram,
-    m: records::MemoryRecord,
-    masks: &'a [u8; 24],
-    slots: &'a [u8; 32],
-) -> bool
-    requires { Held d × Coded (diagram_of d) m × Instances (diagram_of d) m masks.now × AttributeSlots (diagram_of d) slots.now }
-    ensures { result ≡ rule3_in (diagram_of d) m }
+pub fn values_declared(d: &StoredDiagram, m: &MemoryRecord, t: &Tables) -> bool
+    requires { Held d.now × Coded (diagram_of d.now) m.now × Instances (diagram_of d.now) m.now t.now.masks × AttributeSlots (diagram_of d.now) t.now.slots }
+    ensures { result ≡ rule3_in (diagram_of d.now) m.now }
 {
     if m.strays.values {
         return false;
     }
-    let count = m.count as u8;
-    let a = d.attributes;
-    let values = m.values;
-    rule3::all_due(&values, &a.owners, masks, slots, a.count as u8, count)
+    rule3::all_due(m, &d.attributes, t)
 }
 
 // Rule 4: each value belongs to the value type of every declaration of its attribute name for its object.
-pub fn values_belong<'a>(
-    d: diagrams::StoredDiagram,
-    m: records::MemoryRecord,
-    masks: &'a [u8; 24],
-    slots: &'a [u8; 32],
-) -> bool
-    requires { Held d × Coded (diagram_of d) m × Instances (diagram_of d) m masks.now × AttributeSlots (diagram_of d) slots.now }
-    ensures { result ≡ rule4 (diagram_of d) (site_in (diagram_of d) m) }
+pub fn values_belong(d: &StoredDiagram, m: &MemoryRecord, t: &Tables) -> bool
+    requires { Held d.now × Coded (diagram_of d.now) m.now × Instances (diagram_of d.now) m.now t.now.masks × AttributeSlots (diagram_of d.now) t.now.slots }
+    ensures { result ≡ rule4 (diagram_of d.now) (site_in (diagram_of d.now) m.now) }
 {
-    let count = m.count * 32;
-    let a = d.attributes;
-    let values = m.values;
-    rule4::values_fit(
-        &values,
-        &a.owners,
-        &a.types,
-        masks,
-        slots,
-        a.count as u8,
-        count,
-    )
+    rule4::values_fit(m, &d.attributes, t)
 }
 
 // Rule 5: each link's role is carried by some association in that direction with both objects instances of its ends.
-pub fn links_permitted<'a>(
-    d: diagrams::StoredDiagram,
-    m: records::MemoryRecord,
-    masks: &'a [u8; 24],
-    slots: &'a [u8; 32],
-) -> bool
-    requires { Held d × Coded (diagram_of d) m × Instances (diagram_of d) m masks.now × RoleSlots (diagram_of d) slots.now }
-    ensures { result ≡ rule5_in (diagram_of d) m }
+pub fn links_permitted(d: &StoredDiagram, m: &MemoryRecord, t: &Tables) -> bool
+    requires { Held d.now × Coded (diagram_of d.now) m.now × Instances (diagram_of d.now) m.now t.now.masks × RoleSlots (diagram_of d.now) t.now.slots }
+    ensures { result ≡ rule5_in (diagram_of d.now) m.now }
 {
     if m.strays.links {
         return false;
     }
-    let count = m.count * 256;
-    let a = d.associations;
-    let links = m.links;
-    rule5::links_fit(
-        &links,
-        &a.arrows,
-        &a.types,
-        masks,
-        slots,
-        a.count as u8,
-        count,
-    )
+    rule5::links_fit(m, &d.associations, t)
 }

@@ -3,67 +3,32 @@ ghost use Rattle.std.specs.Prelude.{◌≡◌, ◌<◌, ◌≤◌};
 ghost use Rattle.laws.specs.Bounded.{all};
 ghost use Rattle.object_rules.specs.ValuesIn.{due_at, due_for};
 
+use diagrams::Attributes;
+use records::MemoryRecord;
+use tables::Tables;
+
 // Object o has a value for the name of attribute a exactly when that is declared.
-fn is_due<'a>(
-    values: &'a [u8; 256],
-    owners: &'a [u8; 32],
-    masks: &'a [u8; 24],
-    slots: &'a [u8; 32],
-    n: u8,
-    o: u8,
-    a: u8,
-) -> bool
+fn is_due(m: &MemoryRecord, attributes: &Attributes, t: &Tables, o: u8, a: usize) -> bool
     requires { o < 8 }
-    ensures { result ≡ due_at values.now owners.now masks.now slots.now n o a }
+    ensures { result ≡ due_at m.now.values attributes.now.owners t.now.masks t.now.slots attributes.now.count o a }
 {
-    let s = laws::byte(slots, laws::wide(a));
-    let value = laws::byte(values, laws::wide(o) * 32 + laws::wide(s));
-    masks::is_same(
-        value != 0,
-        declarations::is_declared(owners, masks, slots, n, o, s),
-    )
+    let s = laws::byte(&t.slots, a);
+    let value = laws::byte(&m.values, usize::from(o) * 32 + usize::from(s));
+    (value != 0) == declarations::is_declared(attributes, t, o, s)
 }
 
-// Object o has values for just the names that are declared, of n attributes.
-fn are_due<'a>(
-    values: &'a [u8; 256],
-    owners: &'a [u8; 32],
-    masks: &'a [u8; 24],
-    slots: &'a [u8; 32],
-    n: u8,
-    o: u8,
-) -> bool
+// Object o has values for just the names that are declared.
+fn are_due(m: &MemoryRecord, attributes: &Attributes, t: &Tables, o: u8) -> bool
     requires { o < 8 }
-    ensures { result ≡ due_for values.now owners.now masks.now slots.now n o }
+    ensures { result ≡ due_for m.now.values attributes.now.owners t.now.masks t.now.slots attributes.now.count o }
 {
-    let mut a: u8 = 0;
-    while a < n {
-        if !is_due(values, owners, masks, slots, n, o, a) {
-            return false;
-        }
-        a += 1;
-    }
-    true
+    (0..attributes.count).all(|a| is_due(m, attributes, t, o, a))
 }
 
-// Each of the first `count` objects has values for just these names.
-pub(crate) fn all_due<'a>(
-    values: &'a [u8; 256],
-    owners: &'a [u8; 32],
-    masks: &'a [u8; 24],
-    slots: &'a [u8; 32],
-    n: u8,
-    count: u8,
-) -> bool
-    requires { count ≤ 8 }
-    ensures { result ≡ all (due_for values.now owners.now masks.now slots.now n) count }
+// Each object has values for just these names.
+pub(crate) fn all_due(m: &MemoryRecord, attributes: &Attributes, t: &Tables) -> bool
+    requires { m.now.count ≤ 8 }
+    ensures { result ≡ all (due_for m.now.values attributes.now.owners t.now.masks t.now.slots attributes.now.count) m.now.count }
 {
-    let mut o: u8 = 0;
-    while o < count {
-        if !are_due(values, owners, masks, slots, n, o) {
-            return false;
-        }
-        o += 1;
-    }
-    true
+    (0..m.count as u8).all(|o| are_due(m, attributes, t, o))
 }

@@ -5,6 +5,7 @@ ghost use Rattle.std.specs.Prelude.{◌≡◌, true, false, ◌&&◌, ℕ, ◌<�
 ghost use Rattle.laws.specs.Bits.{bit};
 ghost use Rattle.queries.specs.Forms.{seeded, linked, barred, rowed, columned, avoiding};
 
+use laws::Mask;
 use worlds::Query;
 
 // ---- sets of types
@@ -14,7 +15,7 @@ pub fn only(t: u32) -> u32
     requires { t < 32 }
     ensures { (j : ℕ) → bit j result ≡ eqb j t }
 {
-    laws::with32(0, t)
+    0u32.with(t)
 }
 
 // The types of both sets.
@@ -58,10 +59,9 @@ pub fn with_link(q: Query, s: u8, o: u8, p: u8) -> Query
     requires { (s < 32) × (o < 8) × (p < 8) }
     ensures { result ≡ linked q s o p }
 {
-    let i = laws::wide(o) * 32 + laws::wide(s);
+    let i = usize::from(o) * 32 + usize::from(s);
     let mut e = q;
-    let m = e.must[i];
-    e.must[i] = m | (1u8 << p);
+    e.must[i] |= 1u8 << p;
     e
 }
 
@@ -70,10 +70,9 @@ pub fn with_bar(q: Query, s: u8, o: u8, p: u8) -> Query
     requires { (s < 32) × (o < 8) × (p < 8) }
     ensures { result ≡ barred q s o p }
 {
-    let i = laws::wide(o) * 32 + laws::wide(s);
+    let i = usize::from(o) * 32 + usize::from(s);
     let mut e = q;
-    let m = e.shut[i];
-    e.shut[i] = m | (1u8 << p);
+    e.shut[i] |= 1u8 << p;
     e
 }
 
@@ -81,30 +80,30 @@ pub fn with_bar(q: Query, s: u8, o: u8, p: u8) -> Query
 pub fn with_row(q: Query, s: u8, low: u8, high: u8) -> Query
     ensures { result ≡ rowed q s low high }
 {
-    let mut e = q;
-    e.row = s;
-    e.low = low;
-    e.high = high;
-    e
+    Query {
+        row: s,
+        low,
+        high,
+        ..q
+    }
 }
 
 // Besides, the first object has so many sources of the types `from` in slot s.
 pub fn with_column(q: Query, s: u8, from: u32, least: u8, most: u8) -> Query
     ensures { result ≡ columned q s from least most }
 {
-    let mut e = q;
-    e.column = s;
-    e.from = from;
-    e.least = least;
-    e.most = most;
-    e
+    Query {
+        column: s,
+        from,
+        least,
+        most,
+        ..q
+    }
 }
 
 // Besides, no other object has a type of the set.
 pub fn with_never(q: Query, never: u32) -> Query
     ensures { result ≡ avoiding q never }
 {
-    let mut e = q;
-    e.never = never;
-    e
+    Query { never, ..q }
 }

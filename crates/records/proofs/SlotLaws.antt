@@ -2,7 +2,7 @@
 -- one. Names of one key have one slot, and no other names have.
 -- Type names differ, so that a type's own name has its index.
 -- Assumes nothing.
-use Prim.Native.Nat.{◌%◌, ◌+◌, ◌/◌, ◌<◌, ◌≤◌, suc, zero, ℕ}
+use Prim.Native.Nat.{◌+◌, ◌<◌, ◌≤◌, suc, zero, ℕ}
 use native.Mathlib.Omega.{arith}
 use mathlib.Core.Bool.{Bool, cond, true}
 use mathlib.Core.List.{[]}
@@ -16,7 +16,7 @@ use Rattle.laws.specs.Connective.{both, either}
 use Rattle.laws.proofs.BoundedLaws.{any_none}
 use Rattle.laws.proofs.ConnectiveLaws.{both_left, both_of, both_right, either-cases, either_left, either-right, same_test}
 use Rattle.laws.proofs.FirstLaws.{first_below, first-ext, first-hit, first_holds, first-le}
-use Rattle.files.specs.Diagram.{Diagram, ValueType, attribute_at, type_at, value_type_at}
+use Rattle.files.specs.Diagram.{Diagram, ValueType, attribute_at, type_at}
 use Rattle.files.specs.Name.{Name, key, same_name}
 use Rattle.files.specs.Record.{Record, value_at}
 use Rattle.files.specs.WellFormedDiagram.{WfDiagram}
@@ -185,13 +185,6 @@ module _ (d : Diagram) where
   constant-alike t i b c e =
       ap₂ either (ap (both (ltb i (length t.constants))) (same-right (get_or t.constants i []) b c e))
       (ap (λ (n : ℕ). both (eqb (length t.constants) 0) (both (eqb i 0) (eqb n 0))) (key-length b c e))
-
-  pub code_alike : (t u b c : Name) → key t ≡ key u → key b ≡ key c → code_of d t b ≡ code_of d u c
-  unfolding code_of is_code
-  code_alike t u b c e f =
-      first-ext _ _ 96 (λ k l.
-      ap (both (ltb (k / 8) (length d.value_types)))
-      (ap₂ both (same-right (value_type_at d (k / 8)).name t u e) (constant-alike (value_type_at d (k / 8)) (k % 8) b c f)))
 
   pub among-alike : (r : Record) (o : ℕ) (v w : Name) → key v ≡ key w → (n : ℕ) → code_among d r o v n ≡ code_among d r o w n
   unfolding code_among

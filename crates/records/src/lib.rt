@@ -13,6 +13,7 @@ pub struct Strays {
     pub links: bool,
 }
 
+// Passed by value, with flat arrays of indices and masks: a rule of the project.
 #[derive(Clone, Copy)]
 pub struct MemoryRecord {
     pub count: usize,
@@ -25,15 +26,15 @@ pub struct MemoryRecord {
     pub strays: Strays,
 }
 
-// No object, no value, no link.
+// No object, no value, no link. Spelled out: a derived Default promises each element of an array, and not the array.
 pub fn empty_record() -> MemoryRecord
     ensures { result ≡ empty_record }
 {
     MemoryRecord {
         count: 0,
-        types: [0u8; 8],
-        values: [0u8; 256],
-        links: [0u8; 256],
+        types: [0; 8],
+        values: [0; 256],
+        links: [0; 256],
         strays: Strays {
             values: false,
             links: false,

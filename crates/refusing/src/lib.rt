@@ -3,7 +3,7 @@
 
 ghost use Rattle.std.specs.Prelude.{◌≡◌, ◌&&◌, suc, ◌<◌, ◌≤◌, eqb, ltb, length, get_or};
 ghost use Rattle.laws.specs.Bounded.{any};
-ghost use Rattle.laws.specs.Connective.{refuse};
+ghost use Rattle.fields.specs.Refusal.{refusal_number};
 ghost use Rattle.fields.specs.Slot.{slot_name};
 ghost use Rattle.files.specs.Name.{same_name, differ};
 ghost use Rattle.files.specs.Refusal.{misplaced};
@@ -14,13 +14,7 @@ ghost use Rattle.diagrams.specs.Held.{Counts, only_types};
 ghost use Rattle.refusing.specs.Numbers.{only_value_types, below, interfaces, kind_breaks, attribute_known, attribute_no, ends_known, whole_right, association_no};
 
 use diagrams::{StoredDiagram, Types, ValueTypes};
-
-// n where the test holds, else what the later tests say.
-fn refuse(test: bool, n: u8, later: u8) -> u8
-    ensures { result ≡ refuse test n later }
-{
-    if test { n } else { later }
-}
+use fields::Refusal;
 
 // ---- names that stand already
 
@@ -36,26 +30,24 @@ fn is_named(names: &[u8], n: usize, w: &[u8]) -> bool
     requires { n ≤ 32 }
     ensures { result ≡ any (λ i. same_name (slot_name names.now i) w.now) n }
 {
-    let mut i = 0;
-    while i < n {
+    for i in 0..n {
         if slot_is(names, i as u8, w) {
             return true;
         }
-        i += 1;
     }
     false
 }
 
 // ---- 0x10 and 0x20
 
-// The first refusal of an edition, or 0.
-fn edition_no(c: &[u8]) -> u8
-    ensures { result ≡ edition_refusal c.now }
+// The first refusal of an edition, if it has one.
+fn check_edition(c: &[u8]) -> Result<(), Refusal>
+    ensures { refusal_number result ≡ edition_refusal c.now }
 {
     if !layouts::edition_laid(c) {
-        return 3;
+        return Err(Refusal::Layout);
     }
-    0
+    Ok(())
 }
 
 // No two of a value type's constants are the same.
@@ -66,25 +58,24 @@ fn constants_differ(c: &[u8]) -> bool
     layouts::names_differ(laws::past(rest, 1), laws::byte(rest, 0))
 }
 
-// The first refusal of a value type behind these, or 0.
-fn value_type_no(v: ValueTypes, c: &[u8]) -> u8
+// The first refusal of a value type behind these.
+fn check_value_type(v: ValueTypes, c: &[u8]) -> Result<(), Refusal>
     requires { v.count ≤ 12 }
-    ensures { result ≡ value_type_refusal (only_value_types v) c.now }
+    ensures { refusal_number result ≡ value_type_refusal (only_value_types v) c.now }
 {
     if 12 <= v.count {
-        return 4;
+        return Err(Refusal::Count);
     }
     if !layouts::value_type_laid(c) {
-        return 3;
+        return Err(Refusal::Layout);
     }
-    let names = v.names;
-    if is_named(&names, v.count, fields::name_in(c)) {
-        return 5;
+    if is_named(&v.names, v.count, fields::name_in(c)) {
+        return Err(Refusal::Order);
     }
     if !constants_differ(c) {
-        return 5;
+        return Err(Refusal::Order);
     }
-    0
+    Ok(())
 }
 
 // ---- 0x30
@@ -103,67 +94,46 @@ fn type_parents(c: &[u8]) -> &[u8]
     laws::past(fields::past_name(laws::past(c, 1)), 1)
 }
 
-// Number i is below the next one.
-fn rises_at(ns: &[u8], i: usize) -> bool
-    requires { i < length ns.now }
-    ensures { result ≡ ltb (get_or ns.now i 0) (get_or ns.now (suc i) 0) }
-{
-    laws::byte(ns, i) < laws::byte(ns, i + 1)
-}
-
 // Strictly rising.
 fn rises(ns: &[u8]) -> bool
     ensures { result ≡ rising ns.now }
 {
-    let mut i = 0;
-    while i + 1 < ns.len() {
-        if !rises_at(ns, i) {
+    for i in 1..ns.len() {
+        if ns[i] <= ns[i - 1] {
             return false;
         }
-        i += 1;
     }
     true
-}
-
-// Number i is below n.
-fn is_below(ns: &[u8], i: usize, n: usize) -> bool
-    ensures { result ≡ ltb (get_or ns.now i 0) n }
-{
-    laws::wide(laws::byte(ns, i)) < n
 }
 
 // Each number is below n.
 fn all_below(ns: &[u8], n: usize) -> bool
     ensures { result ≡ below n ns.now }
 {
-    let mut i = 0;
-    while i < ns.len() {
-        if !is_below(ns, i, n) {
+    for p in ns {
+        if n <= usize::from(*p) {
             return false;
         }
-        i += 1;
     }
     true
 }
 
-// Number i is below n, and that of an interface.
-fn is_interface(kinds: &[u8], n: usize, ns: &[u8], i: usize) -> bool
-    ensures { result ≡ ltb (get_or ns.now i 0) n && eqb (get_or kinds.now (get_or ns.now i 0) 0) 2 }
+// Type p is among the first n, and an interface.
+fn is_interface(kinds: &[u8], n: usize, p: u8) -> bool
+    ensures { result ≡ ltb p n && eqb (get_or kinds.now p 0) 2 }
 {
-    let p = laws::wide(laws::byte(ns, i));
-    (p < n) & (laws::byte(kinds, p) == 2)
+    let at = usize::from(p);
+    (at < n) & (laws::byte(kinds, at) == 2)
 }
 
-// Each number is below n, and that of an interface.
+// Each number is that of an interface among the first n types.
 fn all_interfaces(kinds: &[u8], n: usize, ns: &[u8]) -> bool
     ensures { result ≡ interfaces kinds.now n ns.now }
 {
-    let mut i = 0;
-    while i < ns.len() {
-        if !is_interface(kinds, n, ns, i) {
+    for p in ns {
+        if !is_interface(kinds, n, *p) {
             return false;
         }
-        i += 1;
     }
     true
 }
@@ -193,8 +163,7 @@ fn parents_interfaces(kinds: &[u8], n: usize, c: &[u8]) -> bool
 fn kind_breaks(t: Types, c: &[u8]) -> bool
     ensures { result ≡ kind_breaks t c.now }
 {
-    let kinds = t.kinds;
-    (laws::byte(c, 0) == 2) & !parents_interfaces(&kinds, t.count, c)
+    (laws::byte(c, 0) == 2) & !parents_interfaces(&t.kinds, t.count, c)
 }
 
 // A type of this name stands already.
@@ -202,19 +171,33 @@ fn type_named(t: Types, c: &[u8]) -> bool
     requires { t.count ≤ 24 }
     ensures { result ≡ type_named (only_types t) (type_of c.now).name }
 {
-    let names = t.names;
-    is_named(&names, t.count, type_name(c))
+    is_named(&t.names, t.count, type_name(c))
 }
 
-// The first refusal of a type behind these, or 0.
-fn type_no(t: Types, c: &[u8]) -> u8
+// The first refusal of a type behind these.
+fn check_type(t: Types, c: &[u8]) -> Result<(), Refusal>
     requires { t.count ≤ 24 }
-    ensures { result ≡ type_refusal (only_types t) c.now }
+    ensures { refusal_number result ≡ type_refusal (only_types t) c.now }
 {
-    let kind = refuse(kind_breaks(t, c), 7, 0);
-    let named = type_named(t, c) | !parents_rise(c);
-    let order = refuse(named, 5, refuse(!parents_below(t.count, c), 6, kind));
-    refuse(24 <= t.count, 4, refuse(!layouts::type_laid(c), 3, order))
+    if 24 <= t.count {
+        return Err(Refusal::Count);
+    }
+    if !layouts::type_laid(c) {
+        return Err(Refusal::Layout);
+    }
+    if type_named(t, c) {
+        return Err(Refusal::Order);
+    }
+    if !parents_rise(c) {
+        return Err(Refusal::Order);
+    }
+    if !parents_below(t.count, c) {
+        return Err(Refusal::Unknown);
+    }
+    if kind_breaks(t, c) {
+        return Err(Refusal::Parent);
+    }
+    Ok(())
 }
 
 // ---- 0x40 and 0x50
@@ -223,24 +206,24 @@ fn type_no(t: Types, c: &[u8]) -> u8
 fn attribute_known(values: usize, types: usize, c: &[u8]) -> bool
     ensures { result ≡ attribute_known values types c.now }
 {
-    (laws::wide(laws::byte(c, 0)) < types)
-        & (laws::wide(laws::byte(fields::past_name(laws::past(c, 1)), 0)) < values)
+    (usize::from(laws::byte(c, 0)) < types)
+        & (usize::from(laws::byte(fields::past_name(laws::past(c, 1)), 0)) < values)
 }
 
-// The first refusal of an attribute behind n others, or 0.
-fn attribute_no(values: usize, types: usize, n: usize, c: &[u8]) -> u8
-    ensures { result ≡ attribute_no values types n c.now }
+// The first refusal of an attribute behind n others.
+fn check_attribute(values: usize, types: usize, n: usize, c: &[u8]) -> Result<(), Refusal>
+    ensures { refusal_number result ≡ attribute_no values types n c.now }
 {
     if 32 <= n {
-        return 4;
+        return Err(Refusal::Count);
     }
     if !layouts::attribute_laid(c) {
-        return 3;
+        return Err(Refusal::Layout);
     }
     if !attribute_known(values, types, c) {
-        return 6;
+        return Err(Refusal::Unknown);
     }
-    0
+    Ok(())
 }
 
 // The types of both ends are below the count.
@@ -248,8 +231,8 @@ fn ends_known(types: usize, c: &[u8]) -> bool
     ensures { result ≡ ends_known types c.now }
 {
     let left = laws::past(c, 2);
-    (laws::wide(laws::byte(left, 0)) < types)
-        & (laws::wide(laws::byte(layouts::past_end(left), 0)) < types)
+    (usize::from(laws::byte(left, 0)) < types)
+        & (usize::from(laws::byte(layouts::past_end(left), 0)) < types)
 }
 
 // A composition with arrow 2.
@@ -259,23 +242,23 @@ fn whole_right(c: &[u8]) -> bool
     (laws::byte(c, 0) == 1) & (laws::byte(c, 1) == 2)
 }
 
-// The first refusal of an association behind n others, or 0.
-fn association_no(types: usize, n: usize, c: &[u8]) -> u8
-    ensures { result ≡ association_no types n c.now }
+// The first refusal of an association behind n others.
+fn check_association(types: usize, n: usize, c: &[u8]) -> Result<(), Refusal>
+    ensures { refusal_number result ≡ association_no types n c.now }
 {
     if 16 <= n {
-        return 4;
+        return Err(Refusal::Count);
     }
     if !layouts::association_laid(c) {
-        return 3;
+        return Err(Refusal::Layout);
     }
     if !ends_known(types, c) {
-        return 6;
+        return Err(Refusal::Unknown);
     }
     if whole_right(c) {
-        return 8;
+        return Err(Refusal::Whole);
     }
-    0
+    Ok(())
 }
 
 // ---- a field
@@ -288,27 +271,25 @@ fn is_misplaced(last: u8, tag: u8) -> bool
         | ((tag < last) | (((tag == 16) & (last != 0)) | ((last == 0) & (tag != 16))))
 }
 
-// The first refusal of a field behind one of the tag last, or 0.
-pub fn field_no(d: StoredDiagram, last: u8, tag: u8, c: &[u8]) -> u8
+// The first refusal of a field behind one of the tag last, which is 0 where there is none.
+pub fn check_field(d: StoredDiagram, last: u8, tag: u8, c: &[u8]) -> Result<(), Refusal>
     requires { Counts d }
-    ensures { result ≡ diagram_refusal last (diagram_of d) tag c.now }
+    ensures { refusal_number result ≡ diagram_refusal last (diagram_of d) tag c.now }
 {
     if is_misplaced(last, tag) {
-        return 2;
+        return Err(Refusal::Misplaced);
     }
     if tag == 16 {
-        return edition_no(c);
+        return check_edition(c);
     }
     if tag == 32 {
-        let values = d.values;
-        return value_type_no(values, c);
+        return check_value_type(d.values, c);
     }
     if tag == 48 {
-        let types = d.types;
-        return type_no(types, c);
+        return check_type(d.types, c);
     }
     if tag == 64 {
-        return attribute_no(d.values.count, d.types.count, d.attributes.count, c);
+        return check_attribute(d.values.count, d.types.count, d.attributes.count, c);
     }
-    association_no(d.types.count, d.associations.count, c)
+    check_association(d.types.count, d.associations.count, c)
 }

@@ -8,51 +8,44 @@ ghost use Rattle.worlds.specs.Kept.{Slotted, sheet};
 ghost use Rattle.worlds.specs.Asked.{Sane, Solution};
 ghost use Rattle.relaxing.specs.Relaxed.{freed, unforced};
 
-use worlds::{Lines, Query};
+use worlds::{Lines, Query, Tables};
 
 // The lines without lower limits.
 fn without_lows(lines: Lines) -> Lines
     ensures { result ≡ unforced lines }
 {
-    let none = [0u8; 16];
-    let mut r = lines;
-    r.columnlow = none;
-    r
+    Lines {
+        columnlow: [0u8; 16],
+        ..lines
+    }
 }
 
 // The query without lower limits.
 fn without_least(q: Query) -> Query
     ensures { result ≡ freed q }
 {
-    let mut r = q;
-    r.low = 0;
-    r.least = 0;
-    r
+    Query {
+        low: 0,
+        least: 0,
+        ..q
+    }
 }
 
 // Whether the seeds, of the given types, cannot stand together.
-pub fn is_stuck<'a>(
-    targets: &'a [u32; 768],
-    highs: &'a [u8; 768],
-    lines: Lines,
-    usable: u32,
-    q: Query,
-    types: [u8; 8],
-) -> bool
-    requires { Slotted lines × Sane q × ((o : ℕ) → get_or types o 0 < 24) }
-    ensures { result ≡ true → (singles n : ℕ) (lows : List ℕ) → Nowhere (Solution (sheet usable singles targets.now lows highs.now lines) q n) types q.seeds q.never n }
+pub fn is_stuck(tables: &Tables, q: Query, types: [u8; 8]) -> bool
+    requires { Slotted tables.now.lines × Sane q × ((o : ℕ) → get_or types o 0 < 24) }
+    ensures { result ≡ true → (singles n : ℕ) (lows : List ℕ) → Nowhere (Solution (sheet tables.now.usable singles tables.now.targets lows tables.now.highs tables.now.lines) q n) types q.seeds q.never n }
 {
-    let lows = [0u8; 768];
-    let found = leaves::ends(
-        targets,
-        &lows,
-        highs,
-        without_lows(lines),
-        usable,
+    leaves::ends(
+        &tables.targets,
+        &[0u8; 768],
+        &tables.highs,
+        without_lows(tables.lines),
+        tables.usable,
         0,
         without_least(q),
         types,
         q.seeds,
-    );
-    !found.ok
+    )
+    .is_none()
 }

@@ -45,7 +45,7 @@ begins calls out b e v = record {
   goes = λ more r. subst (λ (x : steps.Bench). Replays x calls out more) (ap bench_of e ∙ fresh-stands) r;
 }
 
-module _ (calls out₀ out : List ℕ) (b : Bench) (rest : List ℕ) (at : ℕ) (g : Going calls out₀ out b rest at) (t : Turn) (after : List ℕ) where
+module _ (calls out₀ out : List ℕ) (b : Bench) (rest : List ℕ) (at : ℕ) (g : Going calls out₀ out b rest at) (after : List ℕ) where
   abbrev room : List ℕ
   room = take (length out - at) (drop at out)
 
@@ -55,12 +55,12 @@ module _ (calls out₀ out : List ℕ) (b : Bench) (rest : List ℕ) (at : ℕ) 
   room-is : room ≡ drop at out₀
   room-is = lent g.replies out₀ out at g.count g.bytes
 
-  pub room_for : Went b rest room t after → at + t.wrote ≤ length out₀
-  room_for w = omega (arith, w.fits, w.count, ap length room-is, length-drop at out₀, g.fits)
+  pub room_for : (t : Turn) → Went b rest room t after → at + t.wrote ≤ length out₀
+  room_for t w = omega (arith, w.fits, w.count, ap length room-is, length-drop at out₀, g.fits)
 
-  pub goes_on : Went b rest room t after → length whole ≡ length out → (next : List ℕ) → next ≡ drop t.used rest
+  pub goes_on : (t : Turn) → Went b rest room t after → length whole ≡ length out → (next : List ℕ) → next ≡ drop t.used rest
       → Going calls out₀ whole t.bench next (at + t.wrote)
-  goes_on w s next e =
+  goes_on t w s next e =
       let small : at + length w.reply ≤ length out₀ = omega (arith, w.fits, ap length room-is, length-drop at out₀, g.fits) in
       record {
         replies = g.replies ++ w.reply;

@@ -20,97 +20,95 @@ use Rattle.bench.specs.View.{bench_of, reply_of}
 use Rattle.bench.specs.declared.Bench.{Bench}
 use Rattle.bench.specs.declared.Listed.{Listed}
 use Rattle.bench.specs.declared.Replied.{Replied}
+use Rattle.std.specs.Prelude.{Option, None, Some}
 use Rattle.coding.specs.declared.Next.{Next}
 use Rattle.coding.specs.CallBytes.{call, call_of, next_of, operands_of, read_call, row_at}
 use Rattle.coding.specs.Puts.{Puts}
 use Rattle.coding.specs.ReplyBytes.{bytes_by, head_bytes, outcome_bytes, reply_bytes}
 use Rattle.coding.proofs.CallLaws.{Whole, lends-none, read-call, read-halt, whole-call}
-use Rattle.coding.proofs.ReplyLaws.{five-bytes, some_bytes}
+use Rattle.coding.proofs.ReplyLaws.{five-bytes}
 use Rattle.replay.specs.Replays.{Replays, full, goes, halts}
-use Rattle.replay.specs.Turned.{Turned}
+use Rattle.replay.specs.Turned.{Turned, Went, Wrote}
 use Rattle.replay.specs.declared.Turn.{Turn}
 
-pub turned-halt : (b : Bench) (s room : List ℕ) {n : Next} → n ≡ next_of s (length room) → n.code ≡ 0
-    → Turned b s room (record { bench = b; used = 0; wrote = 0 }) room
-turned-halt b s room e k = record { stops = λ z. (halts (read-halt s room e k), refl); went = λ z. absurd (omega (arith, z)) }
+pub turned-halt : (b : Bench) (s room : List ℕ) {x : Option Next} → x ≡ next_of s (length room) → x ≡ None → Turned b s room None room
+turned-halt b s room e k = (halts (read-halt s room e k), refl)
 
--- ---- a call whose outcome has the bytes xs
+-- ---- a call whose outcome has the bytes xs, and that leaves the bench e
 
-module _ (b : Bench) (s room : List ℕ) (t : Turn) (after : List ℕ) (c : Call) (o : Outcome) (k : ℕ)
+module _ (b : Bench) (s room : List ℕ) (after : List ℕ) (c : Call) (o : Outcome) (k : ℕ)
     (reads-it : read_call s room ≡ call c (drop k s)) (step : Step (bench_of b) c o) (some : 0 < k) (little : k ≤ length s)
-    (valid : Valid t.bench) (left : bench_of t.bench ≡ o.bench) (used : t.used ≡ k)
-    (xs : List ℕ) (coded : outcome_bytes c o ≡ xs) (nonempty : 0 < length xs) where
-  turned-fits : length xs ≤ length room → t.wrote ≡ length xs → after ≡ over xs room → Turned b s room t after
-  turned-fits f w a = record {
-    stops = λ z. absurd (omega (arith, z, w, nonempty));
-    went = λ z. record {
-      reply = xs;
-      valid = valid;
-      some = omega (arith, used, some);
-      little = omega (arith, used, little);
-      count = w;
-      fits = f;
-      bytes = a;
-      on = λ more r. subst (λ (y : List ℕ). Replays (bench_of b) s room (y ++ more)) coded
-          (goes o reads-it step (omega (arith, ap length coded, f)) (rw (coded) (rw (left, used, w) at r)));
-    };
+    (e : Bench) (valid : Valid e) (left : bench_of e ≡ o.bench) (xs : List ℕ) (coded : outcome_bytes c o ≡ xs) where
+  turned-fits : (t : Turn) → t.bench ≡ e → t.used ≡ k → length xs ≤ length room → t.wrote ≡ length xs → after ≡ over xs room → Went b s room t after
+  turned-fits t eb used f w a = record {
+    reply = xs;
+    valid = subst Valid (sym eb) valid;
+    some = omega (arith, used, some);
+    little = omega (arith, used, little);
+    count = w;
+    fits = f;
+    bytes = a;
+    on = λ more r. subst (λ (y : List ℕ). Replays (bench_of b) s room (y ++ more)) coded
+        (goes o reads-it step (omega (arith, ap length coded, f)) (rw (coded) (rw (eb, left, used, w) at r)));
   }
 
-  turned : Puts xs room t.wrote after → Turned b s room t after
-  turned p = by (dec_le (length xs) (length room))
+  turned : (x : Option Turn) → Wrote e k xs room x after → Turned b s room x after
+  turned (Some t) p = by (dec_le (length xs) (length room))
     where
-      by : Dec (length xs ≤ length room) → Turned b s room t after
-      by (yes h) = turned-fits h (p.fits h).0 (p.fits h).1
+      by : Dec (length xs ≤ length room) → Went b s room t after
+      by (yes h) =
+          let q = p.1.1.fits h in
+          let w : t.wrote ≡ length xs = cc in
+          turned-fits t p.0 p.1.0 h w q.1
       by (no h) =
           let far : length room < length xs = omega (arith, h) in
-          let q = p.not-fits far in
-          record {
-            stops = λ z. (full o reads-it step (omega (arith, ap length coded, far)), q.1);
-            went = λ z. absurd (omega (arith, z, q.0));
-          }
+          let q = p.1.1.not-fits far in
+          absurd (cc)
+  turned None p = by (dec_le (length xs) (length room))
+    where
+      by : Dec (length xs ≤ length room) → Replays (bench_of b) s room [] × (after ≡ room)
+      by (yes h) = let q = p.fits h in absurd (cc)
+      by (no h) =
+          let far : length room < length xs = omega (arith, h) in
+          (full o reads-it step (omega (arith, ap length coded, far)), (p.not-fits far).1)
 
 -- ---- the calls, by what they are lent and give
 
-abbrev Ends : Bench → steps.Reply → ℕ → Turn → List ℕ → List ℕ → Type 0
-Ends e reply k t room after = (t.bench ≡ e) × ((t.used ≡ k) × Puts (reply_bytes reply) room t.wrote after)
-
-module _ (b : Bench) (s room : List ℕ) {n : Next} (e : n ≡ next_of s (length room)) (some : n.code ≢ 0) where
+module _ (b : Bench) (s room : List ℕ) {y : Option Next} (e : y ≡ next_of s (length room)) (n : Next) (some : y ≡ Some n) where
   all : Whole s (length room) n
-  all = whole-call s (length room) e some
+  all = whole-call s (length room) n e some
 
   -- the call at code k
   called : (k : ℕ) → n.code ≡ k → read_call s room ≡ call (call_of k (operands_of s room n)) (drop n.used s)
-  called k q = read-call s room e some ∙ ap (λ (j : ℕ). call (call_of j (operands_of s room n)) (drop n.used s)) q
+  called k q = read-call s room e n some ∙ ap (λ (j : ℕ). call (call_of j (operands_of s room n)) (drop n.used s)) q
 
   -- a call that is lent no buffer
-  pub turned_plain : {t : Turn} {after file rest none : List ℕ} {d : Replied} → n.code ≢ 7 → rest ≡ drop n.from s → file ≡ take n.len rest → none ≡ take 0 s
+  pub turned_plain : (x : Option Turn) (after : List ℕ) {file rest : List ℕ} {d : Replied} → n.code ≢ 7 → rest ≡ drop n.from s → file ≡ take n.len rest
       → ((buffer : List ℕ) → Does b (call_of n.code (record { byte = n.byte; file = file; buffer = buffer })) d [])
-      → Ends d.bench (reply_of d.reply none) n.used t room after → Turned b s room t after
+      → Wrote d.bench n.used (reply_bytes (reply_of d.reply [])) room x after → Turned b s room x after
   unfolding outcome_bytes bytes_by
-  turned_plain {t} {after} {d = d} not-lent er ef en does q =
+  turned_plain x after {d = d} not-lent er ef does q =
       let o = operands_of s room n in
       let c = call_of n.code o in
       let did : Does b c d [] = subst (λ (f : List ℕ). Does b (call_of n.code (record { byte = n.byte; file = f; buffer = o.buffer })) d []) (ef ∙ ap (take n.len) er) (does o.buffer) in
-      let reply = reply_bytes (reply_of d.reply []) in
-      turned b s room t after c _ n.used (read-call s room e some) did.step all.some all.little (subst Valid (sym q.0) did.valid) (ap bench_of q.0) q.1.0
-      reply (rw (lends-none n.code o all.known not-lent)) (some_bytes (reply_of d.reply [])) (rw (en) at q.1.1)
+      turned b s room after c _ n.used (read-call s room e n some) did.step all.some all.little d.bench did.valid refl
+      (reply_bytes (reply_of d.reply [])) (rw (lends-none n.code o all.known not-lent)) x q
 
   -- compile: its list stands beside its reply
-  pub turned-compile : {t : Turn} {after : List ℕ} {d : Listed} → n.code ≡ 4 → DoesWith b (steps.Compile n.byte) d
-      → Ends d.bench (reply_of d.reply d.list) n.used t room after → Turned b s room t after
+  pub turned-compile : (x : Option Turn) (after : List ℕ) {d : Listed} → n.code ≡ 4 → DoesWith b (steps.Compile n.byte) d
+      → Wrote d.bench n.used (reply_bytes (reply_of d.reply d.list)) room x after → Turned b s room x after
   unfolding call_of outcome_bytes bytes_by effect
-  turned-compile {t} {after} {d} k does q =
-      turned b s room t after (steps.Compile n.byte) _ n.used (called 4 k) does.step all.some all.little
-      (subst Valid (sym q.0) does.valid) (ap bench_of q.0) q.1.0 (reply_bytes (reply_of d.reply d.list)) refl
-      (some_bytes (reply_of d.reply d.list)) q.1.1
+  turned-compile x after {d} k does q =
+      turned b s room after (steps.Compile n.byte) _ n.used (called 4 k) does.step all.some all.little
+      d.bench does.valid refl (reply_bytes (reply_of d.reply d.list)) refl x q
 
   pub lend-fits : n.code ≡ 7 → 5 + n.lend ≤ length room
   lend-fits k = subst (λ (j : ℕ). (row_at j).buffers * 5 + n.lend ≤ length room) k all.fits
 
   -- hand out: the buffer that it was lent lies behind its own first five bytes
-  pub turned-hand-out : (after es mid : List ℕ) (k m : ℕ) (d : Replied) → n.code ≡ 7 → k ≡ n.lend → length (put_mid 5 k room es) ≡ length room
+  pub turned-hand-out : (after es mid : List ℕ) (k : ℕ) (m : Option ℕ) (d : Replied) → n.code ≡ 7 → k ≡ n.lend → length (put_mid 5 k room es) ≡ length room
       → Does b (steps.HandOut (take k (drop 5 room))) d es → mid ≡ put_mid 5 k room es → Puts (head_bytes (reply_of d.reply [])) mid m after
-      → Turned b s room (record { bench = d.bench; used = n.used; wrote = 5 + n.lend }) after
+      → Turned b s room (Some (record { bench = d.bench; used = n.used; wrote = 5 + n.lend })) after
   unfolding call_of outcome_bytes bytes_by effect
   turned-hand-out after es mid k m d code kn len does em p =
       let fits = lend-fits code in
@@ -131,6 +129,7 @@ module _ (b : Bench) (s room : List ℕ) {n : Next} (e : n ≡ next_of s (length
       let total : length mid ≡ length room = ap length em ∙ len in
       let bytes : after ≡ over (hs ++ es) room =
       (p.fits (omega (arith, five, total, fits))).1 ∙ ap (over hs) (em ∙ ap (λ (j : ℕ). put_mid 5 j room es) kn) ∙ over-mid hs es room 5 n.lend five size fits in
-      turned-fits b s room (record { bench = d.bench; used = n.used; wrote = 5 + n.lend }) after (steps.HandOut (take k (drop 5 room))) _ n.used
+      turned-fits b s room after (steps.HandOut (take k (drop 5 room))) _ n.used
       (called 7 code ∙ ap (λ (j : ℕ). call (steps.HandOut (take j (drop 5 room))) (drop n.used s)) (sym kn)) does.step all.some all.little
-      does.valid refl refl (hs ++ es) refl (omega (arith, whole)) (omega (arith, whole, fits)) (sym whole) bytes
+      d.bench does.valid refl (hs ++ es) refl (record { bench = d.bench; used = n.used; wrote = 5 + n.lend }) refl refl
+      (omega (arith, whole, fits)) (sym whole) bytes

@@ -1,19 +1,14 @@
 -- The loop over the fields of a record file: where the file is accepted, the record in memory stands for what was read so far,
 -- and the rest of the file is read on from there.
 -- Assumes nothing.
-use Prim.Native.Nat.{◌<◌, ◌≤◌, suc, zero, zero-le, ℕ}
-use native.Mathlib.Omega.{arith}
+use Prim.Native.Nat.{◌≤◌, suc, zero, zero-le, ℕ}
 use mathlib.Core.Bool.{Bool, cond, false, true}
 use mathlib.Core.List.{List}
-use mathlib.Core.Path.{◌∙◌, ◌≡◌, ap, ap₂, refl, subst, sym}
+use mathlib.Core.Path.{◌∙◌, ◌≡◌, ap, refl, subst, sym}
 use lib.Dec.{eqb}
-use lib.ListN.{drop, length, length-drop, take}
-use borrow.Author.Rules.{rules}
 use borrow.Author.Tests.{eqb-true}
-use Rattle.fields.specs.Head.{head_of}
-use Rattle.fields.specs.declared.Head.{Head}
-use Rattle.fields.specs.declared.Head.TheVariants.{Cut, Whole}
-use Rattle.fields.proofs.HeadLaws.{rows_cut, rows_end, rows_whole}
+use Rattle.fields.specs.Field.{AtFront}
+use Rattle.fields.specs.declared.Field.{Field}
 use Rattle.files.specs.Content.{byte}
 use Rattle.files.specs.Diagram.{Diagram}
 use Rattle.files.specs.Field.{Rows, cut, end, row, rows}
@@ -76,11 +71,7 @@ module _ (last count : ℕ) (q r : Record) where
       go true e = count-few last count q c (subst (λ (x : ℕ). record_refusal last count q x c ≡ 0) (eqb-true t 0x60 e) ok)
       go false e = few
 
--- ---- the loop, with the facts as the code has them: h is the head that was read
-
--- what follows a field is shorter
-pub rest-less : (s rest : List ℕ) {t k : ℕ} {h : Head} → h ≡ head_of s → h ≡ Whole t k → rest ≡ drop k (drop 3 s) → length rest < length s
-rest-less s rest {t} {k} e h er = omega (arith, (rows_whole s t k (sym e ∙ h)).fits, ap length er, length-drop k (drop 3 s), length-drop 3 s)
+-- ---- the loop, with the facts as the code has them
 
 module _ {d : Diagram} {file : List ℕ} where
   pub reads-begin : {m : MemoryRecord} → m ≡ empty_record → Reads d file m file
@@ -89,40 +80,35 @@ module _ {d : Diagram} {file : List ℕ} where
       subst (λ (m : MemoryRecord). Reads d file m file) (sym e)
       (record { on = λ r h. record { last = 0; count = 0; sofar = no_record; few = zero-le; stands = nothing-stands d; is = h } })
 
-  module _ {m : MemoryRecord} {s : List ℕ} (f : Reads d file m s) {h : Head} (e : h ≡ head_of s) where
-    pub reads-next : {n : MemoryRecord} {rest c : List ℕ} {t k : ℕ} → h ≡ Whole t k → c ≡ take k (drop 3 s) → Takes d t c m n
-        → rest ≡ drop k (drop 3 s) → Reads d file n rest
-    reads-next {rest = rest} {c = c} {t = t} {k = k} q ec takes er = record {
+  module _ {m : MemoryRecord} {s : List ℕ} (at : Reads d file m s) where
+    pub reads-next : (f : Field) {n : MemoryRecord} → AtFront s f → Takes d f.tag f.content.now m n → Reads d file n f.rest.now
+    reads-next f front takes = record {
       on = λ r a.
-          let g = f.on r a in
-          let split : rows s ≡ row t c (rows rest) = (rows_whole s t k (sym e ∙ q)).is ∙ ap₂ (λ (x y : List ℕ). row t x (rows y)) (sym ec) (sym er) in
-          let w = from_next g.last g.count g.sofar r t c (rows rest) (ap (record_from g.last g.count g.sofar) (sym split) ∙ g.is) in
+          let g = at.on r a in
+          let w = from_next g.last g.count g.sofar r f.tag f.content.now (rows f.rest.now) (ap (record_from g.last g.count g.sofar) (sym front.is) ∙ g.is) in
           record {
-            last = t;
-            count = count_next g.last g.count g.sofar r t c;
-            sofar = record_with g.sofar t c;
-            few = few-next g.last g.count g.sofar r t c g.few w.0;
+            last = f.tag;
+            count = count_next g.last g.count g.sofar r f.tag f.content.now;
+            sofar = record_with g.sofar f.tag f.content.now;
+            few = few-next g.last g.count g.sofar r f.tag f.content.now g.few w.0;
             stands = takes.more g.last g.count g.sofar g.few g.stands w.0;
             is = w.1;
           };
     }
 
-    pub reads-cut : 0 < length s → h ≡ Cut → Resolves d file m
-    reads-cut l q = record { count = λ r a. absurd (never r a); stands = λ r a. absurd (never r a) }
+    pub reads-cut : rows s ≡ cut → Resolves d file m
+    reads-cut q = record { count = λ r a. absurd (never r a); stands = λ r a. absurd (never r a) }
       where
         never : (r : Record) → read_record file ≡ accepted r → ⊥
         never r a =
-            let g = f.on r a in
-            from_cut g.last g.count g.sofar r (ap (record_from g.last g.count g.sofar) (sym (rows_cut s l (sym e ∙ q))) ∙ g.is)
+            let g = at.on r a in
+            from_cut g.last g.count g.sofar r (ap (record_from g.last g.count g.sofar) (sym q) ∙ g.is)
 
-  pub reads_end : {m : MemoryRecord} {s : List ℕ} → Reads d file m s → length s ≤ 0 → Resolves d file m
-  reads_end {m} {s} f l = record { count = λ r a. (whole r a).count; stands = λ r a. (whole r a).stands }
-    where
-      whole : (r : Record) → read_record file ≡ accepted r → StandsSoFar d r m
-      whole r a =
-          let g = f.on r a in
-          subst (λ (q : Record). StandsSoFar d q m)
-          (from_end g.last g.count g.sofar r (ap (record_from g.last g.count g.sofar) (sym (rows_end s l)) ∙ g.is)) g.stands
-
--- for `search`
-pub ruleset reading = (rules, rest-less, reads-begin, reads-next, reads-cut, reads_end)
+    pub reads_end : rows s ≡ end → Resolves d file m
+    reads_end q = record { count = λ r a. (whole r a).count; stands = λ r a. (whole r a).stands }
+      where
+        whole : (r : Record) → read_record file ≡ accepted r → StandsSoFar d r m
+        whole r a =
+            let g = at.on r a in
+            subst (λ (q : Record). StandsSoFar d q m)
+            (from_end g.last g.count g.sofar r (ap (record_from g.last g.count g.sofar) (sym q) ∙ g.is)) g.stands

@@ -14,25 +14,27 @@ ghost use Rattle.resolving.specs.Lookup.{slot_of, is_constant_in, is_code_in};
 ghost use Rattle.resolving.specs.Stored.{with_type, with_value_at, with_mask_at, with_stray_value, with_stray_link, value_stored, link_stored, Takes};
 ghost use Rattle.resolving.specs.Resolves.{Resolves};
 
+use diagrams::{StoredDiagram, ValueTypes};
+use laws::Mask;
+use records::MemoryRecord;
+
 // ---- look-ups
 
 // Slot i has the name w.
-fn is_named(names: &[u8], i: u8, w: &[u8]) -> bool
+pub fn is_named(names: &[u8], i: u8, w: &[u8]) -> bool
     ensures { result ≡ same_name (slot_name names.now i) w.now }
 {
     fields::same_name(fields::slot_name(names, i), w)
 }
 
-// The first of the first k slots with the name w, or k.
+// The first of the first k slots with the name w, or k: the record in memory stores k for a name that the diagram lacks.
 pub fn slot_of(names: &[u8], k: u8, w: &[u8]) -> u8
     ensures { (result ≡ slot_of names.now k w.now) × (result ≤ k) }
 {
-    let mut i: u8 = 0;
-    while i < k {
+    for i in 0..k {
         if is_named(names, i, w) {
             return i;
         }
-        i += 1;
     }
     k
 }
@@ -45,40 +47,24 @@ fn is_constant(constants: &[u8], size: u8, c: &[u8], k: u8) -> bool
         | ((size == 0) & ((k % 8 == 0) & (c.len() == 0)))
 }
 
-// Code k is that of the constant c of a value type t, one of the first n.
-fn is_code<'a>(
-    names: &'a [u8],
-    sizes: &'a [u8],
-    constants: &'a [u8],
-    n: u8,
-    t: &'a [u8],
-    c: &'a [u8],
-    k: u8,
-) -> bool
-    ensures { result ≡ is_code_in names.now sizes.now constants.now n t.now c.now k }
+// Code k is that of the constant c of a value type t.
+fn is_code(v: &ValueTypes, t: &[u8], c: &[u8], k: u8) -> bool
+    ensures { result ≡ is_code_in v.now.names v.now.sizes v.now.constants v.now.count t.now c.now k }
 {
-    let v = k / 8;
-    (v < n)
-        & (is_named(names, v, t) & is_constant(constants, laws::byte(sizes, laws::wide(v)), c, k))
+    let i = k / 8;
+    (usize::from(i) < v.count)
+        & (is_named(&v.names, i, t)
+            & is_constant(&v.constants, laws::byte(&v.sizes, usize::from(i)), c, k))
 }
 
-// The first code of the constant c of a value type t, or 96.
-pub fn code_of<'a>(
-    names: &'a [u8],
-    sizes: &'a [u8],
-    constants: &'a [u8],
-    n: u8,
-    t: &'a [u8],
-    c: &'a [u8],
-) -> u8
-    ensures { (result ≡ first (is_code_in names.now sizes.now constants.now n t.now c.now) 96) × (result ≤ 96) }
+// The first code of the constant c of a value type t, or 96, which the record in memory stores for a value that the diagram lacks.
+pub fn code_of(v: &ValueTypes, t: &[u8], c: &[u8]) -> u8
+    ensures { (result ≡ first (is_code_in v.now.names v.now.sizes v.now.constants v.now.count t.now c.now) 96) × (result ≤ 96) }
 {
-    let mut k: u8 = 0;
-    while k < 96 {
-        if is_code(names, sizes, constants, n, t, c, k) {
+    for k in 0..96 {
+        if is_code(v, t, c, k) {
             return k;
         }
-        k += 1;
     }
     96
 }
@@ -86,61 +72,47 @@ pub fn code_of<'a>(
 // ---- one thing stored
 
 // One object more, of the type at this index.
-fn with_type(m: records::MemoryRecord, index: u8) -> records::MemoryRecord
+fn with_type(mut m: MemoryRecord, index: u8) -> MemoryRecord
     requires { m.count < 8 }
     ensures { result ≡ with_type m index }
 {
-    let at = m.count;
-    let mut n = m;
-    n.types[at] = index;
-    n.count = at + 1;
-    n
+    m.types[m.count] = index;
+    m.count += 1;
+    m
 }
 
 // x at place i of the values.
-fn with_value(m: records::MemoryRecord, i: usize, x: u8) -> records::MemoryRecord
+fn with_value(mut m: MemoryRecord, i: usize, x: u8) -> MemoryRecord
     requires { i < 256 }
     ensures { result ≡ with_value_at m i x }
 {
-    let mut n = m;
-    n.values[i] = x;
-    n
+    m.values[i] = x;
+    m
 }
 
 // x at place i of the links.
-fn with_mask(m: records::MemoryRecord, i: usize, x: u8) -> records::MemoryRecord
+fn with_mask(mut m: MemoryRecord, i: usize, x: u8) -> MemoryRecord
     requires { i < 256 }
     ensures { result ≡ with_mask_at m i x }
 {
-    let mut n = m;
-    n.links[i] = x;
-    n
+    m.links[i] = x;
+    m
 }
 
 // The mark of a value that the diagram has no index for.
-fn with_stray_value(m: records::MemoryRecord) -> records::MemoryRecord
+fn with_stray_value(mut m: MemoryRecord) -> MemoryRecord
     ensures { result ≡ with_stray_value m }
 {
-    let marks = records::Strays {
-        values: true,
-        links: m.strays.links,
-    };
-    let mut n = m;
-    n.strays = marks;
-    n
+    m.strays.values = true;
+    m
 }
 
 // The mark of a link that the diagram has no index for.
-fn with_stray_link(m: records::MemoryRecord) -> records::MemoryRecord
+fn with_stray_link(mut m: MemoryRecord) -> MemoryRecord
     ensures { result ≡ with_stray_link m }
 {
-    let marks = records::Strays {
-        values: m.strays.values,
-        links: true,
-    };
-    let mut n = m;
-    n.strays = marks;
-    n
+    m.strays.links = true;
+    m
 }
 
 // The mask with the bit of this target.
@@ -148,13 +120,13 @@ fn with_target(mask: u8, to: u8) -> u8
     requires { to < 8 }
     ensures { result ≡ bit_or mask (2 ^ to) }
 {
-    laws::with8(mask, to)
+    mask.with(to)
 }
 
 // ---- one field stored; what has no place is left out
 
 // 0x61: an object, by its type's name.
-fn put_object(m: records::MemoryRecord, names: &[u8], k: u8, c: &[u8]) -> records::MemoryRecord
+fn put_object(m: MemoryRecord, names: &[u8], k: u8, c: &[u8]) -> MemoryRecord
     ensures { m.count < 8 → result ≡ with_type m (slot_of names.now k (name_in c.now)) }
 {
     if 8 <= m.count {
@@ -165,7 +137,7 @@ fn put_object(m: records::MemoryRecord, names: &[u8], k: u8, c: &[u8]) -> record
 }
 
 // A value's code at its object and slot, or the mark.
-fn put_code(m: records::MemoryRecord, s: u8, k: u8, object: u8, code: u8) -> records::MemoryRecord
+fn put_code(m: MemoryRecord, s: u8, k: u8, object: u8, code: u8) -> MemoryRecord
     requires { (k ≤ 32) × (code ≤ 96) }
     ensures { object < 8 → result ≡ value_stored m s k object code }
 {
@@ -175,11 +147,11 @@ fn put_code(m: records::MemoryRecord, s: u8, k: u8, object: u8, code: u8) -> rec
     if 8 <= object {
         return m;
     }
-    with_value(m, laws::wide(object) * 32 + laws::wide(s), 1 + code)
+    with_value(m, usize::from(object) * 32 + usize::from(s), 1 + code)
 }
 
 // A link's bit at its object and slot, or the mark.
-fn put_target(m: records::MemoryRecord, s: u8, k: u8, from: u8, to: u8) -> records::MemoryRecord
+fn put_target(m: MemoryRecord, s: u8, k: u8, from: u8, to: u8) -> MemoryRecord
     requires { k ≤ 32 }
     ensures { from < 8 → to < 8 → result ≡ link_stored m s k from to }
 {
@@ -192,18 +164,12 @@ fn put_target(m: records::MemoryRecord, s: u8, k: u8, from: u8, to: u8) -> recor
     if 8 <= to {
         return m;
     }
-    let i = laws::wide(from) * 32 + laws::wide(s);
+    let i = usize::from(from) * 32 + usize::from(s);
     with_mask(m, i, with_target(m.links[i], to))
 }
 
 // 0x62: a value, by its attribute's name, with the code that its value type and constant have.
-fn put_value(
-    m: records::MemoryRecord,
-    names: &[u8],
-    k: u8,
-    code: u8,
-    c: &[u8],
-) -> records::MemoryRecord
+fn put_value(m: MemoryRecord, names: &[u8], k: u8, code: u8, c: &[u8]) -> MemoryRecord
     requires { (k ≤ 32) × (code ≤ 96) }
     ensures { (value_of c.now).object < 8 → result ≡ value_stored m (slot_of names.now k (value_of c.now).attribute) k (value_of c.now).object code }
 {
@@ -212,7 +178,7 @@ fn put_value(
 }
 
 // 0x63: a link, by its role's name.
-fn put_link(m: records::MemoryRecord, names: &[u8], k: u8, c: &[u8]) -> records::MemoryRecord
+fn put_link(m: MemoryRecord, names: &[u8], k: u8, c: &[u8]) -> MemoryRecord
     requires { k ≤ 32 }
     ensures { (link_of c.now).from < 8 → (link_of c.now).to < 8 → result ≡ link_stored m (slot_of names.now k (link_of c.now).role) k (link_of c.now).from (link_of c.now).to }
 {
@@ -228,68 +194,44 @@ fn put_link(m: records::MemoryRecord, names: &[u8], k: u8, c: &[u8]) -> records:
 }
 
 // The code of the value in a content, or 96.
-fn value_code(v: diagrams::ValueTypes, c: &[u8]) -> u8
-    requires { v.count ≤ 12 }
-    ensures { (result ≡ first (is_code_in v.names v.sizes v.constants v.count (value_of c.now).value_type (value_of c.now).constant) 96) × (result ≤ 96) }
+fn value_code(v: &ValueTypes, c: &[u8]) -> u8
+    ensures { (result ≡ first (is_code_in v.now.names v.now.sizes v.now.constants v.now.count (value_of c.now).value_type (value_of c.now).constant) 96) × (result ≤ 96) }
 {
     let t = fields::past_name(laws::past(c, 1));
-    let w = fields::name_in(fields::past_name(t));
-    code_of(
-        &v.names,
-        &v.sizes,
-        &v.constants,
-        v.count as u8,
-        fields::name_in(t),
-        w,
-    )
+    code_of(v, fields::name_in(t), fields::name_in(fields::past_name(t)))
 }
 
 // One field of a record file stored.
-fn put_field(
-    m: records::MemoryRecord,
-    d: diagrams::StoredDiagram,
-    tag: u8,
-    c: &[u8],
-) -> records::MemoryRecord
-    requires { Counts d }
-    ensures { Takes (diagram_of d) tag c.now m result }
+fn put_field(m: MemoryRecord, d: &StoredDiagram, tag: u8, c: &[u8]) -> MemoryRecord
+    requires { Counts d.now }
+    ensures { Takes (diagram_of d.now) tag c.now m result }
 {
-    if tag == 0x60 {
-        return m;
+    match tag {
+        0x60 => m,
+        0x61 => put_object(m, &d.types.names, d.types.count as u8, c),
+        0x62 => {
+            let code = value_code(&d.values, c);
+            put_value(m, &d.attributes.names, d.attributes.count as u8, code, c)
+        }
+        _ => put_link(
+            m,
+            &d.associations.roles,
+            (d.associations.count * 2) as u8,
+            c,
+        ),
     }
-    if tag == 0x61 {
-        return put_object(m, &d.types.names, d.types.count as u8, c);
-    }
-    if tag == 0x62 {
-        let code = value_code(d.values, c);
-        return put_value(m, &d.attributes.names, d.attributes.count as u8, code, c);
-    }
-    put_link(
-        m,
-        &d.associations.roles,
-        (d.associations.count * 2) as u8,
-        c,
-    )
 }
 
 // What the diagram makes of an accepted record file.
-pub fn resolve(d: diagrams::StoredDiagram, file: &[u8]) -> records::MemoryRecord
+pub fn resolve(d: StoredDiagram, file: &[u8]) -> MemoryRecord
     requires { Held d }
     ensures { Resolves (diagram_of d) file.now result }
 {
     let mut m = records::empty_record();
-    let mut s = file;
-    while 0 < s.len() {
-        match fields::read_head(s) {
-            fields::Head::Cut => {
-                return m;
-            }
-            fields::Head::Whole { tag, len } => {
-                m = put_field(m, d, tag, fields::content(s, len));
-                let rest = fields::after(s, len);
-                s = rest;
-            }
-        }
+    let mut rest = file;
+    while let Ok(Some(field)) = fields::read_field(rest) {
+        m = put_field(m, &d, field.tag, field.content);
+        rest = field.rest;
     }
     m
 }

@@ -4,10 +4,8 @@
 ghost use Rattle.std.specs.Prelude.{◌≡◌, ℕ, ◌*◌, ◌+◌, ◌<◌, ◌≤◌, ltb, get_or};
 ghost use Rattle.laws.specs.Bits.{Marks, bit};
 ghost use Rattle.laws.specs.Connective.{both};
-ghost use Rattle.fields.specs.Slot.{slot_name};
 ghost use Rattle.diagrams.specs.View.{diagram_of};
 ghost use Rattle.diagrams.specs.Held.{Held};
-ghost use Rattle.resolving.specs.Lookup.{slot_of};
 ghost use Rattle.type_tables.specs.RowsIn.{is_subtype, set_of};
 ghost use Rattle.worlds.specs.Tables.{LinesOf, MissingLinks, RowTables, SingleTypes, UsableTypes, single_missing};
 ghost use Rattle.worlds.specs.Kept.{SourceTable};
@@ -15,41 +13,20 @@ ghost use Rattle.type_tables.specs.TypeTables.{Dues};
 ghost use Rattle.sheets.specs.Named.{EndsBy, Images, SlotsBy, SubtypesBy};
 ghost use Rattle.sheets.specs.NamedIn.{is_image};
 
+use laws::Mask;
+
 mod lines;
 mod places;
 mod type_sets;
 
+// The ends of a diagram's associations by another diagram: the types that an object at each end may have, and the slot of its role.
+#[derive(Clone, Copy)]
+struct Ends {
+    sets: [u32; 32],
+    slots: [u8; 32],
+}
+
 // ---- names
-
-// Where each of m names stands among n others, or n.
-fn types_found<'a>(names: &'a [u8; 408], n: u8, others: &'a [u8; 408], m: u8) -> [u8; 24]
-    requires { m ≤ 24 }
-    ensures { (i : ℕ) → i < m → get_or result i 0 ≡ slot_of names.now n (slot_name others.now i) }
-{
-    let mut r = [0u8; 24];
-    let mut i: u8 = 0;
-    while i < m {
-        let at = resolving::slot_of(names, n, fields::slot_name(others, i));
-        r[laws::wide(i)] = at;
-        i += 1;
-    }
-    r
-}
-
-// The same for role names.
-fn roles_found<'a>(names: &'a [u8; 544], n: u8, others: &'a [u8; 544], m: u8) -> [u8; 32]
-    requires { m ≤ 32 }
-    ensures { ((e : ℕ) → e < m → get_or result e 0 ≡ slot_of names.now n (slot_name others.now e)) × ((e : ℕ) → get_or result e 0 ≤ n) }
-{
-    let mut r = [0u8; 32];
-    let mut e: u8 = 0;
-    while e < m {
-        let at = resolving::slot_of(names, n, fields::slot_name(others, e));
-        r[laws::wide(e)] = at;
-        e += 1;
-    }
-    r
-}
 
 // The index in old of each type of d, by its name; past the last where there is none.
 pub fn images(old: diagrams::StoredDiagram, d: diagrams::StoredDiagram) -> [u8; 24]
@@ -58,7 +35,7 @@ pub fn images(old: diagrams::StoredDiagram, d: diagrams::StoredDiagram) -> [u8; 
 {
     let t = old.types;
     let u = d.types;
-    types_found(&t.names, t.count as u8, &u.names, u.count as u8)
+    type_tables::places(&u.names, u.count as u8, &t.names, t.count as u8)
 }
 
 // Old's slot of the role of each end of d; past the last where there is none.
@@ -68,7 +45,7 @@ pub fn slots_by(old: diagrams::StoredDiagram, d: diagrams::StoredDiagram) -> [u8
 {
     let a = old.associations;
     let b = d.associations;
-    roles_found(&a.roles, (a.count * 2) as u8, &b.roles, (b.count * 2) as u8)
+    type_tables::places(&b.roles, (b.count * 2) as u8, &a.roles, (a.count * 2) as u8)
 }
 
 // ---- types
@@ -78,7 +55,7 @@ fn is_shown(images: &[u8; 24], chosen: u32, k: u8, i: u8) -> bool
     requires { i < 24 }
     ensures { result ≡ both (ltb (get_or images.now i 0) k) (bit i chosen) }
 {
-    (images[laws::wide(i)] < k) & laws::has32(chosen, i as u32)
+    (images[usize::from(i)] < k) & chosen.has(i as u32)
 }
 
 // Which of k types are images of the first m types that are chosen.
@@ -87,18 +64,16 @@ fn images_of(images: &[u8; 24], chosen: u32, m: u8, k: u8) -> u32
     ensures { Marks (is_image images.now (λ i. bit i chosen) m) k result }
 {
     let mut mask: u32 = 0;
-    let mut i: u8 = 0;
-    while i < m {
+    for i in 0..m {
         if is_shown(images, chosen, k, i) {
-            mask = laws::with32(mask, laws::byte(images, laws::wide(i)) as u32);
+            mask = mask.with(laws::byte(images, usize::from(i)) as u32);
         }
-        i += 1;
     }
     mask
 }
 
 // Which of k types are images of subtypes of x.
-fn subtypes_at<'a>(images: &'a [u8; 24], sets: &'a [u32; 24], m: u8, k: u8, x: u8) -> u32
+fn subtypes_at(images: &[u8; 24], sets: &[u32; 24], m: u8, k: u8, x: u8) -> u32
     requires { (m ≤ 24) × (k ≤ 32) × (x < 32) }
     ensures { Marks (is_image images.now (is_subtype sets.now x) m) k result }
 {
@@ -106,16 +81,14 @@ fn subtypes_at<'a>(images: &'a [u8; 24], sets: &'a [u32; 24], m: u8, k: u8, x: u
 }
 
 // The same for each x of m types.
-fn subtypes_all<'a>(images: &'a [u8; 24], sets: &'a [u32; 24], m: u8, k: u8) -> [u32; 24]
+fn subtypes_all(images: &[u8; 24], sets: &[u32; 24], m: u8, k: u8) -> [u32; 24]
     requires { (m ≤ 24) × (k ≤ 32) }
     ensures { (x : ℕ) → x < m → Marks (is_image images.now (is_subtype sets.now x) m) k (get_or result x 0) }
 {
     let mut r = [0u32; 24];
-    let mut x: u8 = 0;
-    while x < m {
+    for x in 0..m {
         let mask = subtypes_at(images, sets, m, k, x);
-        r[laws::wide(x)] = mask;
-        x += 1;
+        r[usize::from(x)] = mask;
     }
     r
 }
@@ -133,19 +106,11 @@ pub fn subtypes_by(old: diagrams::StoredDiagram, d: diagrams::StoredDiagram) -> 
 
 // ---- ends
 
-// The set of the type of each of n ends.
-fn ends_of<'a>(subtypes: &'a [u32; 24], types: &'a [u8; 32], n: u8) -> [u32; 32]
-    requires { n ≤ 32 }
-    ensures { (e : ℕ) → e < n → get_or result e 0 ≡ set_of subtypes.now (get_or types.now e 0) }
+// The set of the type of each end.
+fn ends_of(subtypes: &[u32; 24], types: &[u8; 32]) -> [u32; 32]
+    ensures { (e : ℕ) → e < 32 → get_or result e 0 ≡ set_of subtypes.now (get_or types.now e 0) }
 {
-    let mut r = [0u32; 32];
-    let mut e: u8 = 0;
-    while e < n {
-        let set = type_tables::set_of(subtypes, types[laws::wide(e)]);
-        r[laws::wide(e)] = set;
-        e += 1;
-    }
-    r
+    types.map(|t| type_tables::set_of(subtypes, t))
 }
 
 // The types of old whose objects are instances of the type of each end of d.
@@ -155,7 +120,7 @@ pub fn ends_by(old: diagrams::StoredDiagram, d: diagrams::StoredDiagram) -> [u32
 {
     let subtypes = subtypes_by(old, d);
     let a = d.associations;
-    ends_of(&subtypes, &a.types, (a.count * 2) as u8)
+    ends_of(&subtypes, &a.types)
 }
 
 // ---- rows
@@ -173,20 +138,22 @@ pub fn rows_by(old: diagrams::StoredDiagram, d: diagrams::StoredDiagram) -> Rows
     requires { Held old × Held d }
     ensures { RowTables (diagram_of old) (diagram_of d) result.targets result.lows result.highs }
 {
-    let sets = ends_by(old, d);
-    let slots = slots_by(old, d);
+    let ends = Ends {
+        sets: ends_by(old, d),
+        slots: slots_by(old, d),
+    };
     let t = old.types;
     let a = d.associations;
     let n = (a.count * 2) as u8;
     let k = t.count as u8;
-    let limits = places::limits_of(&sets, &a.arrows, &slots, &a.lows, &a.ups, n, k);
-    let targets = places::targets_of(&sets, &a.arrows, &slots, n, k);
+    let limits = places::limits_of(&ends, &a, n, k);
+    let targets = places::targets_of(&ends, &a, n, k);
     let lows = limits.lows;
     let highs = limits.highs;
     Rows {
-        targets: targets,
-        lows: lows,
-        highs: highs,
+        targets,
+        lows,
+        highs,
     }
 }
 
@@ -195,14 +162,12 @@ pub fn sources_of(targets: &[u32; 768]) -> [u32; 768]
     ensures { SourceTable targets.now result }
 {
     let mut r = [0u32; 768];
-    let mut x: usize = 0;
-    while x < 768 {
+    for x in 0..768 {
         let mask = targets[x];
         if 0 < mask {
-            let one = laws::with32(0, (x / 32) as u32);
+            let one = 0u32.with((x / 32) as u32);
             places::mask_slot(&mut r, mask, (x % 32) as u8, one, 16777215, 24);
         }
-        x += 1;
     }
     r
 }
@@ -214,10 +179,12 @@ pub fn lines_by(old: diagrams::StoredDiagram, d: diagrams::StoredDiagram) -> wor
     requires { Held old × Held d }
     ensures { LinesOf (diagram_of old) (diagram_of d) result }
 {
-    let sets = ends_by(old, d);
-    let slots = slots_by(old, d);
+    let ends = Ends {
+        sets: ends_by(old, d),
+        slots: slots_by(old, d),
+    };
     let a = d.associations;
-    lines::lines_of(&sets, &slots, &a.arrows, &a.forms, &a.lows, &a.ups, a.count)
+    lines::lines_of(&ends, &a, a.count)
 }
 
 // ---- sets of types
@@ -253,7 +220,7 @@ pub fn single_missing(old: diagrams::StoredDiagram, d: diagrams::StoredDiagram) 
     let u = d.types;
     let k = t.count as u8;
     let chosen = type_sets::singles_of(&u.kinds, u.count as u8);
-    laws::has32(images_of(&found, chosen, u.count as u8, k + 1), k as u32)
+    images_of(&found, chosen, u.count as u8, k + 1).has(k as u32)
 }
 
 // The types of old that d asks for links of a role for which old has no slot.
@@ -261,8 +228,10 @@ pub fn missing_links(old: diagrams::StoredDiagram, d: diagrams::StoredDiagram) -
     requires { Held old × Held d }
     ensures { MissingLinks (diagram_of old) (diagram_of d) result }
 {
-    let sets = ends_by(old, d);
-    let slots = slots_by(old, d);
+    let ends = Ends {
+        sets: ends_by(old, d),
+        slots: slots_by(old, d),
+    };
     let a = d.associations;
-    type_sets::missing_of(&sets, &a.arrows, &slots, &a.lows, (a.count * 2) as u8)
+    type_sets::missing_of(&ends, &a, (a.count * 2) as u8)
 }

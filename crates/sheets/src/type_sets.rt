@@ -4,14 +4,17 @@ ghost use Rattle.laws.specs.Bits.{Marks, bit};
 ghost use Rattle.laws.specs.Bounded.{all, any};
 ghost use Rattle.sheets.specs.MasksBy.{fine_in, missing_in, single_in, usable_in};
 
+use crate::Ends;
 use crate::places::source_at;
+use diagrams::Associations;
+use laws::Mask;
 
 // Declarations do not disagree in slot s of type t.
 fn is_fine(dues: &[u8; 768], t: u8, s: u8) -> bool
     requires { (t < 24) × (s < 32) }
     ensures { result ≡ fine_in dues.now t s }
 {
-    dues[laws::wide(t) * 32 + laws::wide(s)] != 255
+    dues[usize::from(t) * 32 + usize::from(s)] != 255
 }
 
 // In each slot.
@@ -19,37 +22,33 @@ fn is_possible(dues: &[u8; 768], t: u8) -> bool
     requires { t < 24 }
     ensures { result ≡ all (fine_in dues.now t) 32 }
 {
-    let mut s: u8 = 0;
-    while s < 32 {
+    for s in 0u8..32 {
         if !is_fine(dues, t, s) {
             return false;
         }
-        s += 1;
     }
     true
 }
 
 // An object can have type t.
-fn is_usable<'a>(kinds: &'a [u8; 24], dues: &'a [u8; 768], t: u8) -> bool
+fn is_usable(kinds: &[u8; 24], dues: &[u8; 768], t: u8) -> bool
     requires { t < 24 }
     ensures { result ≡ usable_in kinds.now dues.now t }
 {
-    let kind = laws::byte(kinds, laws::wide(t));
+    let kind = laws::byte(kinds, usize::from(t));
     ((kind == 0) | (kind == 3)) & is_possible(dues, t)
 }
 
 // The types of n that an object can have.
-pub fn usable_of<'a>(kinds: &'a [u8; 24], dues: &'a [u8; 768], n: u8) -> u32
+pub fn usable_of(kinds: &[u8; 24], dues: &[u8; 768], n: u8) -> u32
     requires { n ≤ 24 }
     ensures { Marks (usable_in kinds.now dues.now) n result }
 {
     let mut mask: u32 = 0;
-    let mut t: u8 = 0;
-    while t < n {
+    for t in 0..n {
         if is_usable(kinds, dues, t) {
-            mask = laws::with32(mask, t as u32);
+            mask = mask.with(t as u32);
         }
-        t += 1;
     }
     mask
 }
@@ -58,7 +57,7 @@ pub fn usable_of<'a>(kinds: &'a [u8; 24], dues: &'a [u8; 768], n: u8) -> u32
 fn is_single(kinds: &[u8; 24], t: u8) -> bool
     ensures { result ≡ single_in kinds.now t }
 {
-    laws::byte(kinds, laws::wide(t)) == 3
+    laws::byte(kinds, usize::from(t)) == 3
 }
 
 // The singleton classes among n types.
@@ -67,51 +66,35 @@ pub fn singles_of(kinds: &[u8; 24], n: u8) -> u32
     ensures { Marks (single_in kinds.now) n result }
 {
     let mut mask: u32 = 0;
-    let mut t: u8 = 0;
-    while t < n {
+    for t in 0..n {
         if is_single(kinds, t) {
-            mask = laws::with32(mask, t as u32);
+            mask = mask.with(t as u32);
         }
-        t += 1;
     }
     mask
 }
 
 // The types that are asked for links to end e, for which there is no slot.
-fn missing_at<'a>(
-    sets: &'a [u32; 32],
-    arrows: &'a [u8; 16],
-    slots: &'a [u8; 32],
-    lows: &'a [u16; 32],
-    e: u8,
-) -> u32
+fn missing_at(ends: &Ends, asked: &Associations, e: u8) -> u32
     requires { e < 32 }
-    ensures { result ≡ missing_in sets.now arrows.now slots.now lows.now e }
+    ensures { result ≡ missing_in ends.now.sets asked.now.arrows ends.now.slots asked.now.lows e }
 {
-    let i = laws::wide(e);
-    if (32 <= slots[i]) & (0 < lows[i]) {
-        return source_at(sets, arrows, e);
+    let i = usize::from(e);
+    if (32 <= ends.slots[i]) & (0 < asked.lows[i]) {
+        return source_at(ends, asked, e);
     }
     0u32
 }
 
 // To any of n ends.
-pub fn missing_of<'a>(
-    sets: &'a [u32; 32],
-    arrows: &'a [u8; 16],
-    slots: &'a [u8; 32],
-    lows: &'a [u16; 32],
-    n: u8,
-) -> u32
+pub fn missing_of(ends: &Ends, asked: &Associations, n: u8) -> u32
     requires { n ≤ 32 }
-    ensures { (t : ℕ) → bit t result ≡ any (λ e. bit t (missing_in sets.now arrows.now slots.now lows.now e)) n }
+    ensures { (t : ℕ) → bit t result ≡ any (λ e. bit t (missing_in ends.now.sets asked.now.arrows ends.now.slots asked.now.lows e)) n }
 {
     let mut mask: u32 = 0;
-    let mut e: u8 = 0;
-    while e < n {
-        let more = missing_at(sets, arrows, slots, lows, e);
+    for e in 0..n {
+        let more = missing_at(ends, asked, e);
         mask = mask | more;
-        e += 1;
     }
     mask
 }

@@ -10,55 +10,57 @@ ghost use Rattle.diagrams.specs.Held.{Held};
 ghost use Rattle.tables.specs.Numbers.{set_at, counts_as, slot_at};
 ghost use Rattle.tables.specs.Tables.{Instances, RoleSlots, AttributeSlots};
 
-// ---- instances
+use diagrams::Types;
+use laws::Mask;
+
+// What the rules are judged by: for each type the mask of its instances; for each attribute, or for each end, the slot of its name.
+#[derive(Clone, Copy)]
+pub struct Tables {
+    pub masks: [u8; 24],
+    pub slots: [u8; 32],
+}
+
+// ---- instances, by the sets of the diagram's types and the objects' types
 
 // The set of types that object o counts as, empty where its type is unknown.
-pub fn type_set<'a>(sets: &'a [u32; 24], n: usize, types: &'a [u8; 8], o: u8) -> u32
-    requires { (n ≤ 24) × (o < 8) }
-    ensures { result ≡ set_at sets.now n types.now o }
+pub fn type_set(t: &Types, types: &[u8; 8], o: u8) -> u32
+    requires { (t.now.count ≤ 24) × (o < 8) }
+    ensures { result ≡ set_at t.now.sets t.now.count types.now o }
 {
-    let i = laws::wide(types[laws::wide(o)]);
-    if i < n {
-        return sets[i];
-    }
-    0u32
+    let i = usize::from(types[usize::from(o)]);
+    if i < t.count { t.sets[i] } else { 0 }
 }
 
 // Object o counts as type k.
-fn counts_as<'a>(sets: &'a [u32; 24], n: usize, types: &'a [u8; 8], k: u8, o: u8) -> bool
-    requires { (n ≤ 24) × ((k < 32) × (o < 8)) }
-    ensures { result ≡ counts_as sets.now n types.now k o }
+fn counts_as(t: &Types, types: &[u8; 8], k: u8, o: u8) -> bool
+    requires { (t.now.count ≤ 24) × ((k < 32) × (o < 8)) }
+    ensures { result ≡ counts_as t.now.sets t.now.count types.now k o }
 {
-    laws::has32(type_set(sets, n, types, o), k as u32)
+    type_set(t, types, o).has(k as u32)
 }
 
 // The objects that count as type k.
-fn mask_of<'a>(sets: &'a [u32; 24], n: usize, types: &'a [u8; 8], k: u8) -> u8
-    requires { (n ≤ 24) × (k < 32) }
-    ensures { Marks (counts_as sets.now n types.now k) 8 result }
+fn mask_of(t: &Types, types: &[u8; 8], k: u8) -> u8
+    requires { (t.now.count ≤ 24) × (k < 32) }
+    ensures { Marks (counts_as t.now.sets t.now.count types.now k) 8 result }
 {
     let mut mask: u8 = 0;
-    let mut o: u8 = 0;
-    while o < 8 {
-        if counts_as(sets, n, types, k, o) {
-            mask = laws::with8(mask, o);
+    for o in 0u8..8 {
+        if counts_as(t, types, k, o) {
+            mask = mask.with(o);
         }
-        o += 1;
     }
     mask
 }
 
 // The objects that count as each type.
-fn masks_of<'a>(sets: &'a [u32; 24], n: usize, types: &'a [u8; 8]) -> [u8; 24]
-    requires { n ≤ 24 }
-    ensures { (k : ℕ) → k < 24 → Marks (counts_as sets.now n types.now k) 8 (get_or result k 0) }
+fn masks_of(t: &Types, types: &[u8; 8]) -> [u8; 24]
+    requires { t.now.count ≤ 24 }
+    ensures { (k : ℕ) → k < 24 → Marks (counts_as t.now.sets t.now.count types.now k) 8 (get_or result k 0) }
 {
     let mut masks = [0u8; 24];
-    let mut k: u8 = 0;
-    while k < 24 {
-        let mask = mask_of(sets, n, types, k);
-        masks[laws::wide(k)] = mask;
-        k += 1;
+    for k in 0u8..24 {
+        masks[usize::from(k)] = mask_of(t, types, k);
     }
     masks
 }
@@ -68,9 +70,7 @@ pub fn instance_masks(d: diagrams::StoredDiagram, m: records::MemoryRecord) -> [
     requires { Held d × (m.count ≤ 8) }
     ensures { Instances (diagram_of d) m result }
 {
-    let t = d.types;
-    let types = m.types;
-    masks_of(&t.sets, t.count, &types)
+    masks_of(&d.types, &m.types)
 }
 
 // ---- slots
@@ -86,12 +86,10 @@ fn same_names(names: &[u8; 544], i: u8, j: u8) -> bool
 fn slot_at(names: &[u8; 544], n: u8, i: u8) -> u8
     ensures { result ≡ slot_at names.now n i }
 {
-    let mut t: u8 = 0;
-    while t < n {
+    for t in 0..n {
         if same_names(names, t, i) {
             return t;
         }
-        t += 1;
     }
     n
 }
@@ -102,11 +100,8 @@ fn slots_of(names: &[u8; 544], n: u8) -> [u8; 32]
     ensures { (i : ℕ) → i < n → get_or result i 0 ≡ slot_at names.now n i }
 {
     let mut slots = [0u8; 32];
-    let mut i: u8 = 0;
-    while i < n {
-        let slot = slot_at(names, n, i);
-        slots[laws::wide(i)] = slot;
-        i += 1;
+    for i in 0..n {
+        slots[usize::from(i)] = slot_at(names, n, i);
     }
     slots
 }
@@ -116,8 +111,7 @@ pub fn role_slots(d: diagrams::StoredDiagram) -> [u8; 32]
     requires { Held d }
     ensures { RoleSlots (diagram_of d) result }
 {
-    let a = d.associations;
-    slots_of(&a.roles, (a.count * 2) as u8)
+    slots_of(&d.associations.roles, (d.associations.count * 2) as u8)
 }
 
 // The slot of each attribute's name.
@@ -125,6 +119,5 @@ pub fn attribute_slots(d: diagrams::StoredDiagram) -> [u8; 32]
     requires { Held d }
     ensures { AttributeSlots (diagram_of d) result }
 {
-    let a = d.attributes;
-    slots_of(&a.names, a.count as u8)
+    slots_of(&d.attributes.names, d.attributes.count as u8)
 }

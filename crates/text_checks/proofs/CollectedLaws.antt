@@ -1,6 +1,6 @@
 -- Names collected in a list: one more where it is asked for, and the loop over an outline that collects the names of a kind.
 -- Assumes nothing.
-use mathlib.Core.Path.{◌≡◌, ap, refl, subst, sym, ◌∙◌}
+use mathlib.Core.Path.{◌≡◌, ap, ap₂, refl, subst, sym, ◌∙◌}
 use mathlib.Core.Bool.{Bool, false, true}
 use mathlib.Core.List.{List, [], ◌∷◌, ◌++◌, append-nil}
 use Prim.Native.Nat.{ℕ, suc, zero, ◌+◌, ◌-◌, ◌≤◌}
@@ -16,11 +16,15 @@ use Rattle.texts.specs.Declared.{types_before}
 use Rattle.texts.specs.WellFormedDeclaration.{ShortNames}
 use Rattle.texts.specs.TextChecks.{names_of_kind}
 use Rattle.text_rows.specs.RowAt.{declarations_by}
+use Rattle.text_outlines.specs.declared.Outlined.{Outlined}
 use Rattle.text_outlines.specs.Outline.{Outlines}
 use Rattle.name_lists.specs.declared.Names.{Names}
 use Rattle.name_lists.specs.Names.{names_in}
 use Rattle.name_lists.proofs.NamesLaws.{names-length}
-use Rattle.text_checks.specs.Kinds.{name_as, of_kind}
+use Rattle.text_parts.specs.declared.Kind.TheVariants.{Types}
+use Rattle.text_parts.specs.declared.Kind.{Kind}
+use Rattle.text_parts.specs.Sort.{of_kind}
+use Rattle.text_checks.specs.Kinds.{name_as}
 use Rattle.text_checks.proofs.OutlineLaws.{outline-end, outline-upto, test_at}
 
 -- ---- one name more
@@ -56,21 +60,23 @@ abbrev pub name_at : List ℕ → ℕ → Name
 name_at body k = (declaration_at (declarations_by body) k).name
 
 -- those of the first k declarations
-abbrev pub names_to : ℕ → List ℕ → ℕ → List Name
+abbrev pub names_to : Kind → List ℕ → ℕ → List Name
 names_to kind body k = picked (test_at (of_kind kind) body) (name_at body) k
 
-module _ (kind : ℕ) (body : List ℕ) where
+module _ (kind : Kind) (body : List ℕ) where
   pub collected-begin : {ns : List Name} → ns ≡ [] → ns ≡ names_to kind body 0
   unfolding picked
   collected-begin q = q
 
   module _ (k : ℕ) (r : Names) (e : names_in r ≡ names_to kind body k) where
-    pub collected-next : {ms : List Name} → ms ≡ names_in r ++ name_as kind (declaration_at (declarations_by body) k) → ms ≡ names_to kind body (k + 1)
-    collected-next q =
-        q ∙ ap (λ (xs : List Name). xs ++ name_as kind (declaration_at (declarations_by body) k)) e
+    pub collected-next : {b : Bool} {w : Name} {ms : List Name} → b ≡ of_kind kind (declaration_at (declarations_by body) k) → w ≡ name_at body k
+        → ms ≡ names_in r ++ only b w → ms ≡ names_to kind body (k + 1)
+    collected-next p n q =
+        q ∙ ap₂ (λ (x : Bool) (y : Name). names_in r ++ only x y) p n
+        ∙ ap (λ (xs : List Name). xs ++ name_as kind (declaration_at (declarations_by body) k)) e
         ∙ sym (picked_more (test_at (of_kind kind) body) (name_at body) k)
 
-    module _ {o : List ℕ} {n most : ℕ} (t : Outlines body o n) (h : k ≤ n) where
+    module _ {o : List Outlined} {n most : ℕ} (t : Outlines body o n) (h : k ≤ n) where
       -- it stops where there are enough
       pub collected-full : r.count ≡ most → names_in r ≡ take most (names_of_kind (of_kind kind) (declarations_by body))
       collected-full f =
@@ -87,8 +93,8 @@ pub name-short : (body : List ℕ) (k : ℕ) {w : Name} → ShortNames (declarat
 name-short body k f e = subst (λ (x : Name). length x ≤ 16) (sym e) (f.each k).name
 
 -- all names of types, where there are not too many
-pub types-collected : (ds : List Declaration) {ns : List Name} → types_before ds (length ds) ≤ 24 → ns ≡ take 24 (names_of_kind (of_kind 2) ds) → ns ≡ names_of_kind is_type ds
-unfolding types_before of_kind
+pub types-collected : (ds : List Declaration) {ns : List Name} → types_before ds (length ds) ≤ 24 → ns ≡ take 24 (names_of_kind (of_kind Types) ds) → ns ≡ names_of_kind is_type ds
+unfolding types_before
 types-collected ds h e =
     let size = length-picked (λ k. is_type (declaration_at ds k)) (λ k. (declaration_at ds k).name) (length ds) in
     let few : length (names_of_kind is_type ds) ≤ 24 = omega arith in

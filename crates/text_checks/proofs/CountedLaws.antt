@@ -8,7 +8,9 @@ use native.Mathlib.Omega.{arith}
 use lib.Dec.{ltb}
 use lib.ListN.{length, length-append}
 use borrow.Author.Tests.{le-ltb, lt-ltb}
+use Rattle.std.specs.Int.{from_bool}
 use Rattle.laws.specs.Bounded.{one, tally}
+use Rattle.text_rows.proofs.NotedLaws.{one-from}
 use Rattle.laws.specs.Lists.{joined}
 use Rattle.laws.proofs.CountLaws.{tally-more}
 use Rattle.laws.proofs.JoinedLaws.{joined-front, joined-more}
@@ -16,17 +18,20 @@ use Rattle.files.specs.Name.{Name}
 use Rattle.texts.specs.Declaration.{declaration_at}
 use Rattle.texts.specs.Declared.{used_types}
 use Rattle.text_rows.specs.RowAt.{declarations_by}
+use Rattle.text_outlines.specs.declared.Outlined.{Outlined}
 use Rattle.text_outlines.specs.Outline.{Outlines}
-use Rattle.text_checks.specs.Kinds.{kind_count, of_kind}
+use Rattle.text_parts.specs.declared.Kind.{Kind}
+use Rattle.text_parts.specs.Sort.{of_kind}
+use Rattle.text_checks.specs.Kinds.{kind_count}
 use Rattle.text_checks.proofs.OutlineLaws.{outline-below, outline-end, test_at}
 
 -- ---- the declarations of a kind
 
-module _ (kind : ℕ) (body : List ℕ) (k : ℕ) {c : ℕ} (e : c ≡ tally (test_at (of_kind kind) body) k) where
-  pub counted_next : {b : Bool} {r : ℕ} → b ≡ of_kind kind (declaration_at (declarations_by body) k) → r ≡ one b → c + r ≡ tally (test_at (of_kind kind) body) (k + 1)
-  counted_next q u = ap₂ (λ (x y : ℕ). x + y) e (u ∙ ap one q) ∙ sym (tally-more (test_at (of_kind kind) body) k)
+module _ (kind : Kind) (body : List ℕ) (k : ℕ) {c : ℕ} (e : c ≡ tally (test_at (of_kind kind) body) k) where
+  pub counted_next : {b : Bool} {r : ℕ} → b ≡ of_kind kind (declaration_at (declarations_by body) k) → r ≡ from_bool b → c + r ≡ tally (test_at (of_kind kind) body) (k + 1)
+  counted_next {b} q u = ap₂ (λ (x y : ℕ). x + y) e (u ∙ one-from b ∙ ap one q) ∙ sym (tally-more (test_at (of_kind kind) body) k)
 
-  pub counted-done : {o : List ℕ} {n : ℕ} → Outlines body o n → k ≤ n → n ≤ k → c ≡ kind_count kind (declarations_by body)
+  pub counted-done : {o : List Outlined} {n : ℕ} → Outlines body o n → k ≤ n → n ≤ k → c ≡ kind_count kind (declarations_by body)
   unfolding kind_count
   counted-done t h l = e ∙ ap (tally (test_at (of_kind kind) body)) (outline-end t h l)
 
@@ -45,7 +50,7 @@ module _ (body : List ℕ) (k : ℕ) {u : ℕ} (e : u ≡ length (joined (types_
   used-next q =
       ap₂ (λ (x y : ℕ). x + y) e q ∙ sym (ap length (joined-more (types_at body) k) ∙ length-append (joined (types_at body) k) (types_at body k))
 
-  module _ {o : List ℕ} {n : ℕ} (t : Outlines body o n) where
+  module _ {o : List Outlined} {n : ℕ} (t : Outlines body o n) where
     pub used_over : {a : ℕ} → k < n → a ≡ length (types_at body k) → 32 < u + a → true ≡ ltb 32 (length (used_types (declarations_by body)))
     unfolding used_types
     used_over {a} h q m =

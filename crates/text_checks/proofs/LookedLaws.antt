@@ -9,14 +9,16 @@ use Rattle.laws.proofs.LoopLaws.{any-done, any_found, any_next}
 use Rattle.files.specs.Name.{Name}
 use Rattle.texts.specs.Declaration.{Declaration, declaration_at}
 use Rattle.texts.specs.TextChecks.{is_declared}
-use Rattle.text_checks.specs.Kinds.{declared_as, of_kind}
+use Rattle.text_parts.specs.declared.Kind.{Kind}
+use Rattle.text_parts.specs.Sort.{of_kind}
+use Rattle.text_checks.specs.Kinds.{declared_as}
 
 -- declaration j is of that kind and has the name w
-abbrev pub declared_at : ℕ → List Declaration → Name → ℕ → Bool
+abbrev pub declared_at : Kind → List Declaration → Name → ℕ → Bool
 declared_at kind ds w j = declared_as kind w (declaration_at ds j)
 
 -- a loop over the first k leaves at the first that has it: none before j has
-module _ (kind : ℕ) (ds : List Declaration) (w : Name) (j : ℕ) where
+module _ (kind : Kind) (ds : List Declaration) (w : Name) (j : ℕ) where
   module _ (d : Declaration) {r : Bool} (e : d ≡ declaration_at ds j) (q : r ≡ declared_as kind w d) where
     pub looked-found : {k : ℕ} → j < k → r ≡ true → true ≡ is_declared (of_kind kind) ds k w
     unfolding is_declared

@@ -17,16 +17,17 @@ use Rattle.texts.specs.TextChecks.{is_overfull}
 use Rattle.name_lists.specs.declared.Names.{Names}
 use Rattle.name_lists.specs.Names.{names_in}
 use Rattle.name_lists.proofs.NamesLaws.{names-length}
-use Rattle.text_checks.specs.Kinds.{kind_count, of_kind}
+use Rattle.text_parts.specs.declared.Kind.TheVariants.{Associations, Types}
+use Rattle.text_checks.specs.Kinds.{kind_count}
 use Rattle.text_checks.specs.Overlong.{has_many, has_overlong, overlong}
 use Rattle.text_checks.specs.ValueNames.{value_names}
 use Rattle.text_checks.proofs.OverlongLaws.{either-of}
 use Rattle.text_checks.proofs.ValueNamesLaws.{value-names-length}
 
 -- the counts but that of the value types
-pub many_is : (ds : List Declaration) {types associations : ℕ} {attributes long : Bool} → types ≡ kind_count 2 ds → attributes ≡ ltb 32 (length (used_types ds))
-    → associations ≡ kind_count 4 ds → long ≡ has_overlong ds → (ltb 24 types || (attributes || (ltb 16 associations || long))) ≡ has_many ds
-unfolding has_many kind_count of_kind types_before
+pub many_is : (ds : List Declaration) {types associations : ℕ} {attributes long : Bool} → types ≡ kind_count Types ds → attributes ≡ ltb 32 (length (used_types ds))
+    → associations ≡ kind_count Associations ds → long ≡ has_overlong ds → (ltb 24 types || (attributes || (ltb 16 associations || long))) ≡ has_many ds
+unfolding has_many kind_count types_before
 many_is ds f g h i = either-of (ap (ltb 24) f) (either-of g (either-of (ap (ltb 16) h) i))
 
 module _ (ds : List Declaration) where

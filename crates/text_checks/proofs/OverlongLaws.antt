@@ -13,6 +13,7 @@ use Rattle.laws.proofs.LoopLaws.{any_found, any_next}
 use Rattle.texts.specs.Declaration.{declaration_at}
 use Rattle.texts.specs.Declared.{parent_names}
 use Rattle.text_rows.specs.RowAt.{declarations_by}
+use Rattle.text_outlines.specs.declared.Outlined.{Outlined}
 use Rattle.text_outlines.specs.Outline.{Outlines}
 use Rattle.text_checks.specs.Overlong.{has_overlong, overlong}
 use Rattle.text_checks.proofs.OutlineLaws.{outline-below, outline-end, test_at}
@@ -26,7 +27,7 @@ module _ (body : List ℕ) (k : ℕ) where
     unfolding overlong
     overlong-at = either-of (ap (ltb 8) e) (ap (ltb 4) f)
 
-    pub overlong-found : {o : List ℕ} {n : ℕ} → Outlines body o n → k < n → (ltb 8 a || ltb 4 b) ≡ true → true ≡ has_overlong (declarations_by body)
+    pub overlong-found : {o : List Outlined} {n : ℕ} → Outlines body o n → k < n → (ltb 8 a || ltb 4 b) ≡ true → true ≡ has_overlong (declarations_by body)
     unfolding has_overlong
     overlong-found t h u =
         any_found (test_at overlong body) (length (declarations_by body)) k (outline-below t h) overlong-at u
@@ -34,6 +35,6 @@ module _ (body : List ℕ) (k : ℕ) where
     pub overlong-next : any (test_at overlong body) k ≡ false → (ltb 8 a || ltb 4 b) ≡ false → any (test_at overlong body) (k + 1) ≡ false
     overlong-next g u = any_next (test_at overlong body) k g overlong-at u
 
-  pub overlong-none : {o : List ℕ} {n : ℕ} → Outlines body o n → k ≤ n → n ≤ k → any (test_at overlong body) k ≡ false → false ≡ has_overlong (declarations_by body)
+  pub overlong-none : {o : List Outlined} {n : ℕ} → Outlines body o n → k ≤ n → n ≤ k → any (test_at overlong body) k ≡ false → false ≡ has_overlong (declarations_by body)
   unfolding has_overlong
   overlong-none t h l g = sym g ∙ ap (any (test_at overlong body)) (outline-end t h l)

@@ -25,11 +25,13 @@ use Rattle.texts.specs.Declared.{used_types}
 use Rattle.texts.specs.WellFormedDeclaration.{ShortNames}
 use Rattle.texts.specs.TextChecks.{names_of_kind}
 use Rattle.text_rows.specs.RowAt.{declarations_by}
+use Rattle.text_outlines.specs.declared.Outlined.{Outlined}
 use Rattle.text_outlines.specs.Outline.{Outlines}
 use Rattle.name_lists.specs.declared.Names.{Names}
 use Rattle.name_lists.specs.Names.{names_in}
 use Rattle.name_lists.proofs.NamesLaws.{names-length}
-use Rattle.text_checks.specs.Kinds.{of_kind}
+use Rattle.text_parts.specs.declared.Kind.TheVariants.{Enumerations}
+use Rattle.text_parts.specs.Sort.{of_kind}
 use Rattle.text_checks.specs.ValueNames.{value_names, with_name, with_names}
 use Rattle.text_checks.proofs.CountedLaws.{types_at}
 use Rattle.text_checks.proofs.OutlineLaws.{outline-end}
@@ -106,8 +108,8 @@ abbrev pub values_to : List ℕ → ℕ → List Name
 values_to body k = with_names (names_of_kind is_enumeration (declarations_by body)) (joined (types_at body) k)
 
 module _ (body : List ℕ) where
-  pub valued-begin : {ns : List Name} → ns ≡ take 13 (names_of_kind (of_kind 3) (declarations_by body)) → ns ≡ take 13 (values_to body 0)
-  unfolding with_names joined of_kind
+  pub valued-begin : {ns : List Name} → ns ≡ take 13 (names_of_kind (of_kind Enumerations) (declarations_by body)) → ns ≡ take 13 (values_to body 0)
+  unfolding with_names joined
   valued-begin q = q
 
   module _ (k : ℕ) {ns : List Name} (e : ns ≡ take 13 (values_to body k)) where
@@ -119,6 +121,6 @@ module _ (body : List ℕ) where
         q ∙ ap₂ (λ (xs ws : List Name). take 13 (with_names xs ws)) e types ∙ front-with 13 (values_to body k) (types_at body k)
         ∙ ap (take 13) (sym (with_append enums (joined (types_at body) k) (types_at body k)) ∙ ap (with_names enums) (sym (joined-more (types_at body) k)))
 
-    pub valued-done : {o : List ℕ} {n : ℕ} → Outlines body o n → k ≤ n → n ≤ k → ns ≡ take 13 (value_names (declarations_by body))
+    pub valued-done : {o : List Outlined} {n : ℕ} → Outlines body o n → k ≤ n → n ≤ k → ns ≡ take 13 (value_names (declarations_by body))
     unfolding value_names used_types
     valued-done t h l = e ∙ ap (λ (i : ℕ). take 13 (values_to body i)) (outline-end t h l)

@@ -14,25 +14,29 @@ use Rattle.files.specs.Name.{Name}
 use Rattle.texts.specs.Declaration.{Declaration, declaration_at, is_type}
 use Rattle.texts.specs.TextChecks.{has_unknown, has_unknown_end, has_unknown_parent, is_declared}
 use Rattle.text_rows.specs.RowAt.{declarations_by}
+use Rattle.text_outlines.specs.declared.Outlined.{Outlined}
 use Rattle.text_outlines.specs.Outline.{Outlines}
-use Rattle.text_checks.specs.Kinds.{of_kind, unknown_in}
+use Rattle.text_parts.specs.declared.Kind.TheVariants.{Associations, Classes, Interfaces, Types}
+use Rattle.text_parts.specs.declared.Kind.{Kind}
+use Rattle.text_parts.specs.Sort.{of_kind}
+use Rattle.text_checks.specs.Kinds.{unknown_in}
 use Rattle.text_checks.proofs.OutlineLaws.{outline-below, outline-end}
 
 -- ---- parents
 
 -- name i of ws is that of none of the first k declarations that are of the kind
-abbrev pub unknown_at : ℕ → List Declaration → ℕ → List Name → ℕ → Bool
+abbrev pub unknown_at : Kind → List Declaration → ℕ → List Name → ℕ → Bool
 unknown_at kind ds k ws i = not (is_declared (of_kind kind) ds k (get_or ws i []))
 
 -- a loop over the names ws leaves at the first that is unknown: none before i is
-pub record Known (kind : ℕ) (ds : List Declaration) (k : ℕ) (ws : List Name) (n i : ℕ) : Type 0 where
+pub record Known (kind : Kind) (ds : List Declaration) (k : ℕ) (ws : List Name) (n i : ℕ) : Type 0 where
   pub up_to : i ≤ n
   pub none : any (unknown_at kind ds k ws) i ≡ false
 
-pub known-begin : (kind : ℕ) (ds : List Declaration) (k : ℕ) (ws : List Name) (n : ℕ) → Known kind ds k ws n 0
+pub known-begin : (kind : Kind) (ds : List Declaration) (k : ℕ) (ws : List Name) (n : ℕ) → Known kind ds k ws n 0
 known-begin kind ds k ws n = record { up_to = omega arith; none = any-begin (unknown_at kind ds k ws) }
 
-module _ {kind : ℕ} {ds : List Declaration} {k : ℕ} {ws : List Name} {n i : ℕ} (l : Known kind ds k ws n i) where
+module _ {kind : Kind} {ds : List Declaration} {k : ℕ} {ws : List Name} {n i : ℕ} (l : Known kind ds k ws n i) where
   pub known_next : {v : Name} {b : Bool} → i < n → v ≡ get_or ws i [] → b ≡ is_declared (of_kind kind) ds k v → not b ≡ false → Known kind ds k ws n (i + 1)
   known_next h e q t = record {
     up_to = omega arith;
@@ -53,31 +57,31 @@ module _ {kind : ℕ} {ds : List Declaration} {k : ℕ} {ws : List Name} {n i : 
       any-done (unknown_at kind ds k ws) (length ws) i f g l.none
 
 -- both lists of parents
-pub parents-unknown : (ds : List Declaration) (k : ℕ) (d : Declaration) {p q : Bool} → d ≡ declaration_at ds k → p ≡ unknown_in 0 ds k d.superclasses
-    → q ≡ unknown_in 1 ds k d.interfaces → (p || q) ≡ has_unknown_parent ds k
-unfolding has_unknown_parent unknown_in of_kind is_declared
+pub parents-unknown : (ds : List Declaration) (k : ℕ) (d : Declaration) {p q : Bool} → d ≡ declaration_at ds k → p ≡ unknown_in Classes ds k d.superclasses
+    → q ≡ unknown_in Interfaces ds k d.interfaces → (p || q) ≡ has_unknown_parent ds k
+unfolding has_unknown_parent unknown_in is_declared
 parents-unknown ds k d {p} {q} e f g =
     or-is-either p q
-    ∙ ap₂ (λ (x y : Bool). either x y) (f ∙ ap (λ (x : Declaration). unknown_in 0 ds k x.superclasses) e)
-    (g ∙ ap (λ (x : Declaration). unknown_in 1 ds k x.interfaces) e)
+    ∙ ap₂ (λ (x y : Bool). either x y) (f ∙ ap (λ (x : Declaration). unknown_in Classes ds k x.superclasses) e)
+    (g ∙ ap (λ (x : Declaration). unknown_in Interfaces ds k x.interfaces) e)
 
 -- ---- ends
 
-module _ (ds : List Declaration) (k : ℕ) (d : Declaration) {b : Bool} (e : d ≡ declaration_at ds k) (s : b ≡ of_kind 4 d) where
+module _ (ds : List Declaration) (k : ℕ) (d : Declaration) {b : Bool} (e : d ≡ declaration_at ds k) (s : b ≡ of_kind Associations d) where
   pub no_end : b ≡ false → false ≡ has_unknown_end ds k
-  unfolding has_unknown_end of_kind both
+  unfolding has_unknown_end both
   no_end t =
-      sym (ap (λ (x : Bool). both x (either (not (is_declared is_type ds (length ds) (declaration_at ds k).left_end.type)) (not (is_declared is_type ds (length ds) (declaration_at ds k).right_end.type)))) (sym (ap (of_kind 4) e) ∙ sym s ∙ t))
+      sym (ap (λ (x : Bool). both x (either (not (is_declared is_type ds (length ds) (declaration_at ds k).left_end.type)) (not (is_declared is_type ds (length ds) (declaration_at ds k).right_end.type)))) (sym (ap (of_kind Associations) e) ∙ sym s ∙ t))
 
-  pub ends-unknown : {n : ℕ} {v w : Name} {p q : Bool} → n ≡ length ds → b ≡ true → v ≡ d.left_end.type → p ≡ is_declared (of_kind 2) ds n v
-      → w ≡ d.right_end.type → q ≡ is_declared (of_kind 2) ds n w → (not p || not q) ≡ has_unknown_end ds k
-  unfolding has_unknown_end of_kind both is_declared
+  pub ends-unknown : {n : ℕ} {v w : Name} {p q : Bool} → n ≡ length ds → b ≡ true → v ≡ d.left_end.type → p ≡ is_declared (of_kind Types) ds n v
+      → w ≡ d.right_end.type → q ≡ is_declared (of_kind Types) ds n w → (not p || not q) ≡ has_unknown_end ds k
+  unfolding has_unknown_end both is_declared
   ends-unknown {n} {v} {w} {p} {q} m t f g h i =
-      let is : of_kind 4 (declaration_at ds k) ≡ true = sym (ap (of_kind 4) e) ∙ sym s ∙ t in
+      let is : of_kind Associations (declaration_at ds k) ≡ true = sym (ap (of_kind Associations) e) ∙ sym s ∙ t in
       let left : p ≡ is_declared is_type ds (length ds) (declaration_at ds k).left_end.type =
-      g ∙ ap₂ (λ (x : ℕ) (y : Name). is_declared (of_kind 2) ds x y) m (f ∙ ap (λ (x : Declaration). x.left_end.type) e) in
+      g ∙ ap₂ (λ (x : ℕ) (y : Name). is_declared (of_kind Types) ds x y) m (f ∙ ap (λ (x : Declaration). x.left_end.type) e) in
       let right : q ≡ is_declared is_type ds (length ds) (declaration_at ds k).right_end.type =
-      i ∙ ap₂ (λ (x : ℕ) (y : Name). is_declared (of_kind 2) ds x y) m (h ∙ ap (λ (x : Declaration). x.right_end.type) e) in
+      i ∙ ap₂ (λ (x : ℕ) (y : Name). is_declared (of_kind Types) ds x y) m (h ∙ ap (λ (x : Declaration). x.right_end.type) e) in
       or-is-either (not p) (not q) ∙ ap₂ (λ (x y : Bool). either (not x) (not y)) left right
       ∙ sym (ap (λ (x : Bool). both x (either (not (is_declared is_type ds (length ds) (declaration_at ds k).left_end.type)) (not (is_declared is_type ds (length ds) (declaration_at ds k).right_end.type)))) is)
 
@@ -92,7 +96,7 @@ module _ (body : List ℕ) (k : ℕ) where
     asked : (p || q) ≡ unknown (declarations_by body) k
     asked = or-is-either p q ∙ ap₂ (λ (x y : Bool). either x y) f g
 
-    pub unknown-found : {o : List ℕ} {n : ℕ} → Outlines body o n → k < n → (p || q) ≡ true → true ≡ has_unknown (declarations_by body)
+    pub unknown-found : {o : List Outlined} {n : ℕ} → Outlines body o n → k < n → (p || q) ≡ true → true ≡ has_unknown (declarations_by body)
     unfolding has_unknown
     unknown-found t h u =
         any_found (unknown (declarations_by body)) (length (declarations_by body)) k (outline-below t h) asked u
@@ -100,6 +104,6 @@ module _ (body : List ℕ) (k : ℕ) where
     pub unknown-next : any (unknown (declarations_by body)) k ≡ false → (p || q) ≡ false → any (unknown (declarations_by body)) (k + 1) ≡ false
     unknown-next e u = any_next (unknown (declarations_by body)) k e asked u
 
-  pub unknown-none : {o : List ℕ} {n : ℕ} → Outlines body o n → k ≤ n → n ≤ k → any (unknown (declarations_by body)) k ≡ false → false ≡ has_unknown (declarations_by body)
+  pub unknown-none : {o : List Outlined} {n : ℕ} → Outlines body o n → k ≤ n → n ≤ k → any (unknown (declarations_by body)) k ≡ false → false ≡ has_unknown (declarations_by body)
   unfolding has_unknown
   unknown-none t h l e = sym e ∙ ap (any (unknown (declarations_by body))) (outline-end t h l)

@@ -1,12 +1,13 @@
 -- Why the checks in the reader's order, and then reading the file of the diagram, give what reading the text gives.
 -- Assumes nothing.
-use Prim.Native.Nat.{◌<◌, suc, zero, ℕ}
-use native.Mathlib.Omega.{arith}
+use Prim.Native.Nat.{◌<◌, ℕ}
 use mathlib.Core.Bool.{Bool, false, not, true}
 use mathlib.Core.List.{List, map}
-use mathlib.Core.Logic.{◌⊎◌, inl, inr, ⊎_elim}
 use mathlib.Core.Path.{◌∙◌, ◌≡◌, ap, refl, subst, sym}
 use lib.ListN.{drop, length}
+use Rattle.std.specs.Borrow.{Bor}
+use Rattle.std.specs.Option.{IsSome}
+use Rattle.std.specs.Prelude.{Option, None, Some}
 use Rattle.laws.specs.Connective.{both, either, refuse}
 use Rattle.laws.proofs.BoundedLaws.{any-no}
 use Rattle.laws.proofs.ConnectiveLaws.{both_left, both_right, either-neither, true-false}
@@ -19,7 +20,7 @@ use Rattle.texts.specs.WellFormedDeclaration.{ShortNames, WfDeclarations}
 use Rattle.texts.specs.Grammar.{Belongs, Tree}
 use Rattle.texts.specs.ReadText.{declarations_in, read_text, tokens_refusal}
 use Rattle.texts.specs.Table.{Symbol, accepts, declaration_in, has_long_from, rows_from}
-use Rattle.texts.specs.TextChecks.{declared_refusal, ends_forbidden, has_forbidden, has_twice, has_unknown, has_whole_right, is_overfull, limits_forbidden, text_refusal}
+use Rattle.texts.specs.TextChecks.{declared_refusal, ends_forbidden, has_forbidden, has_long_name, has_twice, has_unknown, has_whole_right, is_overfull, limits_forbidden, text_refusal}
 use Rattle.texts.specs.Token.{tokens}
 use Rattle.texts.proofs.ConverseLaws.{accepts-tree}
 use Rattle.texts.proofs.DeclaredCountLaws.{few}
@@ -30,7 +31,7 @@ use Rattle.texts.proofs.ReadTextLaws.{read-tree}
 use Rattle.texts.proofs.ShortNameLaws.{short-names}
 use Rattle.texts.proofs.TextFileLaws.{text-file}
 use Rattle.text_loading.specs.Read.{Read}
-use Rattle.text_rows.specs.RowAt.{RowEnd, declarations_by}
+use Rattle.text_rows.specs.RowAt.{RowEnd, RowEnds, declarations_by}
 use Rattle.text_writing.specs.Pieces.{Writable}
 
 -- the table accepts the text, and no name is too long
@@ -52,27 +53,30 @@ untaken s e = go (accepts 0 (tokens s)) (has_long_from 0 (tokens s)) refl refl e
 
 -- ---- the body declares what the tree does
 
-module _ {s : List ℕ} {n : ℕ} (r : RowEnd 0 s n) (t : Tree) (b : Belongs s t) where
-  body-declares : declarations_by (drop n s) ≡ declarations t
-  unfolding declarations_by declarations_in
-  body-declares =
-      let there : 0 < n = ⊎_elim (λ h. h) (λ z. absurd (tree-headed t b.is-named (ap (rows_from 0) (sym b.written) ∙ r.none_left z))) (positive n) in
-      ap (λ (rows : List (List Symbol)). map declaration_in (drop 1 rows)) (sym (r.one_more there)) ∙ ap declarations_in b.written ∙ tree-declares t b.is-named
-    where
-      positive : (k : ℕ) → (0 < k) ⊎ (k ≡ 0)
-      positive zero = inr refl
-      positive (suc k) = inl (omega arith)
-
-pub taken-read : {s : List ℕ} {n : ℕ} → RowEnd 0 s n → Taken s true → Read s (drop n s)
-taken-read {s} {n} r e =
+-- the tree of a text that is taken
+tree-of : {s : List ℕ} → Taken s true → (t : Tree) × (Belongs s t × (has_long_name t ≡ false))
+tree-of {s} e =
     let w = accepts-tree (tokens s) (tokens-below s) (both_left _ _ e) in
     let b : Belongs s w.0 = record { written = sym w.1; is-named = w.2 } in
-    record {
-      tree = w.0;
-      belongs = b;
-      short = sym (tree-long w.0 w.2) ∙ ap (has_long_from 0) w.1 ∙ not-true _ (both_right (accepts 0 (tokens s)) (not (has_long_from 0 (tokens s))) e);
-      declares = body-declares r w.0 b;
-    }
+    (w.0, (b, sym (tree-long w.0 w.2) ∙ ap (has_long_from 0) w.1 ∙ not-true _ (both_right (accepts 0 (tokens s)) (not (has_long_from 0 (tokens s))) e)))
+
+body-declares : {s body : List ℕ} → RowEnd 0 s body → (t : Tree) → Belongs s t → declarations_by body ≡ declarations t
+unfolding declarations_by declarations_in
+body-declares r t b =
+    ap (λ (rows : List (List Symbol)). map declaration_in (drop 1 rows)) (sym r.one_more) ∙ ap declarations_in b.written ∙ tree-declares t b.is-named
+
+module _ {s : List ℕ} {o : Option (Bor (List ℕ))} (r : RowEnds 0 s o) (e : Taken s true) where
+  -- a row ends
+  pub taken-ends : IsSome o
+  taken-ends = go o r
+    where
+      go : (o : Option (Bor (List ℕ))) → RowEnds 0 s o → IsSome o
+      go None r = let t = tree-of e in absurd (tree-headed t.0 t.1.0.is-named (ap (rows_from 0) (sym t.1.0.written) ∙ r.none_left refl))
+      go (Some b) r = refl
+
+  pub taken-read : (b : Bor (List ℕ)) → o ≡ Some b → Read s b.now
+  taken-read b q =
+      let t = tree-of e in record { tree = t.0; belongs = t.1.0; short = t.1.1; declares = body-declares (r.ends b q) t.0 t.1.0 }
 
 -- ---- the answer, check by check
 

@@ -1,11 +1,13 @@
 -- What reading a text into memory promises.
 -- Assumes nothing.
-use Rattle.std.specs.Prelude.{ℕ, List, ◌≡◌}
+use Rattle.std.specs.Prelude.{ℕ, List, ◌≡◌, Result, IfOk}
+use Rattle.fields.specs.Refusal.{answer_of}
+use Rattle.fields.specs.declared.Refusal.{Refusal}
 use Rattle.diagrams.specs.Held.{Held}
-use Rattle.loading.specs.Loads.{answer_of}
-use Rattle.loading.specs.declared.Loaded.{Loaded}
+use Rattle.diagrams.specs.View.{diagram_of}
+use Rattle.diagrams.specs.declared.StoredDiagram.{StoredDiagram}
 use Rattle.texts.specs.ReadText.{read_text}
 
-pub record LoadsText (text : List ℕ) (r : Loaded) : Type 0 where
-  pub says : answer_of r ≡ read_text text
-  pub held : r.no ≡ 0 → Held r.diagram
+pub record LoadsText (text : List ℕ) (r : Result StoredDiagram Refusal) : Type 0 where
+  pub says : answer_of diagram_of r ≡ read_text text
+  pub held : IfOk r Held

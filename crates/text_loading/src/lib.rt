@@ -8,68 +8,60 @@ ghost use Rattle.loading.specs.Loads.{Loads};
 ghost use Rattle.texts.specs.Declared.{declared};
 ghost use Rattle.name_lists.specs.Names.{names_in};
 ghost use Rattle.text_rows.specs.RowAt.{declarations_by};
-ghost use Rattle.text_outlines.specs.Outline.{Outlines};
 ghost use Rattle.text_checks.specs.ValueNames.{value_names};
 ghost use Rattle.text_writing.specs.Pieces.{Writable};
 ghost use Rattle.text_loading.specs.LoadsText.{LoadsText};
 ghost use Rattle.text_loading.specs.Read.{Known, Read};
 
+use diagrams::StoredDiagram;
+use fields::Refusal;
 use name_lists::Names;
-
-fn refused(no: u8) -> loading::Loaded
-    ensures { result.no ≡ no }
-{
-    loading::Loaded {
-        no,
-        diagram: diagrams::empty_diagram(),
-    }
-}
+use text_outlines::Outline;
 
 // The diagram of a body that passes these checks, with the names of its value types.
-fn read_declared<'a>(body: &'a [u8], o: &'a [usize], n: usize, values: Names) -> loading::Loaded
-    requires { Writable (declarations_by body.now) × (Outlines body.now o.now n × ((n ≤ 52) × ((values.count ≤ 24) × (names_in values ≡ value_names (declarations_by body.now))))) }
-    ensures { Loads (write_diagram (declared (declarations_by body.now))) result }
+fn read_declared<'a>(o: &'a Outline<'a>, values: Names) -> Result<StoredDiagram, Refusal>
+    requires { Writable (declarations_by o.now.body.now) × ((o.now.count ≤ 52) × ((values.count ≤ 24) × (names_in values ≡ value_names (declarations_by o.now.body.now)))) }
+    ensures { Loads (write_diagram (declared (declarations_by o.now.body.now))) result }
 {
-    let types = text_checks::type_names(body, o, n);
-    let mut file: [u8; 4096] = [0; 4096];
-    let size = text_writing::put_diagram(&mut file, body, o, n, types, values);
+    let types = text_checks::type_names(o);
+    let mut file = [0; 4096];
+    let size = text_writing::put_diagram(&mut file, o, types, values);
     loading::read_diagram(&file[..size])
 }
 
-// The reply to a text whose body passes the checks 23 and 24.
-fn read_known<'a>(text: &'a [u8], body: &'a [u8], o: &'a [usize], n: usize) -> loading::Loaded
-    requires { Read text.now body.now × (Known body.now × Outlines body.now o.now n) }
+// What is read of a text whose body passes the checks 23 and 24.
+fn read_known<'a>(text: &[u8], o: &'a Outline<'a>) -> Result<StoredDiagram, Refusal>
+    requires { Read text.now o.now.body.now × Known o.now.body.now }
     ensures { LoadsText text.now result }
 {
     // More than 52 are over some limit: 24 types, 12 enumerations, 16 associations.
-    if 52 < n {
-        return refused(4);
+    if 52 < o.count {
+        return Err(Refusal::Count);
     }
-    if text_checks::has_many(body, o, n) {
-        return refused(4);
+    if text_checks::has_many(o) {
+        return Err(Refusal::Count);
     }
     // The value types last: they take long where there are many attributes.
-    let values = text_checks::value_names(body, o, n);
+    let values = text_checks::value_names(o);
     if 12 < values.count {
-        return refused(4);
+        return Err(Refusal::Count);
     }
-    read_declared(body, o, n, values)
+    read_declared(o, values)
 }
 
-pub fn read_text(text: &[u8]) -> loading::Loaded
+pub fn read_text(text: &[u8]) -> Result<StoredDiagram, Refusal>
     ensures { LoadsText text.now result }
 {
     if !text_rows::is_accepted(text) {
-        return refused(23);
+        return Err(Refusal::Grammar);
     }
-    let body = laws::past(text, text_rows::row_end(text, 0));
-    let mut o: [usize; 364] = [0; 364];
-    let walked = text_outlines::outline(body, &mut o);
-    if walked.forbidden {
-        return refused(23);
+    let body = text_rows::row_end(text, 0).unwrap();
+    let o = Outline::new(body);
+    if o.forbidden {
+        return Err(Refusal::Grammar);
     }
-    if text_checks::has_unknown(body, &o, walked.count) {
-        return refused(24);
+    if text_checks::has_unknown(&o) {
+        return Err(Refusal::Undeclared);
     }
-    read_known(text, body, &o, walked.count)
+    read_known(text, &o)
 }

@@ -7,7 +7,7 @@ use native.Mathlib.Decide.{dec_lt}
 use native.Mathlib.Omega.{arith}
 use lib.ListN.{drop, drop_of_length-le, length, length-drop, take}
 use lib.Seq.{drop-drop, drop-length}
-use Rattle.text_outlines.specs.Note.{Suffix}
+use Rattle.text_outlines.specs.Outline.{Suffix}
 
 drop-suffix : (body : List ℕ) (i : ℕ) → Suffix body (drop i body)
 drop-suffix body i = go (dec_lt (length body) i)

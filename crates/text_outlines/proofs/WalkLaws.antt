@@ -9,7 +9,8 @@ use native.Mathlib.Omega.{arith}
 use lib.ListN.{drop, get_or, length, length-drop}
 use lib.Seq.{drop-cons}
 use Rattle.texts.specs.Declaration.{declaration_at, nothing}
-use Rattle.texts.specs.Table.{declaration_in}
+use Rattle.texts.specs.Table.{declaration_in, rows_from}
+use Rattle.texts.specs.Token.{tokens}
 use Rattle.text_rows.specs.RowAt.{RowEnd, declaration_by, declarations_by, row_at}
 
 -- ---- lists
@@ -29,50 +30,48 @@ drop-first {A} xs k d x more e = go (dec_lt k (length xs))
 
 -- ---- one row
 
-pub rows_none : (rest : List ℕ) (n : ℕ) → RowEnd 3 rest n → n ≡ 0 → declarations_by rest ≡ []
+rows_none : (rest : List ℕ) → rows_from 3 (tokens rest) ≡ [] → declarations_by rest ≡ []
 unfolding declarations_by
-rows_none rest n e z = ap (map declaration_in) (e.none_left z)
+rows_none rest e = ap (map declaration_in) e
 
-pub rows_more : (rest : List ℕ) (n : ℕ) → RowEnd 3 rest n → 0 < n → declarations_by rest ≡ declaration_by rest ∷ declarations_by (drop n rest)
+rows_more : {rest next : List ℕ} → RowEnd 3 rest next → declarations_by rest ≡ declaration_by rest ∷ declarations_by next
 unfolding declarations_by declaration_by row_at
-rows_more rest n e h = ap (map declaration_in) (e.one_more h)
-
-pub rest-less : (rest : List ℕ) (n : ℕ) {next : List ℕ} → RowEnd 3 rest n → 0 < n → next ≡ drop n rest → length next < length rest
-rest-less rest n e h q = let a = ap length q in omega (arith, length-drop n rest, e.within)
+rows_more e = ap (map declaration_in) e.one_more
 
 -- ---- the walk
 
--- k declarations are behind, and the row at the front of the rest takes n bytes
-pub record Walk (body rest : List ℕ) (n k : ℕ) : Type 0 where
-  pub row : RowEnd 3 rest n
+-- k declarations are behind
+pub record Walk (body rest : List ℕ) (k : ℕ) : Type 0 where
   pub left : drop k (declarations_by body) ≡ declarations_by rest
   pub below : k ≤ length (declarations_by body)
   pub room : k + length rest ≤ length body
 
-pub walk-begin : (body : List ℕ) {n : ℕ} → RowEnd 3 body n → Walk body body n 0
-walk-begin body e = record { row = e; left = refl; below = omega arith; room = omega arith }
+pub walk-begin : (body : List ℕ) → Walk body body 0
+walk-begin body = record { left = refl; below = omega arith; room = omega arith }
 
-module _ {body rest : List ℕ} {n k : ℕ} (w : Walk body rest n k) where
-  pub walk_is : 0 < n → (k < length (declarations_by body)) × (declaration_by rest ≡ declaration_at (declarations_by body) k)
-  walk_is h =
-      let f = drop-first (declarations_by body) k nothing (declaration_by rest) (declarations_by (drop n rest)) (w.left ∙ rows_more rest n w.row h) in
-      (f.0, sym f.1)
+module _ {body rest : List ℕ} {k : ℕ} (w : Walk body rest k) where
+  module _ {next : List ℕ} (e : RowEnd 3 rest next) where
+    walk_first : (k < length (declarations_by body)) × (get_or (declarations_by body) k nothing ≡ declaration_by rest) × (drop (k + 1) (declarations_by body) ≡ declarations_by next)
+    walk_first = drop-first (declarations_by body) k nothing (declaration_by rest) (declarations_by next) (w.left ∙ rows_more e)
 
-  pub walk-next : {next : List ℕ} {m : ℕ} → 0 < n → next ≡ drop n rest → RowEnd 3 next m → Walk body next m (k + 1)
-  walk-next {next} h q e =
-      let f = drop-first (declarations_by body) k nothing (declaration_by rest) (declarations_by (drop n rest)) (w.left ∙ rows_more rest n w.row h) in
-      let l : length next < length rest = rest-less rest n w.row h q in
-      let s : k < length (declarations_by body) = f.0 in
-      record {
-        row = e;
-        left = f.2 ∙ ap declarations_by (sym q);
-        below = omega arith;
-        room = omega (arith, w.room);
-      }
+    pub walk_is : (k < length (declarations_by body)) × (declaration_by rest ≡ declaration_at (declarations_by body) k)
+    walk_is = (walk_first.0, sym walk_first.1)
 
-  pub walk-done : n ≤ 0 → k ≡ length (declarations_by body)
+    pub walk-next : Walk body next (k + 1)
+    walk-next =
+        let s = walk_first.0 in
+        record {
+          left = walk_first.2;
+          below = omega arith;
+          room = omega (arith, w.room, e.shorter);
+        }
+
+  pub walk-done : rows_from 3 (tokens rest) ≡ [] → k ≡ length (declarations_by body)
   walk-done h =
-      let z : n ≡ 0 = omega arith in
-      let a : length (drop k (declarations_by body)) ≡ 0 = ap length (w.left ∙ rows_none rest n w.row z) in
+      let a : length (drop k (declarations_by body)) ≡ 0 = ap length (w.left ∙ rows_none rest h) in
       let b : length (drop k (declarations_by body)) ≡ length (declarations_by body) - k = length-drop k (declarations_by body) in
       omega (arith, w.below)
+
+  -- a declaration is left, so a row ends
+  pub walk-left : k < length (declarations_by body) → rows_from 3 (tokens rest) ≡ [] → ⊥
+  walk-left h e = let d = walk-done e in omega arith

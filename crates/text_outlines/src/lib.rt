@@ -1,126 +1,157 @@
 // The outline of a text's body, made in one walk, so that what comes after goes from declaration to declaration without another.
 #![tactic(auto)]
 
-ghost use Rattle.std.specs.Prelude.{◌≡◌, ◌<◌, ◌≤◌, drop, length, take};
+ghost use Rattle.std.specs.Prelude.{◌≡◌, [], ◌<◌, length};
 ghost use Rattle.texts.specs.Declaration.{declaration_at};
 ghost use Rattle.texts.specs.Declared.{parent_names};
 ghost use Rattle.texts.specs.TextChecks.{has_forbidden};
+ghost use Rattle.text_rows.specs.Noted.{word_or};
 ghost use Rattle.text_rows.specs.RowAt.{declaration_by, declarations_by};
-ghost use Rattle.text_rows.specs.Scan.{Scans};
-ghost use Rattle.text_outlines.specs.Note.{Notes, Suffix};
-ghost use Rattle.text_outlines.specs.Outline.{Outlines};
+ghost use Rattle.text_parts.specs.Sort.{number_of, of_kind};
+ghost use Rattle.text_outlines.specs.Outline.{Outlines, Suffix, Tells};
 
-// How many declarations there are, and whether some cardinality is none that 01 allows.
+use text_parts::{Kind, Sort};
+use text_rows::{Scanned, Word};
+
+// Where a declaration starts in the body, what it is, where its name stands in the body, how many parents, attributes and constants
+// it has. An association has no name.
 #[derive(Clone, Copy)]
-pub struct Walked {
+pub(crate) struct Outlined {
+    start: usize,
+    what: Option<Sort>,
+    name: Option<Word>,
+    parents: usize,
+    attributes: usize,
+    constants: usize,
+}
+
+const UNOUTLINED: Outlined = Outlined {
+    start: 0,
+    what: None,
+    name: None,
+    parents: 0,
+    attributes: 0,
+    constants: 0,
+};
+
+// A body, how many declarations it has and the first 52 of them, and whether some cardinality is none that 01 allows.
+#[derive(Drop)]
+pub struct Outline<'a> {
+    pub body: &'a [u8],
     pub count: usize,
     pub forbidden: bool,
+    declarations: [Outlined; 52],
+    ghost outlines: { Outlines body.now declarations count },
+    ghost forbids: { forbidden ≡ has_forbidden (declarations_by body.now) },
 }
 
 // ---- the walk
 
-// Where the name of the declaration s stands in the body; an association has none.
-fn name_in<'a>(body: &'a [u8], s: &'a [u8], what: usize) -> text_rows::Word
-    requires { Suffix body.now s.now }
-    ensures { what ≤ 4 → take result.size (drop result.start body.now) ≡ (declaration_by s.now).name }
+// Where the name of the declaration at the front of the row stands in the body.
+fn name_in(body: &[u8], row: &Scanned) -> Option<Word>
+    requires { Suffix body.now row.now.rest.now }
+    ensures { word_or body.now result [] ≡ (declaration_by row.now.rest.now).name }
 {
-    if 4 < what {
-        return text_rows::Word { start: 0, size: 0 };
-    }
-    let w = text_parts::name_at(s);
-    let name = laws::past(s, w.start);
-    text_rows::Word {
+    let w = text_parts::name_at(row)?;
+    let name = laws::past(row.rest, w.start);
+    Some(Word {
         start: body.len() - name.len(),
         size: w.size,
+    })
+}
+
+// What is known of that declaration.
+fn read_row(body: &[u8], row: &Scanned) -> Outlined
+    requires { Suffix body.now row.now.rest.now }
+    ensures { Tells body.now result (declaration_by row.now.rest.now) }
+{
+    Outlined {
+        start: body.len() - row.rest.len(),
+        what: text_parts::what(row),
+        name: name_in(body, row),
+        parents: text_parts::superclass_count(row) + text_parts::interface_count(row),
+        attributes: text_parts::attribute_count(row),
+        constants: text_parts::constant_count(row),
     }
 }
 
-// The numbers of the declaration s at k, where there is room.
-fn note_declaration<'a>(o: &mut [usize], k: usize, body: &'a [u8], s: &'a [u8], row: &'a [usize])
-    requires { (length o.old ≡ 364) × (Suffix body.now s.now × Scans s.now row.now) }
-    ensures { Notes body.now s.now k o.old o.new }
-{
-    if 52 <= k {
-        return;
+impl<'a> Outline<'a> {
+    // One walk over all declarations of the body.
+    pub fn new(body: &'a [u8]) -> Outline<'a>
+        ensures { result.body.now ≡ body.now }
+    {
+        let mut declarations = [UNOUTLINED; 52];
+        let mut count = 0;
+        let mut forbidden = false;
+        let mut row = text_rows::scan_row(body);
+        while let Some(after) = row.after() {
+            forbidden = forbidden | text_parts::has_forbidden_end(&row);
+            if count < 52 {
+                declarations[count] = read_row(body, &row);
+            }
+            count += 1;
+            row = text_rows::scan_row(after);
+        }
+        Outline {
+            body,
+            count,
+            forbidden,
+            declarations,
+        }
     }
-    let what = laws::wide(text_parts::what(s, row));
-    let name = name_in(body, s, what);
-    o[k] = body.len() - s.len();
-    o[52 + k] = what;
-    o[104 + k] = name.start;
-    o[156 + k] = name.size;
-    o[208 + k] = text_parts::superclass_count(s, row) + text_parts::interface_count(s, row);
-    o[260 + k] = text_parts::attribute_count(s, row);
-    o[312 + k] = text_parts::constant_count(s, row);
-}
 
-// One walk over all declarations of the body.
-pub fn outline(body: &[u8], o: &mut [usize]) -> Walked
-    requires { length o.old ≡ 364 }
-    ensures { Outlines body.now o.new result.count × (result.forbidden ≡ has_forbidden (declarations_by body.now)) }
-{
-    let mut row: [usize; 188] = [0; 188];
-    let mut rest = body;
-    let mut k = 0;
-    let mut forbidden = false;
-    let mut n = text_rows::scan_row(rest, &mut row);
-    while 0 < n {
-        forbidden = forbidden | text_parts::has_forbidden_end(rest, &row);
-        note_declaration(o, k, body, rest, &row);
-        k += 1;
-        let next = laws::past(rest, n);
-        rest = next;
-        n = text_rows::scan_row(rest, &mut row);
+    // ---- declaration k
+
+    // The rest of the text at whose front it stands.
+    pub fn declaration(&self, k: usize) -> &'a [u8]
+        requires { (k < self.now.count) × (k < 52) }
+        ensures { declaration_by result.now ≡ declaration_at (declarations_by self.now.body.now) k }
+    {
+        laws::past(self.body, self.declarations[k].start)
     }
-    Walked {
-        count: k,
-        forbidden,
+
+    // Its row.
+    pub fn row(&self, k: usize) -> Scanned<'a>
+        requires { (k < self.now.count) × (k < 52) }
+        ensures { declaration_by result.rest.now ≡ declaration_at (declarations_by self.now.body.now) k }
+    {
+        text_rows::scan_row(self.declaration(k))
     }
-}
 
-// ---- declaration k of n
+    // It is of that kind.
+    pub fn is_kind(&self, k: usize, kind: Kind) -> bool
+        requires { (k < self.now.count) × (k < 52) }
+        ensures { result ≡ of_kind kind (declaration_at (declarations_by self.now.body.now) k) }
+    {
+        text_parts::is_kind(self.declarations[k].what, kind)
+    }
 
-// The rest of the text at whose front it stands.
-pub fn declaration<'a>(body: &'a [u8], o: &'a [usize], n: usize, k: usize) -> &'a [u8]
-    requires { Outlines body.now o.now n × ((k < n) × (k < 52)) }
-    ensures { declaration_by result.now ≡ declaration_at (declarations_by body.now) k }
-{
-    laws::past(body, o[k])
-}
+    // Its name; an association has none.
+    pub fn name(&self, k: usize) -> &'a [u8]
+        requires { (k < self.now.count) × (k < 52) }
+        ensures { result.now ≡ (declaration_at (declarations_by self.now.body.now) k).name }
+    {
+        text_rows::word_of(self.body, self.declarations[k].name)
+    }
 
-// What it is, as of text_parts::what.
-pub fn what<'a>(body: &'a [u8], o: &'a [usize], n: usize, k: usize) -> usize
-    requires { Outlines body.now o.now n × ((k < n) × (k < 52)) }
-    ensures { result ≡ (declaration_at (declarations_by body.now) k).what }
-{
-    o[52 + k]
-}
+    pub fn parent_count(&self, k: usize) -> usize
+        requires { (k < self.now.count) × (k < 52) }
+        ensures { result ≡ length (parent_names (declaration_at (declarations_by self.now.body.now) k)) }
+    {
+        self.declarations[k].parents
+    }
 
-// The name of the type or enumeration.
-pub fn name<'a>(body: &'a [u8], o: &'a [usize], n: usize, k: usize) -> &'a [u8]
-    requires { Outlines body.now o.now n × ((k < n) × ((k < 52) × ((declaration_at (declarations_by body.now) k).what ≤ 4))) }
-    ensures { result.now ≡ (declaration_at (declarations_by body.now) k).name }
-{
-    laws::front(laws::past(body, o[104 + k]), o[156 + k])
-}
+    pub fn attribute_count(&self, k: usize) -> usize
+        requires { (k < self.now.count) × (k < 52) }
+        ensures { result ≡ length (declaration_at (declarations_by self.now.body.now) k).attribute_types }
+    {
+        self.declarations[k].attributes
+    }
 
-pub fn parent_count<'a>(body: &'a [u8], o: &'a [usize], n: usize, k: usize) -> usize
-    requires { Outlines body.now o.now n × ((k < n) × (k < 52)) }
-    ensures { result ≡ length (parent_names (declaration_at (declarations_by body.now) k)) }
-{
-    o[208 + k]
-}
-
-pub fn attribute_count<'a>(body: &'a [u8], o: &'a [usize], n: usize, k: usize) -> usize
-    requires { Outlines body.now o.now n × ((k < n) × (k < 52)) }
-    ensures { result ≡ length (declaration_at (declarations_by body.now) k).attribute_types }
-{
-    o[260 + k]
-}
-
-pub fn constant_count<'a>(body: &'a [u8], o: &'a [usize], n: usize, k: usize) -> usize
-    requires { Outlines body.now o.now n × ((k < n) × (k < 52)) }
-    ensures { result ≡ length (declaration_at (declarations_by body.now) k).constants }
-{
-    o[312 + k]
+    pub fn constant_count(&self, k: usize) -> usize
+        requires { (k < self.now.count) × (k < 52) }
+        ensures { result ≡ length (declaration_at (declarations_by self.now.body.now) k).constants }
+    {
+        self.declarations[k].constants
+    }
 }

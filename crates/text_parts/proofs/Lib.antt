@@ -4,3 +4,4 @@ pub mod ParentLaws
 pub mod ValueLaws
 pub mod WhatLaws
 pub mod CountLaws
+pub mod KindLaws

@@ -1,17 +1,20 @@
 // The parts of the declaration at the front of what is left of a text.
 #![tactic(auto)]
 
-ghost use Rattle.std.specs.Prelude.{◌≡◌, [], min, ◌*◌, ◌+◌, ◌-◌, ◌≤◌, drop, get_or, length, take};
-ghost use Rattle.texts.specs.Declaration.{value};
-ghost use Rattle.texts.specs.Declared.{parent_names};
+ghost use Rattle.std.specs.Prelude.{◌≡◌, [], min, ◌*◌, ◌+◌, ◌-◌, ◌≤◌, get_or, length};
 ghost use Rattle.files.specs.Diagram.{Limits as FileLimits};
+ghost use Rattle.texts.specs.Declaration.{Declaration, value};
+ghost use Rattle.texts.specs.Declared.{parent_names};
 ghost use Rattle.texts.specs.Table.{limits_in, passes, words_for};
 ghost use Rattle.texts.specs.TextChecks.{ends_forbidden, limits_forbidden};
+ghost use Rattle.text_rows.specs.Noted.{word_or};
 ghost use Rattle.text_rows.specs.RowAt.{declaration_by, row_at};
-ghost use Rattle.text_rows.specs.Scan.{Scans};
 ghost use Rattle.text_parts.specs.Ends.{Capped, end_on, role_given, role_word};
+ghost use Rattle.text_parts.specs.Sort.{kind_test, number_of, of_kind, sort_number};
 
-// The limits of an end: above 100 each is 101, and up is 255 where there is no upper limit.
+use text_rows::{Scanned, Word};
+
+// The limits of an end, as bytes of the file: above 100 each is 101, and up is 255 where there is no upper limit.
 #[derive(Clone, Copy)]
 pub struct Limits {
     pub low: u8,
@@ -20,40 +23,103 @@ pub struct Limits {
 
 // ---- what it is, and its names
 
-// 0 class, 1 abstract class, 2 interface, 3 singleton class, 4 enumeration, 5 association, 6 composition, 7 none.
-pub fn what<'a>(s: &'a [u8], row: &'a [usize]) -> u8
-    requires { Scans s.now row.now }
-    ensures { (result ≡ (declaration_by s.now).what) × (result ≤ 7) }
-{
-    if text_rows::is_passed(s, row, 8) {
-        if text_rows::is_passed(s, row, 4) {
-            return 3;
-        }
-        if text_rows::is_passed(s, row, 6) {
-            return 1;
-        }
-        return 0;
-    }
-    if text_rows::is_passed(s, row, 17) {
-        return 2;
-    }
-    if text_rows::is_passed(s, row, 21) {
-        return 4;
-    }
-    if text_rows::is_passed(s, row, 25) {
-        if text_rows::class_for(s, row, 25) == 23 {
-            return 6;
-        }
-        return 5;
-    }
-    7
+#[derive(Clone, Copy)]
+pub enum Sort {
+    Class,
+    AbstractClass,
+    Interface,
+    SingletonClass,
+    Enumeration,
+    Association,
+    Composition,
 }
 
-// Where the name of the type or enumeration stands.
-pub fn name_at(s: &[u8]) -> text_rows::Word
-    ensures { take result.size (drop result.start s.now) ≡ (declaration_by s.now).name }
+// The kinds of declarations that are looked for or counted. Only associations have no name.
+#[derive(Clone, Copy)]
+pub enum Kind {
+    Classes,
+    Interfaces,
+    Types,
+    Enumerations,
+    Associations,
+}
+
+impl Sort {
+    // Its number in the text's declarations and, but for the last three, in the file.
+    pub fn number(self) -> u8
+        ensures { (result ≡ sort_number self) × (result ≤ 6) }
+    {
+        self as u8
+    }
+
+    // It is of that kind.
+    pub fn is(self, kind: Kind) -> bool
+        ensures { result ≡ kind_test kind (sort_number self) }
+    {
+        match self {
+            Sort::Class | Sort::AbstractClass | Sort::SingletonClass => {
+                matches!(kind, Kind::Classes | Kind::Types)
+            }
+            Sort::Interface => matches!(kind, Kind::Interfaces | Kind::Types),
+            Sort::Enumeration => matches!(kind, Kind::Enumerations),
+            Sort::Association | Sort::Composition => matches!(kind, Kind::Associations),
+        }
+    }
+}
+
+pub fn what(row: &Scanned) -> Option<Sort>
+    ensures { number_of result ≡ (declaration_by row.now.rest.now).what }
 {
-    text_rows::word_at(s, 8, 17, 21, 0)
+    if row.is_passed(8) {
+        if row.is_passed(4) {
+            return Some(Sort::SingletonClass);
+        }
+        if row.is_passed(6) {
+            return Some(Sort::AbstractClass);
+        }
+        return Some(Sort::Class);
+    }
+    if row.is_passed(17) {
+        return Some(Sort::Interface);
+    }
+    if row.is_passed(21) {
+        return Some(Sort::Enumeration);
+    }
+    match row.class_for(25) {
+        Some(23) => Some(Sort::Composition),
+        Some(_) => Some(Sort::Association),
+        None => None,
+    }
+}
+
+// The number, 7 for none.
+pub fn number(what: Option<Sort>) -> u8
+    ensures { (result ≡ number_of what) × (result ≤ 7) }
+{
+    match what {
+        Some(sort) => sort.number(),
+        None => 7,
+    }
+}
+
+// What is this is of that kind.
+pub fn is_kind(what: Option<Sort>, kind: Kind) -> bool
+    ensures { (d : Declaration) → number_of what ≡ d.what → result ≡ of_kind kind d }
+{
+    match what {
+        Some(sort) => sort.is(kind),
+        None => false,
+    }
+}
+
+// Where the name of the type or enumeration stands; an association has none, and is not read for it.
+pub fn name_at(row: &Scanned) -> Option<Word>
+    ensures { word_or row.now.rest.now result [] ≡ (declaration_by row.now.rest.now).name }
+{
+    if (row.count_for(8) == 0) & ((row.count_for(17) == 0) & (row.count_for(21) == 0)) {
+        return None;
+    }
+    text_rows::word_at(row.rest, 8, 17, 21, 0)
 }
 
 // The name of the type or enumeration.
@@ -63,11 +129,10 @@ pub fn name(s: &[u8]) -> &[u8]
     text_rows::word_for(s, 8, 17, 21, 0)
 }
 
-pub fn superclass_count<'a>(s: &'a [u8], row: &'a [usize]) -> usize
-    requires { Scans s.now row.now }
-    ensures { (result ≡ length (declaration_by s.now).superclasses) × (result ≤ length s.now) }
+pub fn superclass_count(row: &Scanned) -> usize
+    ensures { (result ≡ length (declaration_by row.now.rest.now).superclasses) × (result ≤ length row.now.rest.now) }
 {
-    text_rows::count_for(s, row, 10)
+    row.count_for(10)
 }
 
 pub fn superclass(s: &[u8], i: usize) -> &[u8]
@@ -76,11 +141,10 @@ pub fn superclass(s: &[u8], i: usize) -> &[u8]
     text_rows::word_for(s, 10, 10, 10, i)
 }
 
-pub fn interface_count<'a>(s: &'a [u8], row: &'a [usize]) -> usize
-    requires { Scans s.now row.now }
-    ensures { (result ≡ length (declaration_by s.now).interfaces) × (result ≤ length s.now) }
+pub fn interface_count(row: &Scanned) -> usize
+    ensures { (result ≡ length (declaration_by row.now.rest.now).interfaces) × (result ≤ length row.now.rest.now) }
 {
-    text_rows::count_for(s, row, 12) + text_rows::count_for(s, row, 19)
+    row.count_for(12) + row.count_for(19)
 }
 
 pub fn interface(s: &[u8], i: usize) -> &[u8]
@@ -90,22 +154,20 @@ pub fn interface(s: &[u8], i: usize) -> &[u8]
 }
 
 // Parent i, the superclasses first.
-pub fn parent<'a>(s: &'a [u8], row: &'a [usize], i: usize) -> &'a [u8]
-    requires { Scans s.now row.now }
-    ensures { result.now ≡ get_or (parent_names (declaration_by s.now)) i [] }
+pub fn parent<'a>(row: &Scanned<'a>, i: usize) -> &'a [u8]
+    ensures { result.now ≡ get_or (parent_names (declaration_by row.now.rest.now)) i [] }
 {
-    let n = superclass_count(s, row);
+    let n = superclass_count(row);
     if i < n {
-        return superclass(s, i);
+        return superclass(row.rest, i);
     }
-    interface(s, i - n)
+    interface(row.rest, i - n)
 }
 
-pub fn attribute_count<'a>(s: &'a [u8], row: &'a [usize]) -> usize
-    requires { Scans s.now row.now }
-    ensures { (result ≡ length (declaration_by s.now).attribute_types) × (result ≤ length s.now) }
+pub fn attribute_count(row: &Scanned) -> usize
+    ensures { (result ≡ length (declaration_by row.now.rest.now).attribute_types) × (result ≤ length row.now.rest.now) }
 {
-    text_rows::count_for(s, row, 14)
+    row.count_for(14)
 }
 
 pub fn attribute_type(s: &[u8], i: usize) -> &[u8]
@@ -120,11 +182,10 @@ pub fn attribute_name(s: &[u8], i: usize) -> &[u8]
     text_rows::word_for(s, 15, 15, 15, i)
 }
 
-pub fn constant_count<'a>(s: &'a [u8], row: &'a [usize]) -> usize
-    requires { Scans s.now row.now }
-    ensures { (result ≡ length (declaration_by s.now).constants) × (result ≤ length s.now) }
+pub fn constant_count(row: &Scanned) -> usize
+    ensures { (result ≡ length (declaration_by row.now.rest.now).constants) × (result ≤ length row.now.rest.now) }
 {
-    text_rows::count_for(s, row, 23)
+    row.count_for(23)
 }
 
 pub fn constant(s: &[u8], i: usize) -> &[u8]
@@ -135,67 +196,53 @@ pub fn constant(s: &[u8], i: usize) -> &[u8]
 
 // ---- associations
 
-pub fn arrow<'a>(s: &'a [u8], row: &'a [usize]) -> u8
-    requires { Scans s.now row.now }
-    ensures { (result ≡ (declaration_by s.now).arrow) × (result ≤ 4) }
+// The numbers of arrows are the file's; 0 where there is none.
+pub fn arrow(row: &Scanned) -> u8
+    ensures { (result ≡ (declaration_by row.now.rest.now).arrow) × (result ≤ 4) }
 {
-    let c = text_rows::class_for(s, row, 35);
-    if c == 0 {
-        return 3;
+    let Some(class) = row.class_for(35) else {
+        return 0;
+    };
+    match class {
+        0 => 3,
+        1 => 1,
+        2 => 2,
+        3 => 4,
+        _ => 0,
     }
-    if c == 1 {
-        return 1;
-    }
-    if c == 2 {
-        return 2;
-    }
-    if c == 3 {
-        return 4;
-    }
-    0
 }
 
 // The type of an end.
-pub fn end_type<'a>(s: &'a [u8], row: &'a [usize], right: bool) -> &'a [u8]
-    requires { Scans s.now row.now }
-    ensures { result.now ≡ (end_on right (declaration_by s.now)).type }
+pub fn end_type<'a>(row: &Scanned<'a>, right: bool) -> &'a [u8]
+    ensures { result.now ≡ (end_on right (declaration_by row.now.rest.now)).type }
 {
     if right {
-        return text_rows::first_for(s, row, 39);
+        return row.first_for(39);
     }
-    text_rows::first_for(s, row, 31)
+    row.first_for(31)
 }
 
 // A role is written at the end.
-pub fn is_role_given<'a>(s: &'a [u8], row: &'a [usize], right: bool) -> bool
-    requires { Scans s.now row.now }
-    ensures { result ≡ role_given right (row_at s.now) }
+pub fn is_role_given(row: &Scanned, right: bool) -> bool
+    ensures { result ≡ role_given right (row_at row.now.rest.now) }
 {
     if right {
-        return text_rows::count_for(s, row, 37) != 0;
+        return row.count_for(37) != 0;
     }
-    text_rows::count_for(s, row, 33) != 0
+    row.count_for(33) != 0
 }
 
 // The role that is written, or else the type's name.
-pub fn role_word<'a>(s: &'a [u8], row: &'a [usize], right: bool) -> &'a [u8]
-    requires { Scans s.now row.now }
-    ensures { result.now ≡ role_word right (row_at s.now) }
+pub fn role_word<'a>(row: &Scanned<'a>, right: bool) -> &'a [u8]
+    ensures { result.now ≡ role_word right (row_at row.now.rest.now) }
 {
-    if is_role_given(s, row, right) {
+    if is_role_given(row, right) {
         if right {
-            return text_rows::first_for(s, row, 37);
+            return row.first_for(37);
         }
-        return text_rows::first_for(s, row, 33);
+        return row.first_for(33);
     }
-    end_type(s, row, right)
-}
-
-// The value of a digit; 0 for what stands before the digits.
-fn digit_of(b: u8) -> u8
-    ensures { result ≡ b - 48 }
-{
-    if b < 48 { 0 } else { b - 48 }
+    end_type(row, right)
 }
 
 // A digit behind digits of the value v, 101 where the value is above 100.
@@ -203,8 +250,8 @@ fn with_digit(v: u32, b: u8) -> u32
     requires { v ≤ 101 }
     ensures { result ≡ min (v * 10 + (b - 48)) 101 }
 {
-    let more = v * 10 + (digit_of(b) as u32);
-    if more < 101 { more } else { 101 }
+    let more = v * 10 + u32::from(b.saturating_sub(48));
+    more.min(101)
 }
 
 // The value of a run of digits, 101 where it is above 100.
@@ -212,43 +259,40 @@ fn value_of(w: &[u8]) -> u8
     ensures { result ≡ min (value w.now) 101 }
 {
     let mut v: u32 = 0;
-    let mut i = 0;
-    while i < w.len() {
-        v = with_digit(v, w[i]);
-        i += 1;
+    for b in w {
+        v = with_digit(v, *b);
     }
     v as u8
 }
 
 // The limits of the end whose low integer, ".." and high integer lead to these states.
-fn limits_for<'a>(s: &'a [u8], row: &'a [usize], low: u8, dots: u8, up: u8) -> Limits
-    requires { Scans s.now row.now × ((low ≤ 46) × ((dots ≤ 46) × (up ≤ 46))) }
-    ensures { Capped (limits_in (words_for low low low (row_at s.now)) (passes dots (row_at s.now)) (words_for up up up (row_at s.now))) result }
+fn limits_for(row: &Scanned, low: u8, dots: u8, up: u8) -> Limits
+    requires { (low ≤ 46) × ((dots ≤ 46) × (up ≤ 46)) }
+    ensures { Capped (limits_in (words_for low low low (row_at row.now.rest.now)) (passes dots (row_at row.now.rest.now)) (words_for up up up (row_at row.now.rest.now))) result }
 {
-    if text_rows::count_for(s, row, low) == 0 {
+    if row.count_for(low) == 0 {
         return Limits { low: 0, up: 255 };
     }
-    let n = value_of(text_rows::first_for(s, row, low));
-    if text_rows::is_passed(s, row, dots) {
-        if text_rows::count_for(s, row, up) == 0 {
+    let n = value_of(row.first_for(low));
+    if row.is_passed(dots) {
+        if row.count_for(up) == 0 {
             return Limits { low: n, up: 255 };
         }
         return Limits {
             low: n,
-            up: value_of(text_rows::first_for(s, row, up)),
+            up: value_of(row.first_for(up)),
         };
     }
     Limits { low: n, up: n }
 }
 
-pub fn end_limits<'a>(s: &'a [u8], row: &'a [usize], right: bool) -> Limits
-    requires { Scans s.now row.now }
-    ensures { Capped (end_on right (declaration_by s.now)).limits result }
+pub fn end_limits(row: &Scanned, right: bool) -> Limits
+    ensures { Capped (end_on right (declaration_by row.now.rest.now)).limits result }
 {
     if right {
-        return limits_for(s, row, 41, 42, 43);
+        return limits_for(row, 41, 42, 43);
     }
-    limits_for(s, row, 27, 28, 29)
+    limits_for(row, 27, 28, 29)
 }
 
 // 01: "Low is 0 to 100; up is 0 to 100 and not below low".
@@ -259,9 +303,8 @@ fn is_forbidden(l: Limits) -> bool
 }
 
 // A cardinality of it is none that 01 allows.
-pub fn has_forbidden_end<'a>(s: &'a [u8], row: &'a [usize]) -> bool
-    requires { Scans s.now row.now }
-    ensures { result ≡ ends_forbidden (declaration_by s.now) }
+pub fn has_forbidden_end(row: &Scanned) -> bool
+    ensures { result ≡ ends_forbidden (declaration_by row.now.rest.now) }
 {
-    is_forbidden(end_limits(s, row, false)) | is_forbidden(end_limits(s, row, true))
+    is_forbidden(end_limits(row, false)) | is_forbidden(end_limits(row, true))
 }

@@ -1,36 +1,20 @@
--- Laws of `unblank` and `run`: the blanks at the front of a list, and the run of name bytes there, with one law for each step and
--- each way out of the loops that pass over them.
+-- Laws of `unblank` and `run`: the blanks at the front of a list, and the run of name bytes there.
 -- Assumes nothing.
-use Prim.Native.Nat.{ℕ, ◌+◌, ◌<◌, ◌≤◌}
+use Prim.Native.Nat.{ℕ, ◌+◌, ◌-◌, ◌<◌, ◌≤◌}
 use native.Mathlib.Omega.{arith}
 use mathlib.Core.Bool.{Bool, ◌&&◌, ◌||◌, cond, false, true}
 use mathlib.Core.List.{List, [], ◌∷◌}
 use mathlib.Core.Logic.{⊎_elim}
 use mathlib.Core.Path.{◌≡◌, ◌∙◌, ap, refl, sym}
 use lib.Dec.{eqb, leb}
-use lib.ListN.{drop, drop_of_length-le, get_or, length, take}
+use lib.ListN.{get_or, length, take}
 use Rattle.laws.specs.Connective.{both, either}
 use Rattle.laws.proofs.ConnectiveLaws.{and-is-both, either_left, either-right, or_cases}
-use Rattle.laws.proofs.ListLaws.{from_next}
 use Rattle.files.specs.Name.{name_byte}
 use Rattle.texts.specs.Token.{is_blank, run}
 use Rattle.text_rows.specs.Front.{unblank}
 
 -- ---- blanks
-
-pub unblank-next : (s : List ℕ) (i : ℕ) {r : Bool} → unblank s ≡ unblank (drop i s) → i < length s → r ≡ is_blank (get_or s i 0) → r ≡ true
-    → unblank s ≡ unblank (drop (i + 1) s)
-unfolding unblank
-unblank-next s i u h e t = u ∙ rw (from_next s i h, sym e ∙ t)
-
-pub unblank-stop : (s t : List ℕ) (i : ℕ) {r : Bool} → unblank s ≡ unblank (drop i s) → i < length s → r ≡ is_blank (get_or s i 0) → r ≡ false → t ≡ drop i s
-    → t ≡ unblank s
-unfolding unblank
-unblank-stop s t i u h e b q = q ∙ sym (u ∙ rw (from_next s i h, sym e ∙ b))
-
-pub unblank-end : (s t : List ℕ) (i : ℕ) → unblank s ≡ unblank (drop i s) → length s ≤ i → t ≡ drop i s → t ≡ unblank s
-unfolding unblank
-unblank-end s t i u h q = q ∙ sym (u ∙ rw (drop_of_length-le s h))
 
 unblank-twice : (s : List ℕ) → unblank (unblank s) ≡ unblank s
 unfolding unblank
@@ -52,6 +36,15 @@ unblank-most (x ∷ s) = go (unblank-most s) (is_blank x)
     go : length (unblank s) ≤ length s → (b : Bool) → length (cond b (unblank s) (x ∷ s)) ≤ length (x ∷ s)
     go h true = omega arith
     go h false = omega arith
+
+-- how many they are, by the first byte
+pub blanks-stop : (x : ℕ) (s : List ℕ) → is_blank x ≡ false → length (x ∷ s) - length (unblank (x ∷ s)) ≡ 0
+unfolding unblank
+blanks-stop x s e = rw e (omega arith)
+
+pub blanks-more : (x : ℕ) (s : List ℕ) → is_blank x ≡ true → length (x ∷ s) - length (unblank (x ∷ s)) ≡ length s - length (unblank s) + 1
+unfolding unblank
+blanks-more x s e = rw e (omega (arith, unblank-most s))
 
 -- where nothing is taken off, no blank stands at the front
 pub unblank-none : (x : ℕ) (s : List ℕ) → unblank (x ∷ s) ≡ x ∷ s → is_blank x ≡ false
@@ -76,23 +69,14 @@ name-letter b t =
     (λ e. either-right u (either l r) (either_left l r (sym (and-is-both (leb 97 b) (leb b 122)) ∙ e)))
     (or_cases (leb 65 b && leb b 90) (leb 97 b && leb b 122) t))
 
-pub run-begin : (s : List ℕ) → length (run s) ≡ 0 + length (run (drop 0 s))
-run-begin s = omega arith
-
-pub run-next : (s : List ℕ) (i : ℕ) {r : Bool} → length (run s) ≡ i + length (run (drop i s)) → i < length s → r ≡ name_byte (get_or s i 0) → r ≡ true
-    → length (run s) ≡ i + 1 + length (run (drop (i + 1) s))
+-- its length, by the first byte
+pub run-stop : (x : ℕ) (s : List ℕ) → name_byte x ≡ false → length (run (x ∷ s)) ≡ 0
 unfolding run
-run-next s i u h e t =
-    let q : length (run (drop i s)) ≡ length (get_or s i 0 ∷ run (drop (i + 1) s)) = rw (from_next s i h, sym e ∙ t) in omega arith
+run-stop x s e = rw e
 
-pub run-stop : (s : List ℕ) (i : ℕ) {r : Bool} → length (run s) ≡ i + length (run (drop i s)) → i < length s → r ≡ name_byte (get_or s i 0) → r ≡ false
-    → i ≡ length (run s)
+pub run-more : (x : ℕ) (s : List ℕ) → name_byte x ≡ true → length (run (x ∷ s)) ≡ length (run s) + 1
 unfolding run
-run-stop s i u h e t = let q : length (run (drop i s)) ≡ 0 = rw (from_next s i h, sym e ∙ t) in omega arith
-
-pub run_end : (s : List ℕ) (i : ℕ) → length (run s) ≡ i + length (run (drop i s)) → length s ≤ i → i ≡ length (run s)
-unfolding run
-run_end s i u h = let q : length (run (drop i s)) ≡ 0 = rw (drop_of_length-le s h) in omega arith
+run-more x s e = rw e (omega arith)
 
 -- a run is the front of the list
 pub run-front : (s : List ℕ) → run s ≡ take (length (run s)) s

@@ -10,6 +10,7 @@ use mathlib.Core.Path.{◌≡◌, ◌∙◌, ap, refl, sym}
 use lib.Dec.{eqb, leb, ltb}
 use lib.ListN.{get_or, length}
 use borrow.Author.Tests.{eq-eqb, leb-true, ne_eqb, not-true}
+use Rattle.std.specs.Prelude.{Option, Some, unwrap_or}
 use Rattle.laws.specs.Bounded.{all}
 use Rattle.laws.specs.Connective.{both, either}
 use Rattle.laws.specs.Order.{is_equal, order}
@@ -50,10 +51,10 @@ by_length {w} {n} l k t = only-one k (λ v. eqb (length v) n) t w (eq-eqb (lengt
 
 -- by the length and the first byte
 pub by_front : {w : List ℕ} {n : ℕ} → length w ≡ n → (x j k : ℕ) → only_one j (λ v. both (eqb (length v) n) (eqb x (get_or v 0 0))) ≡ true
-    → only_one k (λ v. both (eqb (length v) n) (not (eqb x (get_or v 0 0)))) ≡ true → {r : ℕ} → r ≡ cond (eqb x (get_or w 0 0)) j k → NoOther w r
-by_front {w} {n} l x j k s t {r} = go (eqb x (get_or w 0 0)) refl
+    → only_one k (λ v. both (eqb (length v) n) (not (eqb x (get_or v 0 0)))) ≡ true → {o : Option ℕ} → o ≡ cond (eqb x (get_or w 0 0)) (Some j) (Some k) → NoOther w (unwrap_or o 10)
+by_front {w} {n} l x j k s t {o} = go (eqb x (get_or w 0 0)) refl
   where
-    go : (b : Bool) → eqb x (get_or w 0 0) ≡ b → r ≡ cond b j k → NoOther w r
+    go : (b : Bool) → eqb x (get_or w 0 0) ≡ b → o ≡ cond b (Some j) (Some k) → NoOther w (unwrap_or o 10)
     go true e q =
         rw q (only-one j (λ v. both (eqb (length v) n) (eqb x (get_or v 0 0))) s w (both_of (eqb (length w) n) (eqb x (get_or w 0 0)) (eq-eqb (length w) n l) e))
     go false e q =

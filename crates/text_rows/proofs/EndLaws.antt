@@ -6,17 +6,19 @@ use native.Mathlib.Omega.{arith}
 use mathlib.Core.Bool.{Bool, cond, false, true}
 use mathlib.Core.List.{List, [], ◌∷◌}
 use mathlib.Core.Logic.{⊎_elim}
-use mathlib.Core.Path.{◌≡◌, ◌∙◌, ap, refl, sym}
+use mathlib.Core.Path.{◌≡◌, ◌∙◌, ap, refl, subst, sym}
 use lib.Dec.{eqb, leb}
 use lib.ListN.{drop, drop_of_length-le, length, length-drop}
 use lib.Seq.{drop-drop}
+use Rattle.std.specs.Borrow.{Bor}
+use Rattle.std.specs.Prelude.{Option, None, Some, unwrap_or}
 use borrow.Author.Tests.{eq-eqb, leb-false, leb-true, ne_eqb}
 use Rattle.laws.proofs.ConnectiveLaws.{known}
 use Rattle.texts.specs.Token.{is_blank, token_at, tokens}
 use Rattle.texts.specs.Table.{Symbol, onto, row_from, rows_from, symbol}
 use Rattle.text_rows.specs.declared.tokens.Front.{Front}
 use Rattle.text_rows.specs.Front.{unblank}
-use Rattle.text_rows.specs.RowAt.{RowEnd}
+use Rattle.text_rows.specs.RowAt.{RowEnd, RowEnds}
 use Rattle.text_rows.proofs.RowLaws.{Step, rest-tokens, row_on, to-next, tokens-on}
 use Rattle.text_rows.proofs.TokenLaws.{size-least, tokens-end, tokens-unblank}
 
@@ -29,7 +31,7 @@ pub record Behind (s t : List ℕ) : Type 0 where
 pub behind-drop : (s t u : List ℕ) (k : ℕ) → Behind s t → u ≡ drop k t → Behind s u
 behind-drop s t u k b e = record { count = b.count + k; is = e ∙ ap (drop k) b.is ∙ drop-drop k b.count s }
 
-unblank-behind : (s : List ℕ) → Behind s (unblank s)
+pub unblank-behind : (s : List ℕ) → Behind s (unblank s)
 unfolding unblank
 unblank-behind [] = record { count = 0; is = refl }
 unblank-behind (x ∷ s) = go (unblank-behind s) (is_blank x)
@@ -95,7 +97,7 @@ module _ {q₀ : ℕ} {s r : List ℕ} {f : Front} {q n : ℕ} (h : Step r f q n
       }
 
   -- the row ends behind the token
-  pub row_ends : n ≡ 3 → Behind s r → RowEnd q₀ s (length s - length p)
+  pub row_ends : n ≡ 3 → Behind s r → RowEnd q₀ s p
   row_ends t g =
       let b = behind-is s r g in
       let d = behind-is s p (behind-drop s r p f.size g past) in
@@ -104,22 +106,26 @@ module _ {q₀ : ℕ} {s r : List ℕ} {f : Front} {q n : ℕ} (h : Step r f q n
       let m = size-least r some in
       let z = h.is.size_is in
       let v = b.0 in
-      let w = d.0 in
       let e : row_from q (tokens r) ≡ symbol n (token_at r) ∷ [] = row_on h ∙ rw (eq-eqb n 3 t) in
       let a : rows_from q (tokens r) ≡ (symbol n (token_at r) ∷ []) ∷ rows_from 3 (tokens p) = rows_on ∙ rw (eq-eqb n 3 t, t, past) in
       record {
-        within = omega arith;
-        none_left = λ y. absurd (omega arith);
-        one_more = λ y. c.more (rows_from 3 (tokens (drop (length s - length p) s)))
-            (a ∙ rw (e, sym d.1));
+        shorter = omega arith;
+        is_end = d.1;
+        one_more = c.more (rows_from 3 (tokens p)) (a ∙ rw e);
+      }
+
+  pub ends-some : n ≡ 3 → Behind s r → (b : Bor (List ℕ)) → b.now ≡ p → RowEnds q₀ s (Some b)
+  ends-some t g b i =
+      record {
+        none_left = λ e. cc;
+        ends = λ (u : Bor (List ℕ)) e. subst (λ (x : List ℕ). RowEnd q₀ s x) (sym i ∙ ap (λ (o : Option (Bor (List ℕ))). (unwrap_or o b).now) e) (row_ends t g);
       }
 
 -- no row ends
-pub row_open : (q₀ : ℕ) (s r : List ℕ) (q : ℕ) → Continues q₀ s q r → length r ≤ 0 → RowEnd q₀ s 0
+pub ends-none : (q₀ : ℕ) (s r : List ℕ) (q : ℕ) → Continues q₀ s q r → length r ≤ 0 → RowEnds q₀ s None
 unfolding rows_from
-row_open q₀ s r q c h =
+ends-none q₀ s r q c h =
     record {
-      within = omega arith;
       none_left = λ y. c.none (rw (tokens-end r h));
-      one_more = λ y. absurd (omega arith);
+      ends = λ t e. cc;
     }

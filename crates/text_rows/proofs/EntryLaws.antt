@@ -1,33 +1,30 @@
--- The numbers of one state, as symbols of a row are passed one by one: what they say with what the symbols that are left say is what
+-- What is known of one state, as symbols of a row are passed one by one: what it says with what the symbols that are left say is what
 -- the whole row says.
 -- Assumes nothing.
-use Prim.Native.Nat.{ℕ, ◌+◌, ◌≤◌}
-use native.Mathlib.Nat.{add-zero}
-use native.Mathlib.Omega.{arith}
-use mathlib.Core.Bool.{Bool, cond, false, true}
-use mathlib.Core.List.{List, [], ◌∷◌}
-use mathlib.Core.Path.{◌≡◌, ◌∙◌, ap, refl, sym}
-use lib.Dec.{eqb}
-use lib.ListN.{drop, get_or, length, take}
-use borrow.Author.Tests.{eqb-true, ne_eqb}
+use Rattle.std.specs.Prelude.{ℕ, ◌+◌, ◌≤◌, Bool, cond, false, true, List, [], ◌∷◌, ◌≡◌, eqb, drop, get_or, length, take, Option, None, Some, unwrap_or}
+use Rattle.std.specs.Bool.{then_some}
+use Rattle.std.specs.Option.{option_or}
+use Rattle.std.proofs.Common.{◌∙◌, ap, refl, sym, add-zero, arith}
 use Rattle.laws.specs.Bounded.{one}
-use Rattle.laws.specs.Connective.{both, either}
+use Rattle.laws.specs.Connective.{either}
 use Rattle.files.specs.Name.{Name}
 use Rattle.texts.specs.Token.{Token, class_of, mark, stray, word}
 use Rattle.texts.specs.Table.{Symbol, class_for, symbol, word_if, words_for}
-use Rattle.text_rows.specs.Noted.{is_word_class}
+use Rattle.text_rows.specs.Noted.{is_word_class, noted, unpassed, word_or}
+use Rattle.text_rows.specs.declared.Noted.{Noted}
+use Rattle.text_rows.specs.declared.Word.{Word}
 
--- class, count, start and size of state x in the text s, with the symbols that are left
-pub record Entry (s : List ℕ) (whole left : List Symbol) (x class count start size : ℕ) : Type 0 where
-  pub class-is : cond (eqb class 29) (class_for x left) class ≡ class_for x whole
-  pub count-is : count + length (words_for x x x left) ≡ length (words_for x x x whole)
-  pub word-is : cond (eqb count 0) (get_or (words_for x x x left) 0 []) (take size (drop start s)) ≡ get_or (words_for x x x whole) 0 []
-  pub none : count ≡ 0 → size ≡ 0
+-- what is known of state x in the text s, with the symbols that are left
+pub record Entry (s : List ℕ) (whole left : List Symbol) (x : ℕ) (n : Noted) : Type 0 where
+  pub class-is : unwrap_or n.class (class_for x left) ≡ class_for x whole
+  pub class-small : (c : ℕ) → n.class ≡ Some c → c ≤ 28
+  pub count-is : n.count + length (words_for x x x left) ≡ length (words_for x x x whole)
+  pub word-is : word_or s n.first (get_or (words_for x x x left) 0 []) ≡ get_or (words_for x x x whole) 0 []
 
 -- ---- no symbol is passed
 
-pub entry-begin : (s : List ℕ) (whole : List Symbol) (x : ℕ) → Entry s whole whole x 29 0 0 0
-entry-begin s whole x = record { class-is = refl; count-is = omega arith; word-is = refl; none = λ e. refl }
+pub entry-begin : (s : List ℕ) (whole : List Symbol) (x : ℕ) → Entry s whole whole x unpassed
+entry-begin s whole x = record { class-is = refl; class-small = λ c e. cc; count-is = omega arith; word-is = refl }
 
 -- ---- a symbol of another state is passed
 
@@ -36,17 +33,17 @@ word-not (word w) ws = refl
 word-not (mark i) ws = refl
 word-not (stray b) ws = refl
 
-module _ {s : List ℕ} {whole left : List Symbol} {x n class count start size : ℕ} {t : Token} where
-  pub entry_other : eqb n x ≡ false → Entry s whole (symbol n t ∷ left) x class count start size → Entry s whole left x class count start size
+module _ {s : List ℕ} {whole left : List Symbol} {x n : ℕ} {t : Token} {m : Noted} where
+  pub entry_other : eqb n x ≡ false → Entry s whole (symbol n t ∷ left) x m → Entry s whole left x m
   unfolding class_for words_for either
   entry_other d e =
       let c : class_for x (symbol n t ∷ left) ≡ class_for x left = rw d in
       let w : words_for x x x (symbol n t ∷ left) ≡ words_for x x x left = rw d (word-not t (words_for x x x left)) in
       record {
-        class-is = ap (λ (k : ℕ). cond (eqb class 29) k class) (sym c) ∙ e.class-is;
-        count-is = ap (λ (ws : List Name). count + length ws) (sym w) ∙ e.count-is;
-        word-is = ap (λ (ws : List Name). cond (eqb count 0) (get_or ws 0 []) (take size (drop start s))) (sym w) ∙ e.word-is;
-        none = e.none;
+        class-is = ap (λ (k : ℕ). unwrap_or m.class k) (sym c) ∙ e.class-is;
+        class-small = e.class-small;
+        count-is = ap (λ (ws : List Name). m.count + length ws) (sym w) ∙ e.count-is;
+        word-is = ap (λ (ws : List Name). word_or s m.first (get_or ws 0 [])) (sym w) ∙ e.word-is;
       }
 
 -- ---- a symbol of the state itself is passed
@@ -57,18 +54,15 @@ pub record Stands (s : List ℕ) (t : Token) (class at size : ℕ) : Type 0 wher
   pub class-small : class ≤ 28
   pub word-is : (ws : List Name) → word_if true t ws ≡ cond (is_word_class class) (take size (drop at s) ∷ ws) ws
 
-module _ {s : List ℕ} {whole left : List Symbol} {x n class count start size k at z : ℕ} {t : Token} where
-  pub entry-own : eqb n x ≡ true → Stands s t k at z → Entry s whole (symbol n t ∷ left) x class count start size
-      → Entry s whole left x (cond (eqb class 29) k class) (count + one (is_word_class k)) (cond (both (is_word_class k) (eqb count 0)) at start)
-      (cond (both (is_word_class k) (eqb count 0)) z size)
-  unfolding class_for words_for either both
+module _ {s : List ℕ} {whole left : List Symbol} {x n k at z : ℕ} {t : Token} {m : Noted} where
+  pub entry-own : eqb n x ≡ true → Stands s t k at z → Entry s whole (symbol n t ∷ left) x m → Entry s whole left x (noted m k at z)
+  unfolding class_for words_for either noted
   entry-own d h e =
       record {
-        class-is = classes (eqb class 29) refl (ap (λ (y : ℕ). cond (eqb class 29) y class) (sym c) ∙ e.class-is);
-        count-is = counts (is_word_class k) (ap (λ (ws : List Name). count + length ws) (sym w) ∙ e.count-is);
-        word-is = words (is_word_class k) (eqb count 0) refl
-            (ap (λ (ws : List Name). cond (eqb count 0) (get_or ws 0 []) (take size (drop start s))) (sym w) ∙ e.word-is);
-        none = nones (is_word_class k);
+        class-is = classes m.class (ap (λ (y : ℕ). unwrap_or m.class y) (sym c) ∙ e.class-is);
+        class-small = small m.class e.class-small;
+        count-is = counts (is_word_class k) (ap (λ (ws : List Name). m.count + length ws) (sym w) ∙ e.count-is);
+        word-is = words m.first (is_word_class k) (ap (λ (ws : List Name). word_or s m.first (get_or ws 0 [])) (sym w) ∙ e.word-is);
       }
     where
       rest : List Name
@@ -80,47 +74,36 @@ module _ {s : List ℕ} {whole left : List Symbol} {x n class count start size k
       w : words_for x x x (symbol n t ∷ left) ≡ cond (is_word_class k) (take z (drop at s) ∷ rest) rest
       w = rw d (h.word-is rest)
 
-      classes : (b : Bool) → eqb class 29 ≡ b → cond b k class ≡ class_for x whole
-          → cond (eqb (cond b k class) 29) (class_for x left) (cond b k class) ≡ class_for x whole
-      classes true q y = let m = h.class-small in rw (ne_eqb k 29 (λ f. absurd (omega arith))) y
-      classes false q y = rw q y
+      classes : (o : Option ℕ) → unwrap_or o k ≡ class_for x whole → unwrap_or (option_or o (Some k)) (class_for x left) ≡ class_for x whole
+      classes None y = y
+      classes (Some v) y = y
 
-      counts : (b : Bool) → count + length (cond b (take z (drop at s) ∷ rest) rest) ≡ length (words_for x x x whole)
-          → count + one b + length rest ≡ length (words_for x x x whole)
+      small : (o : Option ℕ) → ((c : ℕ) → o ≡ Some c → c ≤ 28) → (c : ℕ) → option_or o (Some k) ≡ Some c → c ≤ 28
+      small None f c e = let q : k ≡ c = ap (λ (p : Option ℕ). unwrap_or p k) e in let l = h.class-small in omega arith
+      small (Some v) f c e = f c e
+
+      counts : (b : Bool) → m.count + length (cond b (take z (drop at s) ∷ rest) rest) ≡ length (words_for x x x whole)
+          → m.count + one b + length rest ≡ length (words_for x x x whole)
       counts true y = omega arith
       counts false y = omega arith
 
-      words : (a b : Bool) → eqb count 0 ≡ b
-          → cond b (get_or (cond a (take z (drop at s) ∷ rest) rest) 0 []) (take size (drop start s)) ≡ get_or (words_for x x x whole) 0 []
-          → cond (eqb (count + one a) 0) (get_or rest 0 []) (take (cond (both a b) z size) (drop (cond (both a b) at start) s)) ≡ get_or (words_for x x x whole) 0 []
-      words true true q y = rw (ne_eqb (count + 1) 0 (λ f. absurd (omega arith))) y
-      words true false q y = rw (ne_eqb (count + 1) 0 (λ f. absurd (omega arith))) y
-      words false b q y = rw (add-zero count, q) y
-
-      nones : (a : Bool) → count + one a ≡ 0 → cond (both a (eqb count 0)) z size ≡ 0
-      nones true q = absurd (omega arith)
-      nones false q = e.none (omega arith)
+      words : (o : Option Word) (a : Bool) → word_or s o (get_or (cond a (take z (drop at s) ∷ rest) rest) 0 []) ≡ get_or (words_for x x x whole) 0 []
+          → word_or s (option_or o (then_some a (record { start = at; size = z }))) (get_or rest 0 []) ≡ get_or (words_for x x x whole) 0 []
+      words None true y = y
+      words None false y = y
+      words (Some v) a y = y
 
 -- ---- all symbols are passed
 
-module _ {s : List ℕ} {whole : List Symbol} {x class count start size : ℕ} (e : Entry s whole [] x class count start size) where
-  pub entry-class : class ≡ class_for x whole
+module _ {s : List ℕ} {whole : List Symbol} {x : ℕ} {n : Noted} (e : Entry s whole [] x n) where
+  pub entry-class : unwrap_or n.class 29 ≡ class_for x whole
   unfolding class_for
-  entry-class = go (eqb class 29) refl e.class-is
-    where
-      go : (b : Bool) → eqb class 29 ≡ b → cond b 29 class ≡ class_for x whole → class ≡ class_for x whole
-      go true q y = eqb-true class 29 q ∙ y
-      go false q y = y
+  entry-class = e.class-is
 
-  pub entry-count : count ≡ length (words_for x x x whole)
+  pub entry-count : n.count ≡ length (words_for x x x whole)
   unfolding words_for
-  entry-count = sym (add-zero count) ∙ e.count-is
+  entry-count = sym (add-zero n.count) ∙ e.count-is
 
-  pub entry-word : take size (drop start s) ≡ get_or (words_for x x x whole) 0 []
+  pub entry-word : word_or s n.first [] ≡ get_or (words_for x x x whole) 0 []
   unfolding words_for
-  entry-word = go (eqb count 0) refl e.word-is
-    where
-      go : (b : Bool) → eqb count 0 ≡ b → cond b [] (take size (drop start s)) ≡ get_or (words_for x x x whole) 0 []
-          → take size (drop start s) ≡ get_or (words_for x x x whole) 0 []
-      go true q y = rw (e.none (eqb-true count 0 q)) y
-      go false q y = y
+  entry-word = e.word-is

@@ -41,9 +41,9 @@ module _ (s : List ℕ) (n : ℕ) (l : n ≡ length (run s)) where
           size_is = rw t (j ∙ ap (λ (x : ℕ). length (get_or marks x [])) q);
         }
 
-    pub front-stray : (m : ℕ) → m ≡ mark_at s → 16 ≤ m → Fronts s (record { class = 28; size = 1 })
+    pub front-stray : 16 ≡ mark_at s → Fronts s (record { class = 28; size = 1 })
     unfolding class_of size
-    front-stray m q b =
+    front-stray q =
         let c : 16 ≤ mark_at s = omega arith in
         let t : token_at s ≡ stray (get_or s 0 0) = no_word ∙ rw (le-ltb (mark_at s) 16 c) in
         record {

@@ -13,4 +13,3 @@ pub mod BoundLaws
 pub mod NotedLaws
 pub mod EntryLaws
 pub mod ScanLaws
-pub mod ReadLaws

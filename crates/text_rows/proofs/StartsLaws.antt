@@ -1,19 +1,20 @@
 -- Which mark stands at the front of a list: by the first byte and, where that begins more than one, by those behind it.
 -- The statements over all marks are computed.
 -- Assumes nothing.
-use Prim.Native.Nat.{ℕ, ◌<◌, ◌≤◌, ◌+◌}
+use Prim.Native.Nat.{ℕ, ◌<◌, ◌+◌}
 use native.Mathlib.Omega.{arith}
 use mathlib.Core.Bool.{Bool, cond, false, true}
 use mathlib.Core.List.{List, [], ◌∷◌}
-use mathlib.Core.Path.{◌≡◌, ◌∙◌, ap, ap₂, refl, sym}
+use mathlib.Core.Path.{◌≡◌, ◌∙◌, ap, ap₂, refl, subst, sym}
 use lib.Dec.{eqb, ltb}
 use lib.ListN.{get_or, length}
 use borrow.Author.Tests.{eqb-true, ltb-true, ne_eqb}
+use Rattle.std.specs.Prelude.{Option, None, Some, unwrap_or}
 use Rattle.laws.specs.Bounded.{all, any, first}
 use Rattle.laws.specs.Connective.{either}
 use Rattle.laws.proofs.BoundedLaws.{all-at, any_none}
 use Rattle.laws.proofs.ConnectiveLaws.{true-false}
-use Rattle.laws.proofs.FirstLaws.{first-le, first-none}
+use Rattle.laws.proofs.FirstLaws.{first-none}
 use Rattle.texts.specs.Token.{mark_at, marks, starts}
 use Rattle.text_rows.proofs.AmongLaws.{Apart, among, among_any, apart_none}
 use Rattle.text_rows.proofs.MarkLaws.{mark-least}
@@ -96,39 +97,77 @@ front-is : (P : List ℕ → Type 0) (s : List ℕ) (b : ℕ) → 0 < length s �
 front-is P [] b h e f = absurd (omega arith)
 front-is P (x ∷ s) b h e f = rw e (f s)
 
+-- the number of an answer, 16 where there is none
+abbrev number : Option ℕ → ℕ
+number o = unwrap_or o 16
+
+number-cond : (b : Bool) (x y : Option ℕ) → number (cond b x y) ≡ cond b (number x) (number y)
+number-cond true x y = refl
+number-cond false x y = refl
+
+-- it is one of the sixteen
+abbrev Fits : Option ℕ → Type 0
+Fits o = (i : ℕ) → o ≡ Some i → i < 16
+
+fits-some : (k : ℕ) → k < 16 → Fits (Some k)
+fits-some k h i e = let q : k ≡ i = ap number e in omega arith
+
+fits-none : Fits None
+fits-none i e = cc
+
+fits-cond : (b : Bool) (x y : Option ℕ) → Fits x → Fits y → Fits (cond b x y)
+fits-cond true x y f g = f
+fits-cond false x y f g = g
+
 module _ (s : List ℕ) (h : 0 < length s) where
-  small : {r : ℕ} → r ≡ mark_at s → (r ≡ mark_at s) × (r ≤ 16)
-  unfolding mark_at
-  small e = let m = first-le (λ i. starts (get_or marks i []) s) 16 in (e, omega arith)
+  pub mark-less : get_or s 0 0 ≡ 0x3C → {t u r : Option ℕ} → t ≡ cond (eqb 0x3E (get_or s 2 0)) (Some 0) (Some 2) → u ≡ cond (eqb 0x3C (get_or s 1 0)) (Some 4) None
+      → r ≡ cond (eqb 0x2D (get_or s 1 0)) t u → (number r ≡ mark_at s) × Fits r
+  mark-less e {t} {u} p q z = (
+    ap number z ∙ number-cond (eqb 0x2D (get_or s 1 0)) t u
+        ∙ ap₂ (λ (x y : ℕ). cond (eqb 0x2D (get_or s 1 0)) x y) (ap number p ∙ number-cond (eqb 0x3E (get_or s 2 0)) (Some 0) (Some 2))
+        (ap number q ∙ number-cond (eqb 0x3C (get_or s 1 0)) (Some 4) None)
+        ∙ sym (front-is (λ s. mark_at s ≡ cond (eqb 0x2D (get_or s 1 0)) (cond (eqb 0x3E (get_or s 2 0)) 0 2) (cond (eqb 0x3C (get_or s 1 0)) 4 16)) s 0x3C h e after_less),
+    subst Fits (sym z)
+        (fits-cond (eqb 0x2D (get_or s 1 0)) t u (subst Fits (sym p) (fits-cond (eqb 0x3E (get_or s 2 0)) (Some 0) (Some 2) (fits-some 0 (omega arith)) (fits-some 2 (omega arith))))
+        (subst Fits (sym q) (fits-cond (eqb 0x3C (get_or s 1 0)) (Some 4) None (fits-some 4 (omega arith)) fits-none))),
+  )
 
-  pub mark-less : get_or s 0 0 ≡ 0x3C → {t u r : ℕ} → t ≡ cond (eqb 0x3E (get_or s 2 0)) 0 2 → u ≡ cond (eqb 0x3C (get_or s 1 0)) 4 16
-      → r ≡ cond (eqb 0x2D (get_or s 1 0)) t u → (r ≡ mark_at s) × (r ≤ 16)
-  mark-less e p q z =
-      small
-      (z ∙ ap₂ (λ (x y : ℕ). cond (eqb 0x2D (get_or s 1 0)) x y) p q
-      ∙ sym (front-is (λ s. mark_at s ≡ cond (eqb 0x2D (get_or s 1 0)) (cond (eqb 0x3E (get_or s 2 0)) 0 2) (cond (eqb 0x3C (get_or s 1 0)) 4 16)) s 0x3C h e after_less))
+  pub mark-dash : get_or s 0 0 ≡ 0x2D → {u r : Option ℕ} → u ≡ cond (eqb 0x2D (get_or s 1 0)) (Some 3) None → r ≡ cond (eqb 0x3E (get_or s 1 0)) (Some 1) u
+      → (number r ≡ mark_at s) × Fits r
+  mark-dash e {u} q z = (
+    ap number z ∙ number-cond (eqb 0x3E (get_or s 1 0)) (Some 1) u
+        ∙ ap (λ (x : ℕ). cond (eqb 0x3E (get_or s 1 0)) 1 x) (ap number q ∙ number-cond (eqb 0x2D (get_or s 1 0)) (Some 3) None)
+        ∙ sym (front-is (λ s. mark_at s ≡ cond (eqb 0x3E (get_or s 1 0)) 1 (cond (eqb 0x2D (get_or s 1 0)) 3 16)) s 0x2D h e after-dash),
+    subst Fits (sym z)
+        (fits-cond (eqb 0x3E (get_or s 1 0)) (Some 1) u (fits-some 1 (omega arith))
+        (subst Fits (sym q) (fits-cond (eqb 0x2D (get_or s 1 0)) (Some 3) None (fits-some 3 (omega arith)) fits-none))),
+  )
 
-  pub mark-dash : get_or s 0 0 ≡ 0x2D → {u r : ℕ} → u ≡ cond (eqb 0x2D (get_or s 1 0)) 3 16 → r ≡ cond (eqb 0x3E (get_or s 1 0)) 1 u → (r ≡ mark_at s) × (r ≤ 16)
-  mark-dash e q z =
-      small
-      (z ∙ ap (λ (x : ℕ). cond (eqb 0x3E (get_or s 1 0)) 1 x) q
-      ∙ sym (front-is (λ s. mark_at s ≡ cond (eqb 0x3E (get_or s 1 0)) 1 (cond (eqb 0x2D (get_or s 1 0)) 3 16)) s 0x2D h e after-dash))
+  -- one mark, if the next byte is its second
+  one_mark : (b x k : ℕ) → k < 16 → get_or s 0 0 ≡ b → ((t : List ℕ) → mark_at (b ∷ t) ≡ cond (eqb x (get_or t 0 0)) k 16) → {r : Option ℕ}
+      → r ≡ cond (eqb x (get_or s 1 0)) (Some k) None → (number r ≡ mark_at s) × Fits r
+  one_mark b x k l e after z = (
+    ap number z ∙ number-cond (eqb x (get_or s 1 0)) (Some k) None ∙ sym (front-is (λ s. mark_at s ≡ cond (eqb x (get_or s 1 0)) k 16) s b h e after),
+    subst Fits (sym z) (fits-cond (eqb x (get_or s 1 0)) (Some k) None (fits-some k l) fits-none),
+  )
 
-  pub mark-greater : get_or s 0 0 ≡ 0x3E → {r : ℕ} → r ≡ cond (eqb 0x3E (get_or s 1 0)) 5 16 → (r ≡ mark_at s) × (r ≤ 16)
-  mark-greater e z = small (z ∙ sym (front-is (λ s. mark_at s ≡ cond (eqb 0x3E (get_or s 1 0)) 5 16) s 0x3E h e after-greater))
+  pub mark-greater : get_or s 0 0 ≡ 0x3E → {r : Option ℕ} → r ≡ cond (eqb 0x3E (get_or s 1 0)) (Some 5) None → (number r ≡ mark_at s) × Fits r
+  mark-greater e z = one_mark 0x3E 0x3E 5 (omega arith) e after-greater z
 
-  pub mark-dot : get_or s 0 0 ≡ 0x2E → {r : ℕ} → r ≡ cond (eqb 0x2E (get_or s 1 0)) 6 16 → (r ≡ mark_at s) × (r ≤ 16)
-  mark-dot e z = small (z ∙ sym (front-is (λ s. mark_at s ≡ cond (eqb 0x2E (get_or s 1 0)) 6 16) s 0x2E h e after-dot))
+  pub mark-dot : get_or s 0 0 ≡ 0x2E → {r : Option ℕ} → r ≡ cond (eqb 0x2E (get_or s 1 0)) (Some 6) None → (number r ≡ mark_at s) × Fits r
+  mark-dot e z = one_mark 0x2E 0x2E 6 (omega arith) e after-dot z
 
-  pub mark-alone : (i : ℕ) → ltb i 9 ≡ true → get_or s 0 0 ≡ get_or (get_or marks (7 + i) []) 0 0 → (7 + i ≡ mark_at s) × (7 + i ≤ 16)
+  pub mark-alone : (i : ℕ) → ltb i 9 ≡ true → get_or s 0 0 ≡ get_or (get_or marks (7 + i) []) 0 0 → (number (Some (7 + i)) ≡ mark_at s) × Fits (Some (7 + i))
   mark-alone i b e =
-      small
-      (front-is (λ s. 7 + i ≡ mark_at s) s (get_or (get_or marks (7 + i) []) 0 0) h e
-      (λ t.
-      eqb-true (7 + i) (mark_at (get_or (get_or marks (7 + i) []) 0 0 ∷ t))
-      (all-at (λ i. eqb (7 + i) (mark_at (get_or (get_or marks (7 + i) []) 0 0 ∷ t))) 9 (all-alone t) i (ltb-true i 9 b))))
+      let l = ltb-true i 9 b in (
+        front-is (λ s. 7 + i ≡ mark_at s) s (get_or (get_or marks (7 + i) []) 0 0) h e
+            (λ t.
+            eqb-true (7 + i) (mark_at (get_or (get_or marks (7 + i) []) 0 0 ∷ t))
+            (all-at (λ i. eqb (7 + i) (mark_at (get_or (get_or marks (7 + i) []) 0 0 ∷ t))) 9 (all-alone t) i l)),
+        fits-some (7 + i) (omega arith),
+      )
 
-  pub mark-none : Apart Unit (get_or s 0 0) begins → (16 ≡ mark_at s) × (16 ≤ 16)
+  pub mark-none : Apart Unit (get_or s 0 0) begins → (number None ≡ mark_at s) × Fits None
   unfolding mark_at
   mark-none a = (
     sym
@@ -139,5 +178,5 @@ module _ (s : List ℕ) (h : 0 < length s) where
         (λ e.
         true-false (ap (λ (x : ℕ). among_any x begins) (sym e) ∙ all-at (λ i. among_any (get_or (get_or marks i []) 0 0) begins) 16 all-begin i l)
         (apart_none (get_or s 0 0) begins a))))),
-    omega arith,
+    fits-none,
   )

@@ -1,4 +1,4 @@
--- A word's class by the one known word that it can be, with one law for each way out of the code.
+-- A word's class by the one known word that it can be, as the code tells it.
 -- Assumes nothing.
 use Prim.Native.Nat.{ℕ, ◌+◌, ◌<◌, ◌≤◌}
 use native.Mathlib.Omega.{arith}
@@ -9,6 +9,8 @@ use mathlib.Core.Path.{◌≡◌, ◌∙◌, ap, refl, sym}
 use lib.Dec.{eqb, ltb}
 use lib.ListN.{get_or}
 use borrow.Author.Tests.{eq-eqb, eqb-true, lt-ltb, ltb-false, ltb-true, ne_eqb}
+use Rattle.std.specs.Prelude.{Option, Some, unwrap_or}
+use Rattle.std.specs.Bool.{then_some}
 use Rattle.laws.specs.Bounded.{any, first}
 use Rattle.laws.specs.Connective.{both}
 use Rattle.laws.proofs.BoundedLaws.{any_none}
@@ -84,11 +86,24 @@ module _ (w : List ℕ) (k : ℕ) (o : NoOther w k) {r : Bool} (q : r ≡ both (
         let h : 9 < 10 = omega arith in
         class-unquoted w (quoted-none w (λ i j. none i (omega arith))) ∙ ap (λ (b : Bool). cond b 25 (cond (is_integer w) 26 27)) (none 9 h)
 
-    pub class-integer : {d : Bool} → d ≡ is_integer w → d ≡ true → 26 ≡ word_class w
-    class-integer i t = sym (unknown ∙ rw (sym i ∙ t))
+  -- as the code tells it
+  pub class-asked : unwrap_or (then_some r (16 + k)) (cond (is_integer w) 26 27) ≡ word_class w
+  class-asked = go r refl
+    where
+      go : (b : Bool) → r ≡ b → unwrap_or (then_some b (16 + k)) (cond (is_integer w) 26 27) ≡ word_class w
+      go true t = (class-known t).0
+      go false t = sym (unknown t)
 
-    pub class-other : {d : Bool} → d ≡ is_integer w → d ≡ false → 27 ≡ word_class w
-    class-other i t = sym (unknown ∙ rw (sym i ∙ t))
+  pub class-asked-most : (c : ℕ) → then_some r (16 + k) ≡ Some c → c ≤ 27
+  class-asked-most c = go r
+    where
+      go : (b : Bool) → then_some b (16 + k) ≡ Some c → c ≤ 27
+      go true e = let i : 16 + k ≡ c = ap (λ (p : Option ℕ). unwrap_or p c) e in let s = o.small in omega arith
+      go false e = cc
+
+pub class-unknown : (w : List ℕ) → NoOther w 10 → cond (is_integer w) 26 27 ≡ word_class w
+unfolding both
+class-unknown w o = sym (unknown w 10 o {r = false} refl refl)
 
 pub class-least : (w : List ℕ) → 16 ≤ word_class w
 unfolding word_class

@@ -1,4 +1,4 @@
 pub mod Front
 pub mod RowAt
-pub mod Scan
 pub mod Noted
+pub mod Scan

@@ -1,20 +1,32 @@
--- The numbers of a scanned row (Scan.antt) once one token more is passed.
+-- What is known of the tokens that lead to a state, once one token more is passed.
 -- Assumes nothing.
-use Rattle.std.specs.Prelude.{◌+◌, ℕ, Bool, cond, List, eqb, leb, get_or, set}
+use Rattle.std.specs.Prelude.{◌+◌, ℕ, Bool, List, leb, drop, take, Option, None, Some}
+use Rattle.std.specs.Bool.{then_some}
+use Rattle.std.specs.Option.{option_or}
 use Rattle.laws.specs.Bounded.{one}
 use Rattle.laws.specs.Connective.{both}
+use Rattle.text_rows.specs.declared.Noted.{Noted}
+use Rattle.text_rows.specs.declared.Word.{Word}
 
 -- a word: class 16 to 27
 abbrev pub is_word_class : ℕ → Bool
 is_word_class c = both (leb 16 c) (leb c 27)
 
--- A token of that class leads to state q; it starts at that byte and is of so many bytes. Its class stays where it is the first that
--- leads there, its start and size where it is the first word.
-unfoldable pub noted : List ℕ → ℕ → ℕ → ℕ → ℕ → List ℕ
-noted row q class at size =
-    let first = both (is_word_class class) (eqb (get_or row (47 + q) 0) 0) in
-    set
-    (set
-    (set (set row q (cond (eqb (get_or row q 0) 29) class (get_or row q 0))) (47 + q) (get_or row (47 + q) 0 + one (is_word_class class)))
-    (94 + q) (cond first at (get_or row (94 + q) 0)))
-    (141 + q) (cond first size (get_or row (141 + q) 0))
+-- the bytes of a word in s, or those of another where there is none
+abbrev pub word_or : List ℕ → Option Word → List ℕ → List ℕ
+word_or s None other = other
+word_or s (Some w) other = take w.size (drop w.start s)
+
+-- no token leads there
+abbrev pub unpassed : Noted
+unpassed = record { class = None; count = 0; first = None }
+
+-- A token of that class leads there; it starts at that byte and is of so many bytes. The class stays where it is the first that
+-- leads there, the word where it is the first word.
+unfoldable pub noted : Noted → ℕ → ℕ → ℕ → Noted
+noted n class at size =
+    record {
+      class = option_or n.class (Some class);
+      count = n.count + one (is_word_class class);
+      first = option_or n.first (then_some (is_word_class class) (record { start = at; size = size }));
+    }

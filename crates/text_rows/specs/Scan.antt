@@ -1,13 +1,16 @@
 -- What one walk over the row at the front of a text tells of each state of the table.
 -- Assumes nothing.
-use Rattle.std.specs.Prelude.{◌+◌, ◌≤◌, ℕ, List, [], ◌≡◌, drop, get_or, length, take}
+use Rattle.std.specs.Prelude.{◌≤◌, ℕ, List, [], ◌≡◌, get_or, length, Some, unwrap_or}
 use Rattle.texts.specs.Table.{class_for, words_for}
+use Rattle.text_rows.specs.Noted.{unpassed, word_or}
 use Rattle.text_rows.specs.RowAt.{row_at}
+use Rattle.text_rows.specs.declared.Noted.{Noted}
 
--- Four columns of 47 numbers, one for each state: the class of the first token that leads to it, or 29; how many words lead to it;
--- where the first of these words starts; how many bytes it has, 0 where there is none.
-pub record Scans (s row : List ℕ) : Type 0 where
-  pub size_is : length row ≡ 188
-  pub class-is : (q : ℕ) → q ≤ 46 → get_or row q 0 ≡ class_for q (row_at s)
-  pub count-is : (q : ℕ) → q ≤ 46 → get_or row (47 + q) 0 ≡ length (words_for q q q (row_at s))
-  pub word-is : (q : ℕ) → q ≤ 46 → take (get_or row (141 + q) 0) (drop (get_or row (94 + q) 0) s) ≡ get_or (words_for q q q (row_at s)) 0 []
+-- For each of the 47 states the class of the first token that leads to it, or 29; how many words lead to it; the first of these
+-- words, no bytes where there is none.
+pub record Scans (s : List ℕ) (states : List Noted) : Type 0 where
+  pub size_is : length states ≡ 47
+  pub class-is : (q : ℕ) → q ≤ 46 → unwrap_or (get_or states q unpassed).class 29 ≡ class_for q (row_at s)
+  pub class-small : (q : ℕ) → q ≤ 46 → (c : ℕ) → (get_or states q unpassed).class ≡ Some c → c ≤ 28
+  pub count-is : (q : ℕ) → q ≤ 46 → (get_or states q unpassed).count ≡ length (words_for q q q (row_at s))
+  pub word-is : (q : ℕ) → q ≤ 46 → word_or s (get_or states q unpassed).first [] ≡ get_or (words_for q q q (row_at s)) 0 []

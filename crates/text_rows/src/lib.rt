@@ -1,17 +1,19 @@
 // The rows of a text by the table of the grammar, read by a cursor: the unread rest of the text and a state.
 #![tactic(auto)]
 
-ghost use Rattle.std.specs.Prelude.{◌≡◌, cond, not, [], ◌+◌, ◌-◌, ◌<◌, ◌≤◌, ℕ, eqb, ltb, drop, get_or, length, take};
+ghost use Rattle.std.specs.Prelude.{◌≡◌, ℕ, not, [], ◌+◌, ◌≤◌, eqb, get_or, length, unwrap_or};
 ghost use Rattle.laws.specs.Bounded.{one};
 ghost use Rattle.laws.specs.Connective.{both, either};
 ghost use Rattle.texts.specs.Token.{tokens};
 ghost use Rattle.texts.specs.Table.{accepts, class_for, has_long_from, passes, words_for};
-ghost use Rattle.text_rows.specs.RowAt.{RowEnd, row_at};
+ghost use Rattle.text_rows.specs.RowAt.{RowEnds, row_at};
 ghost use Rattle.text_rows.specs.Scan.{Scans};
-ghost use Rattle.text_rows.specs.Noted.{is_word_class, noted};
+ghost use Rattle.text_rows.specs.Noted.{is_word_class, noted, word_or};
 
 mod table; // table.rt: the state that a token leads to
 mod tokens; // tokens.rt: the word or mark at the front
+
+// ---- words
 
 // Where a word starts, and of how many bytes it is.
 #[derive(Clone, Copy)]
@@ -20,28 +22,14 @@ pub struct Word {
     pub size: usize,
 }
 
-// ---- numbers by a test
-
-// 1 for true, 0 for false.
-fn number_of(b: bool) -> usize
-    ensures { (result ≡ one b) × (result ≤ 1) }
+// The bytes of a word in s; no bytes where there is none.
+pub fn word_of(s: &[u8], word: Option<Word>) -> &[u8]
+    ensures { result.now ≡ word_or s.now word [] }
 {
-    if b { 1 } else { 0 }
-}
-
-// x for true, y for false.
-fn chosen(b: bool, x: usize, y: usize) -> usize
-    ensures { result ≡ cond b x y }
-{
-    if b { x } else { y }
-}
-
-// n, less 1 for true where it is not 0.
-fn counted_down(n: usize, b: bool) -> usize
-    ensures { result ≡ n - one b }
-{
-    let k = number_of(b);
-    if k <= n { n - k } else { 0 }
+    match word {
+        Some(w) => laws::front(laws::past(s, w.start), w.size),
+        None => &[],
+    }
 }
 
 // ---- the whole text
@@ -67,10 +55,10 @@ pub fn is_accepted(text: &[u8]) -> bool
 
 // ---- one row
 
-// How many bytes the row from state q takes, up to the token that leads to state 3; 0 where none does.
-pub fn row_end(s: &[u8], q: u8) -> usize
+// What stands behind the row from state q: behind the token that leads to state 3, if one does.
+pub fn row_end(s: &[u8], q: u8) -> Option<&[u8]>
     requires { q ≤ 46 }
-    ensures { RowEnd q s.now result }
+    ensures { RowEnds q s.now result }
 {
     let mut rest = tokens::unblanked(s);
     let mut state = q;
@@ -79,106 +67,130 @@ pub fn row_end(s: &[u8], q: u8) -> usize
         let n = table::next_state(state, f.class);
         let after = laws::past(rest, f.size);
         if n == 3 {
-            return s.len() - after.len();
+            return Some(after);
         }
         let next = tokens::unblanked(after);
         rest = next;
         state = n;
     }
-    0
+    None
 }
 
 // ---- what one walk over a row tells of each state
 
-// 29 as the class of each state, 0 as its other numbers.
-fn clear(row: &mut [usize])
-    requires { length row.old ≡ 188 }
-    ensures { (length row.new ≡ 188) × ((i : ℕ) → i < 188 → get_or row.new i 0 ≡ cond (ltb i 47) 29 0) }
-{
-    let mut i = 0;
-    while i < 47 {
-        row[i] = 29;
-        i += 1;
-    }
-    while i < 188 {
-        row[i] = 0;
-        i += 1;
+// Of the tokens that lead to a state the class of the first, how many are words, and the first of these.
+#[derive(Clone, Copy)]
+pub(crate) struct Noted {
+    class: Option<u8>,
+    count: usize,
+    first: Option<Word>,
+}
+
+// No token leads there.
+const UNPASSED: Noted = Noted {
+    class: None,
+    count: 0,
+    first: None,
+};
+
+impl Noted {
+    // With one more token of that class, at that byte and of so many bytes.
+    fn with_token(self, class: u8, at: usize, size: usize) -> Noted
+        requires { self.count + one (is_word_class class) ≤ 0xFFFFFFFFFFFFFFFF }
+        ensures { result ≡ noted self class at size }
+    {
+        let word = (16 <= class) & (class <= 27);
+        Noted {
+            class: self.class.or(Some(class)),
+            count: self.count + usize::from(word),
+            first: self.first.or(word.then_some(Word { start: at, size })),
+        }
     }
 }
 
-// A token of that class, at that byte and of so many bytes, leads to the state q.
-fn note_token(row: &mut [usize], q: u8, class: u8, at: usize, size: usize)
-    requires { (length row.old ≡ 188) × ((q ≤ 46) × (get_or row.old (47 + q) 0 + one (is_word_class class) ≤ 0xFFFFFFFFFFFFFFFF)) }
-    ensures { row.new ≡ noted row.old q class at size }
-{
-    let k = laws::wide(q);
-    let known = row[k];
-    let count = row[47 + k];
-    let start = row[94 + k];
-    let bytes = row[141 + k];
-    let word = (16 <= class) & (class <= 27);
-    let first = word & (count == 0);
-    row[k] = chosen(known == 29, laws::wide(class), known);
-    row[47 + k] = count + number_of(word);
-    row[94 + k] = chosen(first, at, start);
-    row[141 + k] = chosen(first, size, bytes);
+// What is left of a text, what is known of each state of the row at its front, and what stands behind that row, if it ends.
+#[derive(Drop)]
+pub struct Scanned<'a> {
+    pub rest: &'a [u8],
+    states: [Noted; 47],
+    after: Option<&'a [u8]>,
+    ghost scans: { Scans rest.now states },
+    ghost ends: { RowEnds 3 rest.now after },
 }
 
-// One walk over the row at the front: what it tells of each state, and how many bytes the row takes, as of row_end.
-pub fn scan_row(s: &[u8], row: &mut [usize]) -> usize
-    requires { length row.old ≡ 188 }
-    ensures { RowEnd 3 s.now result × Scans s.now row.new }
+// One walk over the row at the front.
+pub fn scan_row<'a>(s: &'a [u8]) -> Scanned<'a>
+    ensures { result.rest.now ≡ s.now }
 {
-    clear(row);
+    let mut states = [UNPASSED; 47];
     let mut rest = tokens::unblanked(s);
     let mut state: u8 = 3;
     while 0 < rest.len() {
         let f = tokens::token_at(rest);
         let n = table::next_state(state, f.class);
         let at = s.len() - rest.len();
-        note_token(row, n, f.class, at, f.size);
+        let k = usize::from(n);
+        let known = states[k];
+        states[k] = known.with_token(f.class, at, f.size);
         let after = laws::past(rest, f.size);
         if n == 3 {
-            return s.len() - after.len();
+            return Scanned {
+                rest: s,
+                states,
+                after: Some(after),
+            };
         }
         let next = tokens::unblanked(after);
         rest = next;
         state = n;
     }
-    0
+    Scanned {
+        rest: s,
+        states,
+        after: None,
+    }
 }
 
-// The class of the first token of the row that leads to the state q, or 29.
-pub fn class_for<'a>(s: &'a [u8], row: &'a [usize], q: u8) -> u8
-    requires { Scans s.now row.now × (q ≤ 46) }
-    ensures { (result ≡ class_for q (row_at s.now)) × (result ≤ 29) }
-{
-    row[laws::wide(q)] as u8
-}
+impl<'a> Scanned<'a> {
+    // What stands behind the row, if it ends.
+    pub fn after(&self) -> Option<&'a [u8]>
+        ensures { RowEnds 3 self.now.rest.now result }
+    {
+        self.after
+    }
 
-// Some token of the row leads to q.
-pub fn is_passed<'a>(s: &'a [u8], row: &'a [usize], q: u8) -> bool
-    requires { Scans s.now row.now × (q ≤ 46) }
-    ensures { result ≡ passes q (row_at s.now) }
-{
-    class_for(s, row, q) < 29
-}
+    // The class of the first token of the row that leads to the state q.
+    pub fn class_for(&self, q: u8) -> Option<u8>
+        requires { q ≤ 46 }
+        ensures { (unwrap_or result 29 ≡ class_for q (row_at self.now.rest.now)) × ((c : ℕ) → result ≡ Some c → c ≤ 28) }
+    {
+        self.states[usize::from(q)].class
+    }
 
-// How many words of the row lead to q.
-pub fn count_for<'a>(s: &'a [u8], row: &'a [usize], q: u8) -> usize
-    requires { Scans s.now row.now × (q ≤ 46) }
-    ensures { (result ≡ length (words_for q q q (row_at s.now))) × (result ≤ length s.now) }
-{
-    row[47 + laws::wide(q)]
-}
+    // Some token of the row leads to q.
+    pub fn is_passed(&self, q: u8) -> bool
+        requires { q ≤ 46 }
+        ensures { result ≡ passes q (row_at self.now.rest.now) }
+    {
+        let class = self.states[usize::from(q)].class;
+        class.is_some()
+    }
 
-// The first of these; no bytes where there is none.
-pub fn first_for<'a>(s: &'a [u8], row: &'a [usize], q: u8) -> &'a [u8]
-    requires { Scans s.now row.now × (q ≤ 46) }
-    ensures { result.now ≡ get_or (words_for q q q (row_at s.now)) 0 [] }
-{
-    let k = laws::wide(q);
-    laws::front(laws::past(s, row[94 + k]), row[141 + k])
+    // How many words of the row lead to q.
+    pub fn count_for(&self, q: u8) -> usize
+        requires { q ≤ 46 }
+        ensures { (result ≡ length (words_for q q q (row_at self.now.rest.now))) × (result ≤ length self.now.rest.now) }
+    {
+        self.states[usize::from(q)].count
+    }
+
+    // The first of these; no bytes where there is none.
+    pub fn first_for(&self, q: u8) -> &'a [u8]
+        requires { q ≤ 46 }
+        ensures { result.now ≡ get_or (words_for q q q (row_at self.now.rest.now)) 0 [] }
+    {
+        word_of(self.rest, self.states[usize::from(q)].first)
+    }
 }
 
 // ---- words for one of three states
@@ -190,9 +202,9 @@ fn is_wanted(q: u8, class: u8, a: u8, b: u8, c: u8) -> bool
     ((q == a) | ((q == b) | (q == c))) & ((16 <= class) & (class <= 27))
 }
 
-// Where word i of those that lead to one of three states stands; no bytes where there is none.
-pub fn word_at(s: &[u8], a: u8, b: u8, c: u8, i: usize) -> Word
-    ensures { take result.size (drop result.start s.now) ≡ get_or (words_for a b c (row_at s.now)) i [] }
+// Where word i of those that lead to one of three states stands, if there is one.
+pub fn word_at(s: &[u8], a: u8, b: u8, c: u8, i: usize) -> Option<Word>
+    ensures { word_or s.now result [] ≡ get_or (words_for a b c (row_at s.now)) i [] }
 {
     let mut rest = tokens::unblanked(s);
     let mut state: u8 = 3;
@@ -203,26 +215,25 @@ pub fn word_at(s: &[u8], a: u8, b: u8, c: u8, i: usize) -> Word
         let wanted = is_wanted(n, f.class, a, b, c);
         if wanted & (left == 0) {
             let start = s.len() - rest.len();
-            return Word {
+            return Some(Word {
                 start,
                 size: f.size,
-            };
+            });
         }
-        left = counted_down(left, wanted);
+        left = left.saturating_sub(usize::from(wanted));
         if n == 3 {
-            return Word { start: 0, size: 0 };
+            return None;
         }
         let after = tokens::unblanked(laws::past(rest, f.size));
         rest = after;
         state = n;
     }
-    Word { start: 0, size: 0 }
+    None
 }
 
-// That word.
+// That word; no bytes where there is none.
 pub fn word_for(s: &[u8], a: u8, b: u8, c: u8, i: usize) -> &[u8]
     ensures { result.now ≡ get_or (words_for a b c (row_at s.now)) i [] }
 {
-    let w = word_at(s, a, b, c, i);
-    laws::front(laws::past(s, w.start), w.size)
+    word_of(s, word_at(s, a, b, c, i))
 }

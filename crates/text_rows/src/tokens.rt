@@ -1,19 +1,19 @@
 // The word or mark at the front of the unread rest of a text.
-ghost use Rattle.std.specs.Prelude.{◌≡◌, cond, [], ◌≤◌, ◌<◌, eqb, ltb, length, get_or};
+ghost use Rattle.std.specs.Prelude.{◌≡◌, ℕ, cond, [], ◌≤◌, ◌<◌, eqb, ltb, length, get_or, unwrap_or};
 ghost use Rattle.laws.specs.Connective.{both};
 ghost use Rattle.files.specs.Name.{name_byte};
-ghost use Rattle.texts.specs.Token.{is_blank, is_digit, is_integer, mark_at, marks, run, same_word, word_class};
+ghost use Rattle.texts.specs.Token.{is_blank, is_integer, mark_at, marks, run, same_word, word_class};
 ghost use Rattle.text_rows.specs.Front.{Fronts, NoOther, known_words, unblank};
 
-// Its class, and of how many bytes it is.
+// Its class, and of how many bytes it is. Classes and states are numbers: the table of the grammar goes by them.
 #[derive(Clone, Copy)]
 pub(crate) struct Front {
     pub class: u8,
     pub size: usize,
 }
 
-// One number where byte i is b, another where it is not.
-fn by_byte(s: &[u8], i: usize, b: u8, yes: u8, no: u8) -> u8
+// One answer where byte i is b, another where it is not.
+fn by_byte(s: &[u8], i: usize, b: u8, yes: Option<u8>, no: Option<u8>) -> Option<u8>
     ensures { result ≡ cond (eqb b (get_or s.now i 0)) yes no }
 {
     if b == laws::byte(s, i) { yes } else { no }
@@ -29,15 +29,8 @@ fn is_blank(b: u8) -> bool
 pub(crate) fn unblanked(s: &[u8]) -> &[u8]
     ensures { result.now ≡ unblank s.now }
 {
-    let mut i = 0;
-    while i < s.len() {
-        if is_blank(s[i]) {
-            i += 1;
-        } else {
-            return laws::past(s, i);
-        }
-    }
-    laws::past(s, i)
+    let blanks = s.iter().position(|b| !is_blank(*b)).unwrap_or(s.len());
+    laws::past(s, blanks)
 }
 
 // A byte of a name. Most are letters, and these are told first.
@@ -54,33 +47,25 @@ fn is_name_byte(b: u8) -> bool
 fn run_size(s: &[u8]) -> usize
     ensures { result ≡ length (run s.now) }
 {
-    let mut i = 0;
-    while i < s.len() {
-        if is_name_byte(s[i]) {
-            i += 1;
-        } else {
-            return i;
-        }
-    }
-    i
+    s.iter().position(|b| !is_name_byte(*b)).unwrap_or(s.len())
 }
 
 // ---- words
 
-// The only known word that w can be, by its length and, where two have that length, its first byte: its place among them, or 10.
-fn candidate(w: &[u8]) -> u8
-    ensures { NoOther w.now result }
+// The only known word that w can be, by its length and, where two have that length, its first byte: its place among them.
+fn candidate(w: &[u8]) -> Option<u8>
+    ensures { NoOther w.now (unwrap_or result 10) }
 {
     match w.len() {
-        4 => 5,
-        5 => 1,
-        7 => 2,
-        8 => 8,
-        9 => by_byte(w, 0, b'i', 4, 9),
-        10 => 3,
-        11 => by_byte(w, 0, b'a', 6, 7),
-        12 => 0,
-        _ => 10,
+        4 => Some(5),
+        5 => Some(1),
+        7 => Some(2),
+        8 => Some(8),
+        9 => by_byte(w, 0, b'i', Some(4), Some(9)),
+        10 => Some(3),
+        11 => by_byte(w, 0, b'a', Some(6), Some(7)),
+        12 => Some(0),
+        _ => None,
     }
 }
 
@@ -104,67 +89,63 @@ fn is_word(k: u8, w: &[u8]) -> bool
     }
 }
 
-fn is_digit(b: u8) -> bool
-    ensures { result ≡ is_digit b }
-{
-    (0x30 <= b) & (b <= 0x39)
-}
-
 fn is_integer(w: &[u8]) -> bool
     ensures { result ≡ is_integer w.now }
 {
-    let mut i = 0;
-    while i < w.len() {
-        if is_digit(w[i]) {
-            i += 1;
-        } else {
+    for b in w {
+        if !b.is_ascii_digit() {
             return false;
         }
     }
     true
 }
 
+// The class of w, if it is a known word.
+fn known_class(w: &[u8]) -> Option<u8>
+    ensures { (unwrap_or result (cond (is_integer w.now) 26 27) ≡ word_class w.now) × ((c : ℕ) → result ≡ Some c → c ≤ 27) }
+{
+    let k = candidate(w)?;
+    is_word(k, w).then_some(16 + k)
+}
+
 fn word_class(w: &[u8]) -> u8
     ensures { (result ≡ word_class w.now) × (result ≤ 27) }
 {
-    let k = candidate(w);
-    if is_word(k, w) {
-        return 16 + k;
+    match known_class(w) {
+        Some(class) => class,
+        None if is_integer(w) => 26,
+        None => 27,
     }
-    if is_integer(w) {
-        return 26;
-    }
-    27
 }
 
 // ---- marks
 
-// The first of the marks that stands at the front, or 16: by the first byte, and where that begins more than one mark, by the next.
-fn mark_at(s: &[u8]) -> u8
+// The first of the marks that stands at the front: by the first byte, and where that begins more than one mark, by the next.
+fn mark_at(s: &[u8]) -> Option<u8>
     requires { 0 < length s.now }
-    ensures { (result ≡ mark_at s.now) × (result ≤ 16) }
+    ensures { (unwrap_or result 16 ≡ mark_at s.now) × ((i : ℕ) → result ≡ Some i → i < 16) }
 {
     match s[0] {
         b'<' => by_byte(
             s,
             1,
             b'-',
-            by_byte(s, 2, b'>', 0, 2),
-            by_byte(s, 1, b'<', 4, 16),
+            by_byte(s, 2, b'>', Some(0), Some(2)),
+            by_byte(s, 1, b'<', Some(4), None),
         ),
-        b'-' => by_byte(s, 1, b'>', 1, by_byte(s, 1, b'-', 3, 16)),
-        b'>' => by_byte(s, 1, b'>', 5, 16),
-        b'.' => by_byte(s, 1, b'.', 6, 16),
-        b'{' => 7,
-        b'}' => 8,
-        b';' => 9,
-        b',' => 10,
-        b'(' => 11,
-        b')' => 12,
-        b'[' => 13,
-        b']' => 14,
-        b'*' => 15,
-        _ => 16,
+        b'-' => by_byte(s, 1, b'>', Some(1), by_byte(s, 1, b'-', Some(3), None)),
+        b'>' => by_byte(s, 1, b'>', Some(5), None),
+        b'.' => by_byte(s, 1, b'.', Some(6), None),
+        b'{' => Some(7),
+        b'}' => Some(8),
+        b';' => Some(9),
+        b',' => Some(10),
+        b'(' => Some(11),
+        b')' => Some(12),
+        b'[' => Some(13),
+        b']' => Some(14),
+        b'*' => Some(15),
+        _ => None,
     }
 }
 
@@ -192,12 +173,11 @@ pub(crate) fn token_at(s: &[u8]) -> Front
         let class = word_class(laws::front(s, n));
         return Front { class, size: n };
     }
-    let m = mark_at(s);
-    if m < 16 {
-        return Front {
+    match mark_at(s) {
+        Some(m) => Front {
             class: m,
             size: mark_size(m),
-        };
+        },
+        None => Front { class: 28, size: 1 },
     }
-    Front { class: 28, size: 1 }
 }

@@ -1,22 +1,23 @@
--- The types and the enumerations among the first k declarations of a body, counted one declaration after the other.
+-- The types among the first k declarations of a body, counted one declaration after the other, and the enumerations.
 -- Assumes nothing.
 use Prim.Native.Nat.{ℕ, ◌+◌, ◌<◌, ◌^◌, ◌≤◌}
 use native.Mathlib.Omega.{arith}
-use mathlib.Core.Bool.{Bool}
+use mathlib.Core.Bool.{Bool, false, true}
 use mathlib.Core.List.{List}
 use mathlib.Core.Path.{◌∙◌, ◌≡◌, ap, ap₂, sym}
 use lib.ListN.{length}
-use Rattle.laws.specs.Bounded.{one, tally}
-use Rattle.laws.proofs.CountLaws.{tally-le, tally-more, tally-upto}
+use Rattle.std.specs.Int.{from_bool}
+use Rattle.laws.specs.Bounded.{one}
+use Rattle.laws.proofs.CountLaws.{tally-more, tally-upto}
 use Rattle.laws.proofs.LoopLaws.{tally-begin}
-use Rattle.texts.specs.Declaration.{Declaration, declaration_at, is_enumeration, is_type}
+use Rattle.texts.specs.Declaration.{Declaration, declaration_at, is_type}
 use Rattle.texts.specs.Declared.{types_before}
 use Rattle.texts.proofs.DeclaredCountLaws.{few}
 use Rattle.text_rows.specs.RowAt.{declarations_by}
+use Rattle.text_rows.proofs.NotedLaws.{one-from}
+use Rattle.text_parts.specs.declared.Kind.TheVariants.{Enumerations}
+use Rattle.text_checks.specs.Kinds.{kind_count}
 use Rattle.text_writing.specs.Pieces.{WritableBody, enumeration_count}
-
-tally-next : (p : ℕ → Bool) (k : ℕ) {c one_more : ℕ} → c ≡ tally p k → one_more ≡ one (p k) → c + one_more ≡ tally p (k + 1)
-tally-next p k e q = ap₂ (λ (x y : ℕ). x + y) e q ∙ sym (tally-more p k)
 
 -- ---- types
 
@@ -24,43 +25,30 @@ pub types-begin : (ds : List Declaration) → 0 ≡ types_before ds 0
 unfolding types_before
 types-begin ds = tally-begin (λ j. is_type (declaration_at ds j))
 
-pub types-next : (ds : List Declaration) (k : ℕ) {own one_more : ℕ} → own ≡ types_before ds k → one_more ≡ one (is_type (declaration_at ds k))
-    → own + one_more ≡ types_before ds (k + 1)
+pub types-next : (ds : List Declaration) (k : ℕ) {own more : ℕ} {b : Bool} → own ≡ types_before ds k → b ≡ is_type (declaration_at ds k) → more ≡ from_bool b
+    → own + more ≡ types_before ds (k + 1)
 unfolding types_before
-types-next ds k e q = tally-next (λ j. is_type (declaration_at ds j)) k e q
+types-next ds k {b = b} e q m =
+    ap₂ (λ (x y : ℕ). x + y) e (m ∙ one-from b ∙ ap one q) ∙ sym (tally-more (λ j. is_type (declaration_at ds j)) k)
 
-module _ {s o : List ℕ} {n k own : ℕ} (w : WritableBody s o n) (h : k < n) (e : own ≡ types_before (declarations_by s) k) where
+module _ {s : List ℕ} {n k own : ℕ} (w : WritableBody s n) (h : k < n) (e : own ≡ types_before (declarations_by s) k) where
   pub types-most : own ≤ 24
   unfolding types_before
   types-most =
       let ds = declarations_by s in
-      let l : k ≤ length ds = omega (arith, w.outlines.count-is) in
+      let l : k ≤ length ds = omega (arith, w.count-is) in
       let a = tally-upto (λ j. is_type (declaration_at ds j)) k (length ds) l in
       let b = (few ds w.writable.few).types in omega arith
 
-  pub types-fit : {one_more : ℕ} → one_more ≤ 1 → own + one_more < 2 ^ 64
-  types-fit t = omega (arith, types-most)
+  pub types-fit : {more : ℕ} (b : Bool) → more ≡ from_bool b → own + more < 2 ^ 64
+  types-fit {more} b m = let l : more ≤ 1 = rw m (one-small b) in omega (arith, types-most)
+    where
+      one-small : (b : Bool) → from_bool b ≤ 1
+      one-small true = omega arith
+      one-small false = omega arith
 
 -- ---- enumerations
 
--- declaration j is an enumeration
-abbrev test : List ℕ → ℕ → Bool
-test s j = is_enumeration (declaration_at (declarations_by s) j)
-
-pub record Counting (s : List ℕ) (n count k : ℕ) : Type 0 where
-  pub below : k ≤ n
-  pub count-is : count ≡ tally (test s) k
-
-pub counting-begin : (s : List ℕ) (n : ℕ) → Counting s n 0 0
-counting-begin s n = record { below = omega arith; count-is = tally-begin (test s) }
-
-module _ {s o : List ℕ} {n count k : ℕ} (c : Counting s n count k) (w : WritableBody s o n) where
-  pub counting-fits : {one_more : ℕ} → one_more ≤ 1 → count + one_more < 2 ^ 64
-  counting-fits t = omega (arith, tally-le (test s) k, c.below, c.count-is, w.few)
-
-  pub counting-next : {one_more : ℕ} → k < n → one_more ≡ one (is_enumeration (declaration_at (declarations_by s) k)) → Counting s n (count + one_more) (k + 1)
-  counting-next h q = record { below = omega arith; count-is = tally-next (test s) k c.count-is q }
-
-  pub counting-done : n ≤ k → count ≡ enumeration_count (declarations_by s)
-  unfolding enumeration_count
-  counting-done h = let e : k ≡ length (declarations_by s) = omega (arith, c.below, w.outlines.count-is) in c.count-is ∙ ap (tally (test s)) e
+pub enumerations-counted : (ds : List Declaration) {count : ℕ} → count ≡ kind_count Enumerations ds → count ≡ enumeration_count ds
+unfolding kind_count enumeration_count
+enumerations-counted ds e = e

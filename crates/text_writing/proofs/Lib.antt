@@ -1,4 +1,3 @@
-pub mod KindTestLaws
 pub mod PlaceLaws
 pub mod ByNamesLaws
 pub mod CountingLaws

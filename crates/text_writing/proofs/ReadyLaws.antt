@@ -16,9 +16,9 @@ use Rattle.text_fields.specs.Fields.{Roomy, attribute_field, parents_by}
 use Rattle.text_writing.specs.Pieces.{WritableBody, attributes_piece}
 use Rattle.text_writing.proofs.ByNamesLaws.{attribute-fields, parents-most}
 
-module _ {s o : List ℕ} {n k : ℕ} (w : WritableBody s o n) (h : k < n) {d : Declaration} (i : d ≡ declaration_at (declarations_by s) k) where
+module _ {s : List ℕ} {n k : ℕ} (w : WritableBody s n) (h : k < n) {d : Declaration} (i : d ≡ declaration_at (declarations_by s) k) where
   there : Roomy (declaration_at (declarations_by s) k)
-  there = w.writable.roomy k (omega (arith, w.outlines.count-is))
+  there = w.writable.roomy k (omega (arith, w.count-is))
 
   pub roomy-at : Roomy d
   roomy-at = subst Roomy (sym i) there

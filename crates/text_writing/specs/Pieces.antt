@@ -11,7 +11,6 @@ use Rattle.texts.specs.Declared.{association_of, attribute_of, type_def_of}
 use Rattle.texts.specs.WellFormedDeclaration.{ShortNames, WfDeclarations}
 use Rattle.texts.specs.TextChecks.{is_overfull}
 use Rattle.text_rows.specs.RowAt.{declarations_by}
-use Rattle.text_outlines.specs.Outline.{Outlines}
 use Rattle.text_checks.specs.ValueNames.{value_names}
 use Rattle.text_fields.specs.Fields.{Roomy, enumeration_of, plain_of}
 
@@ -65,8 +64,8 @@ pub record Writable (ds : List Declaration) : Type 0 where
   pub short : ShortNames ds
   pub roomy : (k : ℕ) → k < length ds → Roomy (declaration_at ds k)
 
--- A body with such declarations and its outline, which tells of all of them.
-pub record WritableBody (s o : List ℕ) (n : ℕ) : Type 0 where
+-- A body with such declarations, n of them: its outline tells of all.
+pub record WritableBody (s : List ℕ) (n : ℕ) : Type 0 where
   pub writable : Writable (declarations_by s)
-  pub outlines : Outlines s o n
+  pub count-is : n ≡ length (declarations_by s)
   pub few : n ≤ 52

@@ -1,14 +1,25 @@
-// What one diagram asks of values, by an object's type, as a table; and what tables of links are made of: types, ends and limits.
+// What one diagram asks of values, by an object's type, as a table; and what tables by types are made of: names, types, ends and limits.
 #![tactic(auto)]
 
-ghost use Rattle.std.specs.Prelude.{◌≡◌, ◌&&◌, not, true, ℕ, ◌%◌, ◌/◌, ◌<◌, ◌≤◌, max, min, get_or};
+ghost use Rattle.std.specs.Prelude.{◌≡◌, ◌&&◌, cond, not, true, ℕ, ◌%◌, ◌/◌, ◌<◌, ◌≤◌, max, min, get_or};
 ghost use Rattle.laws.specs.Bits.{Marks, bit};
+ghost use Rattle.fields.specs.Slot.{slot_name};
+ghost use Rattle.resolving.specs.Lookup.{slot_of};
 ghost use Rattle.diagrams.specs.View.{diagram_of};
 ghost use Rattle.diagrams.specs.Held.{Held};
 ghost use Rattle.type_tables.specs.Due.{joined};
 ghost use Rattle.type_tables.specs.ValuesIn.{declares_in, due_at, due_in, due_more};
 ghost use Rattle.type_tables.specs.RowsIn.{carried_in, is_subtype, set_of};
 ghost use Rattle.type_tables.specs.TypeTables.{Dues};
+
+use laws::Mask;
+
+// x where the test holds, else y.
+pub fn pick<T: Copy>(b: bool, x: T, y: T) -> T
+    ensures { result ≡ cond b x y }
+{
+    if b { x } else { y }
+}
 
 // ---- sets of types
 
@@ -17,7 +28,7 @@ pub fn is_in(set: u32, k: u8) -> bool
     ensures { result ≡ bit k set }
 {
     if k < 32 {
-        return laws::has32(set, k as u32);
+        return set.has(k as u32);
     }
     false
 }
@@ -36,16 +47,32 @@ pub fn without(a: u32, b: u32) -> u32
     (a | b) ^ b
 }
 
+// ---- names
+
+// For each of n names its place among k others, or k.
+pub fn places<const N: usize>(names: &[u8], n: u8, others: &[u8], k: u8) -> [u8; N]
+    requires { n ≤ N }
+    ensures { ((i : ℕ) → i < n → get_or result i 0 ≡ slot_of others.now k (slot_name names.now i)) × ((i : ℕ) → get_or result i 0 ≤ k) }
+{
+    let mut r = [0u8; N];
+    for i in 0..n {
+        let at = resolving::slot_of(others, k, fields::slot_name(names, i));
+        r[usize::from(i)] = at;
+    }
+    r
+}
+
 // ---- values
 
 // The owner of attribute a is in the set, and its name in slot s.
-fn is_declaring<'a>(set: u32, owners: &'a [u8; 32], slots: &'a [u8; 32], s: u8, a: u8) -> bool
+fn is_declaring(set: u32, owners: &[u8; 32], slots: &[u8; 32], s: u8, a: u8) -> bool
     ensures { result ≡ declares_in set owners.now slots.now s a }
 {
-    is_in(set, laws::byte(owners, laws::wide(a))) & (laws::byte(slots, laws::wide(a)) == s)
+    is_in(set, laws::byte(owners, usize::from(a))) & (laws::byte(slots, usize::from(a)) == s)
 }
 
-// What is asked for by a declaration with value type v besides, where e was asked before.
+// What is asked for by a declaration with value type v besides, where e was asked before: 0 for no value, 1 + v for one of value type v,
+// 255 where declarations disagree. Numbers say it, as they are stored in a table of bytes.
 fn join_due(e: u8, v: u8) -> u8
     requires { v < 255 }
     ensures { result ≡ joined e v }
@@ -60,11 +87,11 @@ fn join_due(e: u8, v: u8) -> u8
 }
 
 // The same by attribute a, if it is such a declaration.
-fn due_more<'a>(
+fn due_more(
     set: u32,
-    owners: &'a [u8; 32],
-    types: &'a [u8; 32],
-    slots: &'a [u8; 32],
+    owners: &[u8; 32],
+    types: &[u8; 32],
+    slots: &[u8; 32],
     s: u8,
     a: u8,
     e: u8,
@@ -73,38 +100,29 @@ fn due_more<'a>(
     ensures { result ≡ due_more set owners.now types.now slots.now s a e }
 {
     if is_declaring(set, owners, slots, s, a) {
-        return join_due(e, laws::byte(types, laws::wide(a)));
+        return join_due(e, laws::byte(types, usize::from(a)));
     }
     e
 }
 
 // What n attributes ask of the value in slot s of an object whose type has this set.
-fn due_in<'a>(
-    set: u32,
-    owners: &'a [u8; 32],
-    types: &'a [u8; 32],
-    slots: &'a [u8; 32],
-    s: u8,
-    n: u8,
-) -> u8
+fn due_in(set: u32, owners: &[u8; 32], types: &[u8; 32], slots: &[u8; 32], s: u8, n: u8) -> u8
     requires { (a : ℕ) → a < n → get_or types.now a 0 < 255 }
     ensures { result ≡ due_in set owners.now types.now slots.now s n }
 {
     let mut e: u8 = 0;
-    let mut a: u8 = 0;
-    while a < n {
+    for a in 0..n {
         e = due_more(set, owners, types, slots, s, a, e);
-        a += 1;
     }
     e
 }
 
 // The same at x for type x / 32 and slot x % 32, up to `end`.
-fn dues_of<'a>(
-    sets: &'a [u32; 24],
-    owners: &'a [u8; 32],
-    types: &'a [u8; 32],
-    slots: &'a [u8; 32],
+fn dues_of(
+    sets: &[u32; 24],
+    owners: &[u8; 32],
+    types: &[u8; 32],
+    slots: &[u8; 32],
     n: u8,
     end: usize,
 ) -> [u8; 768]
@@ -112,12 +130,10 @@ fn dues_of<'a>(
     ensures { (x : ℕ) → x < end → get_or result x 0 ≡ due_at sets.now owners.now types.now slots.now n x }
 {
     let mut dues = [0u8; 768];
-    let mut x: usize = 0;
-    while x < end {
+    for x in 0..end {
         let set = sets[x / 32];
         let e = due_in(set, owners, types, slots, (x % 32) as u8, n);
         dues[x] = e;
-        x += 1;
     }
     dues
 }
@@ -147,7 +163,7 @@ fn is_subtype(sets: &[u32; 24], x: u8, u: u8) -> bool
     requires { (x < 32) × (u < 24) }
     ensures { result ≡ is_subtype sets.now x u }
 {
-    laws::has32(sets[laws::wide(u)], x as u32)
+    sets[usize::from(u)].has(x as u32)
 }
 
 // The types that count as type x.
@@ -156,12 +172,10 @@ pub fn subtypes_of(sets: &[u32; 24], x: u8) -> u32
     ensures { Marks (is_subtype sets.now x) 24 result }
 {
     let mut mask: u32 = 0;
-    let mut u: u8 = 0;
-    while u < 24 {
+    for u in 0u8..24 {
         if is_subtype(sets, x, u) {
-            mask = laws::with32(mask, u as u32);
+            mask = mask.with(u as u32);
         }
-        u += 1;
     }
     mask
 }
@@ -170,7 +184,7 @@ pub fn subtypes_of(sets: &[u32; 24], x: u8) -> u32
 pub fn set_of(table: &[u32; 24], x: u8) -> u32
     ensures { result ≡ set_of table.now x }
 {
-    let i = laws::wide(x);
+    let i = usize::from(x);
     if i < 24 {
         return table[i];
     }
@@ -182,7 +196,7 @@ pub fn is_carried(arrows: &[u8; 16], e: u8) -> bool
     requires { e < 32 }
     ensures { result ≡ carried_in arrows.now e }
 {
-    let arrow = laws::byte(arrows, laws::wide(e / 2));
+    let arrow = laws::byte(arrows, usize::from(e / 2));
     if e % 2 == 0 {
         return arrows::carries_left(arrow);
     }
@@ -191,27 +205,9 @@ pub fn is_carried(arrows: &[u8; 16], e: u8) -> bool
 
 // ---- limits
 
-// The larger of two numbers.
-pub fn larger(a: u8, b: u8) -> u8
-    ensures { result ≡ max a b }
-{
-    if a < b { b } else { a }
-}
-
-// The smaller of two numbers.
-pub fn smaller(a: u8, b: u8) -> u8
-    ensures { result ≡ min a b }
-{
-    if b < a { b } else { a }
-}
-
 // A limit, of which more than most is as good as most.
 pub fn capped(most: u8, limit: u16) -> u8
     ensures { result ≡ min most limit }
 {
-    if limit < most as u16 {
-        limit as u8
-    } else {
-        most
-    }
+    limit.min(u16::from(most)) as u8
 }

@@ -4,3 +4,4 @@ pub mod Lacking
 pub mod Tables
 pub mod Numbers
 pub mod Filled
+pub mod Values

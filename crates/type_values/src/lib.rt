@@ -14,41 +14,37 @@ ghost use Rattle.type_values.specs.Bad.{BadTypes};
 ghost use Rattle.type_values.specs.Filled.{Filled};
 ghost use Rattle.type_values.specs.Tables.{AttributePlaces, Lackings, SameTypes, Translated, TypePlaces};
 ghost use Rattle.type_values.specs.Numbers.{chosen_in, constant_in, constant_name, due_by, good_in, kept_in, known_in, lacking_in, shared_in, slot_asked_in, slot_kept_in, value_at_in};
+ghost use Rattle.type_values.specs.Values.{FewValues};
+
+use diagrams::ValueTypes;
+use laws::Mask;
 
 // ---- values
-
-// Constant k has the name w.
-fn is_named(constants: &[u8], k: u8, w: &[u8]) -> bool
-    ensures { result ≡ same_name (slot_name constants.now k) w.now }
-{
-    fields::same_name(fields::slot_name(constants, k), w)
-}
 
 // One of the constants of value type v has the name w.
 fn has_constant(constants: &[u8], v: u8, size: u8, w: &[u8]) -> bool
     requires { (v < 12) × (size ≤ 8) }
     ensures { result ≡ constant_in constants.now v size w.now }
 {
-    let mut i: u8 = 0;
-    while i < size {
-        if is_named(constants, v * 8 + i, w) {
+    for i in 0..size {
+        if fields::same_name(fields::slot_name(constants, v * 8 + i), w) {
             return true;
         }
-        i += 1;
     }
     false
 }
 
-// A value with the constant w belongs to value type v, one of n, if they have one name.
-fn is_shared<'a>(sizes: &'a [u8; 12], constants: &'a [u8], n: u8, v: u8, w: &'a [u8]) -> bool
-    requires { (n ≤ 12) × ((i : ℕ) → i < n → get_or sizes.now i 0 ≤ 8) }
-    ensures { result ≡ shared_in sizes.now constants.now n v w.now }
+// A value with the constant w belongs to value type v, if they have one name.
+fn is_shared(values: &ValueTypes, v: u8, w: &[u8]) -> bool
+    requires { FewValues values.now }
+    ensures { result ≡ shared_in values.now.sizes values.now.constants values.now.count v w.now }
 {
-    if n <= v {
+    let i = usize::from(v);
+    if values.count <= i {
         return false;
     }
-    let size = sizes[laws::wide(v)];
-    has_constant(constants, v, size, w) | ((size == 0) & (w.len() == 0))
+    let size = values.sizes[i];
+    has_constant(&values.constants, v, size, w) | ((size == 0) & w.is_empty())
 }
 
 // Of so many constants c is one, or it is the unnamed value.
@@ -69,97 +65,67 @@ fn constant_name(constants: &[u8], size: u8, k: u8) -> &[u8]
 }
 
 // Constant c of value type v does not belong to value type j of the other diagram.
-fn is_lacking<'a>(
-    olds: &'a [u8],
-    size: u8,
-    sizes: &'a [u8; 12],
-    constants: &'a [u8],
-    n: u8,
-    j: u8,
-    v: u8,
-    c: u8,
-) -> bool
-    requires { ((v < 12) × (c < 8)) × ((n ≤ 12) × ((i : ℕ) → i < n → get_or sizes.now i 0 ≤ 8)) }
-    ensures { result ≡ lacking_in olds.now size sizes.now constants.now n j v c }
+fn is_lacking(olds: &[u8], size: u8, values: &ValueTypes, j: u8, v: u8, c: u8) -> bool
+    requires { ((v < 12) × (c < 8)) × FewValues values.now }
+    ensures { result ≡ lacking_in olds.now size values.now.sizes values.now.constants values.now.count j v c }
 {
     if is_known(size, c) {
         let w = constant_name(olds, size, v * 8 + c);
-        return !is_shared(sizes, constants, n, j, w);
+        return !is_shared(values, j, w);
     }
     false
 }
 
-// The first such constant, or 8.
-fn first_lacking<'a>(
-    olds: &'a [u8],
-    size: u8,
-    sizes: &'a [u8; 12],
-    constants: &'a [u8],
-    n: u8,
-    j: u8,
-    v: u8,
-) -> u8
-    requires { (v < 12) × ((n ≤ 12) × ((i : ℕ) → i < n → get_or sizes.now i 0 ≤ 8)) }
-    ensures { result ≡ first (lacking_in olds.now size sizes.now constants.now n j v) 8 }
+// The first such constant, or 8. A number says it, as it is stored in a table of bytes.
+fn first_lacking(olds: &[u8], size: u8, values: &ValueTypes, j: u8, v: u8) -> u8
+    requires { (v < 12) × FewValues values.now }
+    ensures { result ≡ first (lacking_in olds.now size values.now.sizes values.now.constants values.now.count j v) 8 }
 {
-    let mut c: u8 = 0;
-    while c < 8 {
-        if is_lacking(olds, size, sizes, constants, n, j, v, c) {
+    for c in 0u8..8 {
+        if is_lacking(olds, size, values, j, v, c) {
             return c;
         }
-        c += 1;
     }
     8
 }
 
-// For each of m value types the first such constant, where `types` has the other diagram's value types of the same names.
-fn all_lacking<'a>(
-    olds: &'a [u8],
-    counts: &'a [u8; 12],
-    m: u8,
-    sizes: &'a [u8; 12],
-    constants: &'a [u8],
-    n: u8,
-    types: &'a [u8; 32],
-) -> [u8; 12]
-    requires { (m ≤ 12) × ((n ≤ 12) × ((i : ℕ) → i < n → get_or sizes.now i 0 ≤ 8)) }
-    ensures { (v : ℕ) → v < m → get_or result v 0 ≡ first (lacking_in olds.now (get_or counts.now v 0) sizes.now constants.now n (get_or types.now v 0) v) 8 }
+// For each value type of olds the first such constant, where `types` has the other diagram's value types of the same names.
+fn all_lacking(olds: &ValueTypes, values: &ValueTypes, types: &[u8; 32]) -> [u8; 12]
+    requires { (olds.now.count ≤ 12) × FewValues values.now }
+    ensures { (v : ℕ) → v < olds.now.count → get_or result v 0 ≡ first (lacking_in olds.now.constants (get_or olds.now.sizes v 0) values.now.sizes values.now.constants values.now.count (get_or types.now v 0) v) 8 }
 {
     let mut firsts = [0u8; 12];
-    let mut v: u8 = 0;
-    while v < m {
-        let i = laws::wide(v);
-        let c = first_lacking(olds, counts[i], sizes, constants, n, types[i], v);
-        firsts[i] = c;
-        v += 1;
+    for v in 0..olds.count {
+        let c = first_lacking(&olds.constants, olds.sizes[v], values, types[v], v as u8);
+        firsts[v] = c;
     }
     firsts
 }
 
-// ---- names
-
-// For each of n names its place among k others, or k.
-fn places<'a>(names: &'a [u8], n: u8, others: &'a [u8], k: u8) -> [u8; 32]
-    requires { n ≤ 32 }
-    ensures { (i : ℕ) → i < n → get_or result i 0 ≡ slot_of others.now k (slot_name names.now i) }
-{
-    let mut r = [0u8; 32];
-    let mut i: u8 = 0;
-    while i < n {
-        let s = resolving::slot_of(others, k, fields::slot_name(names, i));
-        r[laws::wide(i)] = s;
-        i += 1;
-    }
-    r
-}
-
 // ---- slots
+
+// A diagram and another one: what is due by types of either, and where the names of the one stand in the other.
+#[derive(Clone, Copy)]
+struct Translation {
+    olds: [u8; 768],
+    news: [u8; 768],
+    // For each type, slot and value type of the one that of the other, and for each slot of the other that of the one.
+    index: [u8; 32],
+    slots: [u8; 32],
+    types: [u8; 32],
+    back: [u8; 32],
+    // For each value type of the one the first of its values that the other lacks, or 8.
+    firsts: [u8; 12],
+    // How many slots either has.
+    m: u8,
+    n: u8,
+}
 
 // What is due by type t in slot s.
 fn due_at(dues: &[u8; 768], t: u8, s: u8) -> u8
     ensures { result ≡ get_or dues.now (t * 32 + s) 0 }
 {
-    laws::byte(dues, laws::wide(t) * 32 + laws::wide(s))
+    laws::byte(dues, usize::from(t) * 32 + usize::from(s))
 }
 
 // The same where s is one of n slots, else nothing.
@@ -173,60 +139,37 @@ fn due_by(dues: &[u8; 768], t: u8, n: u8, s: u8) -> u8
 }
 
 // The one diagram asks for e, the other for f: it allows what the one allows.
-fn is_kept<'a>(types: &'a [u8; 32], firsts: &'a [u8; 12], e: u8, f: u8) -> bool
+fn is_kept(types: &[u8; 32], firsts: &[u8; 12], e: u8, f: u8) -> bool
     ensures { result ≡ kept_in types.now firsts.now e f }
 {
     if e == 0 {
         return true;
     }
-    let v = laws::wide(e) - 1;
+    let v = usize::from(e) - 1;
     (f != 0)
         & ((e == 255)
-            | ((laws::wide(f) == 1 + laws::wide(laws::byte(types, v)))
+            | ((usize::from(f) == 1 + usize::from(laws::byte(types, v)))
                 & (laws::byte(firsts, v) == 8)))
 }
 
 // Slot s is kept.
-fn is_slot_kept<'a>(
-    olds: &'a [u8; 768],
-    news: &'a [u8; 768],
-    slots: &'a [u8; 32],
-    types: &'a [u8; 32],
-    firsts: &'a [u8; 12],
-    t: u8,
-    u: u8,
-    n: u8,
-    s: u8,
-) -> bool
-    ensures { result ≡ slot_kept_in olds.now news.now slots.now types.now firsts.now t u n s }
+fn is_slot_kept(by: &Translation, t: u8, u: u8, s: u8) -> bool
+    ensures { result ≡ slot_kept_in by.now.olds by.now.news by.now.slots by.now.types by.now.firsts t u by.now.n s }
 {
     is_kept(
-        types,
-        firsts,
-        due_at(olds, t, s),
-        due_by(news, u, n, laws::byte(slots, laws::wide(s))),
+        &by.types,
+        &by.firsts,
+        due_at(&by.olds, t, s),
+        due_by(&by.news, u, by.n, laws::byte(&by.slots, usize::from(s))),
     )
 }
 
-// Each of m slots is.
-fn slots_kept<'a>(
-    olds: &'a [u8; 768],
-    news: &'a [u8; 768],
-    slots: &'a [u8; 32],
-    types: &'a [u8; 32],
-    firsts: &'a [u8; 12],
-    t: u8,
-    u: u8,
-    n: u8,
-    m: u8,
-) -> bool
-    ensures { result ≡ all (slot_kept_in olds.now news.now slots.now types.now firsts.now t u n) m }
+// Each slot is.
+fn slots_kept(by: &Translation, t: u8, u: u8) -> bool
+    ensures { result ≡ all (slot_kept_in by.now.olds by.now.news by.now.slots by.now.types by.now.firsts t u by.now.n) by.now.m }
 {
-    let mut s: u8 = 0;
-    while s < m {
-        if is_slot_kept(olds, news, slots, types, firsts, t, u, n, s) {
-            s += 1;
-        } else {
+    for s in 0..by.m {
+        if !is_slot_kept(by, t, u, s) {
             return false;
         }
     }
@@ -234,37 +177,19 @@ fn slots_kept<'a>(
 }
 
 // What the other diagram asks for in slot s the one asks for.
-fn is_slot_asked<'a>(
-    olds: &'a [u8; 768],
-    news: &'a [u8; 768],
-    slots: &'a [u8; 32],
-    t: u8,
-    u: u8,
-    m: u8,
-    s: u8,
-) -> bool
-    ensures { result ≡ slot_asked_in olds.now news.now slots.now t u m s }
+fn is_slot_asked(by: &Translation, t: u8, u: u8, s: u8) -> bool
+    ensures { result ≡ slot_asked_in by.now.olds by.now.news by.now.back t u by.now.m s }
 {
-    (due_at(news, u, s) == 0) | (due_by(olds, t, m, laws::byte(slots, laws::wide(s))) != 0)
+    (due_at(&by.news, u, s) == 0)
+        | (due_by(&by.olds, t, by.m, laws::byte(&by.back, usize::from(s))) != 0)
 }
 
-// The same in each of its n slots.
-fn slots_asked<'a>(
-    olds: &'a [u8; 768],
-    news: &'a [u8; 768],
-    slots: &'a [u8; 32],
-    t: u8,
-    u: u8,
-    m: u8,
-    n: u8,
-) -> bool
-    ensures { result ≡ all (slot_asked_in olds.now news.now slots.now t u m) n }
+// The same in each of its slots.
+fn slots_asked(by: &Translation, t: u8, u: u8) -> bool
+    ensures { result ≡ all (slot_asked_in by.now.olds by.now.news by.now.back t u by.now.m) by.now.n }
 {
-    let mut s: u8 = 0;
-    while s < n {
-        if is_slot_asked(olds, news, slots, t, u, m, s) {
-            s += 1;
-        } else {
+    for s in 0..by.n {
+        if !is_slot_asked(by, t, u, s) {
             return false;
         }
     }
@@ -273,58 +198,25 @@ fn slots_asked<'a>(
 
 // ---- types
 
-// Type t of the one diagram, with the name of type index[t] of the other, which has `count`, keeps rules 1, 3 and 4 of the other.
-fn is_good<'a>(
-    kinds: &'a [u8; 24],
-    count: u8,
-    index: &'a [u8; 32],
-    olds: &'a [u8; 768],
-    news: &'a [u8; 768],
-    slots: &'a [u8; 32],
-    back: &'a [u8; 32],
-    types: &'a [u8; 32],
-    firsts: &'a [u8; 12],
-    m: u8,
-    n: u8,
-    t: u8,
-) -> bool
-    ensures { result ≡ good_in kinds.now count index.now olds.now news.now slots.now back.now types.now firsts.now m n t }
+// Type t of the one diagram, with the name of a type of the other, which has `count`, keeps rules 1, 3 and 4 of the other.
+fn is_good(kinds: &[u8; 24], count: u8, by: &Translation, t: u8) -> bool
+    ensures { result ≡ good_in kinds.now count by.now.index by.now.olds by.now.news by.now.slots by.now.back by.now.types by.now.firsts by.now.m by.now.n t }
 {
-    let u = laws::byte(index, laws::wide(t));
-    let kind = laws::byte(kinds, laws::wide(u));
-    (u < count)
-        & (((kind == 0) | (kind == 3))
-            & (slots_kept(olds, news, slots, types, firsts, t, u, n, m)
-                & slots_asked(olds, news, back, t, u, m, n)))
+    let u = laws::byte(&by.index, usize::from(t));
+    let kind = laws::byte(kinds, usize::from(u));
+    (u < count) & (((kind == 0) | (kind == 3)) & (slots_kept(by, t, u) & slots_asked(by, t, u)))
 }
 
 // The types that do not, of the first `end`.
-fn bad_mask<'a>(
-    kinds: &'a [u8; 24],
-    count: u8,
-    index: &'a [u8; 32],
-    olds: &'a [u8; 768],
-    news: &'a [u8; 768],
-    slots: &'a [u8; 32],
-    back: &'a [u8; 32],
-    types: &'a [u8; 32],
-    firsts: &'a [u8; 12],
-    m: u8,
-    n: u8,
-    end: u8,
-) -> u32
+fn bad_mask(kinds: &[u8; 24], count: u8, by: &Translation, end: u8) -> u32
     requires { end ≤ 24 }
-    ensures { Marks (λ t. not (good_in kinds.now count index.now olds.now news.now slots.now back.now types.now firsts.now m n t)) end result }
+    ensures { Marks (λ t. not (good_in kinds.now count by.now.index by.now.olds by.now.news by.now.slots by.now.back by.now.types by.now.firsts by.now.m by.now.n t)) end result }
 {
     let mut mask: u32 = 0;
-    let mut t: u8 = 0;
-    while t < end {
-        if !is_good(
-            kinds, count, index, olds, news, slots, back, types, firsts, m, n, t,
-        ) {
-            mask = laws::with32(mask, t as u32);
+    for t in 0..end {
+        if !is_good(kinds, count, by, t) {
+            mask = mask.with(t as u32);
         }
-        t += 1;
     }
     mask
 }
@@ -336,7 +228,7 @@ fn same_types(old: diagrams::StoredDiagram, new: diagrams::StoredDiagram) -> [u8
 {
     let v = old.values;
     let w = new.values;
-    places(&v.names, v.count as u8, &w.names, w.count as u8)
+    type_tables::places(&v.names, v.count as u8, &w.names, w.count as u8)
 }
 
 // For each value type of old the first of its values that new does not have, or 8.
@@ -348,17 +240,7 @@ fn lacking_values(
     requires { (Held old × Held new) × SameTypes (diagram_of old) (diagram_of new) types.now }
     ensures { Lackings (diagram_of old) (diagram_of new) result }
 {
-    let v = old.values;
-    let w = new.values;
-    all_lacking(
-        &v.constants,
-        &v.sizes,
-        v.count as u8,
-        &w.sizes,
-        &w.constants,
-        w.count as u8,
-        types,
-    )
+    all_lacking(&old.values, &new.values, types)
 }
 
 // For each type of old new's type of the same name, or their number.
@@ -368,7 +250,7 @@ fn type_places(old: diagrams::StoredDiagram, new: diagrams::StoredDiagram) -> [u
 {
     let v = old.types;
     let w = new.types;
-    places(&v.names, v.count as u8, &w.names, w.count as u8)
+    type_tables::places(&v.names, v.count as u8, &w.names, w.count as u8)
 }
 
 // For each attribute of old new's slot of the same name, or the number of its attributes.
@@ -378,42 +260,7 @@ fn attribute_places(old: diagrams::StoredDiagram, new: diagrams::StoredDiagram) 
 {
     let v = old.attributes;
     let w = new.attributes;
-    places(&v.names, v.count as u8, &w.names, w.count as u8)
-}
-
-// The bad types, by the tables.
-fn bad_by<'a>(
-    old: diagrams::StoredDiagram,
-    new: diagrams::StoredDiagram,
-    olds: &'a [u8; 768],
-    news: &'a [u8; 768],
-    index: &'a [u8; 32],
-    slots: &'a [u8; 32],
-    back: &'a [u8; 32],
-    types: &'a [u8; 32],
-    firsts: &'a [u8; 12],
-) -> u32
-    requires { (Held old × Held new) × Translated (diagram_of old) (diagram_of new) olds.now news.now index.now slots.now back.now types.now firsts.now }
-    ensures { BadTypes (diagram_of old) (diagram_of new) result }
-{
-    let t = old.types.count as u8;
-    let m = old.attributes.count as u8;
-    let n = new.attributes.count as u8;
-    let u = new.types;
-    bad_mask(
-        &u.kinds,
-        u.count as u8,
-        index,
-        olds,
-        news,
-        slots,
-        back,
-        types,
-        firsts,
-        m,
-        n,
-        t,
-    )
+    type_tables::places(&v.names, v.count as u8, &w.names, w.count as u8)
 }
 
 // The types of old whose objects break rule 1 or rule 3 of new, or can break rule 4. `olds` has what is due by types of old.
@@ -431,8 +278,22 @@ pub fn bad_types(
     let index = type_places(old, new);
     let slots = attribute_places(old, new);
     let back = attribute_places(new, old);
-    bad_by(
-        old, new, olds, &news, &index, &slots, &back, &types, &firsts,
+    let by = Translation {
+        olds: *olds,
+        news,
+        index,
+        slots,
+        types,
+        back,
+        firsts,
+        m: old.attributes.count as u8,
+        n: new.attributes.count as u8,
+    };
+    bad_mask(
+        &new.types.kinds,
+        new.types.count as u8,
+        &by,
+        old.types.count as u8,
     )
 }
 
@@ -456,38 +317,30 @@ fn chosen_value(firsts: &[u8; 12], e: u8) -> u8
         return 0;
     }
     let v = e - 1;
-    1 + (v * 8 + chosen_constant(laws::byte(firsts, laws::wide(v))))
+    1 + (v * 8 + chosen_constant(laws::byte(firsts, usize::from(v))))
 }
 
 // The value of object x / 32 in slot x % 32, where n objects have these types.
-fn value_at<'a>(
-    dues: &'a [u8; 768],
-    firsts: &'a [u8; 12],
-    types: &'a [u8; 8],
-    n: u8,
-    x: usize,
-) -> u8
+fn value_at(dues: &[u8; 768], firsts: &[u8; 12], types: &[u8; 8], n: u8, x: usize) -> u8
     requires { x < 256 }
     ensures { result ≡ value_at_in dues.now firsts.now types.now n x }
 {
     let o = x / 32;
-    if o < laws::wide(n) {
+    if o < usize::from(n) {
         let t = laws::byte(types, o);
-        return chosen_value(firsts, laws::byte(dues, laws::wide(t) * 32 + x % 32));
+        return chosen_value(firsts, laws::byte(dues, usize::from(t) * 32 + x % 32));
     }
     0
 }
 
 // The same for all objects and slots.
-fn all_values<'a>(dues: &'a [u8; 768], firsts: &'a [u8; 12], types: &'a [u8; 8], n: u8) -> [u8; 256]
+fn all_values(dues: &[u8; 768], firsts: &[u8; 12], types: &[u8; 8], n: u8) -> [u8; 256]
     ensures { (x : ℕ) → x < 256 → get_or result x 0 ≡ value_at_in dues.now firsts.now types.now n x }
 {
     let mut values = [0u8; 256];
-    let mut x: usize = 0;
-    while x < 256 {
+    for x in 0..256 {
         let v = value_at(dues, firsts, types, n, x);
         values[x] = v;
-        x += 1;
     }
     values
 }
@@ -509,7 +362,7 @@ pub fn with_values(
     let firsts = lacking_values(old, new, &places);
     let values = all_values(dues, &firsts, &types, n);
     records::MemoryRecord {
-        count: laws::wide(n),
+        count: usize::from(n),
         types,
         values,
         links,

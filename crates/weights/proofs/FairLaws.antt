@@ -21,6 +21,7 @@ use Rattle.worlds.specs.declared.Lines.{Lines}
 use Rattle.worlds.specs.declared.Query.{Query}
 use Rattle.worlds.specs.Asked.{Satisfies}
 use Rattle.worlds.specs.Kept.{Allowed, Slotted, SourceTable, sheet, whole_by, whole_of}
+use Rattle.weights.specs.declared.Count.TheVariants.{Flat, High, Low, Parts}
 use Rattle.weights.specs.Numbers.{in_mask, line_number, number_at, whole_low, whole_row}
 use Rattle.weights.specs.Scales.{column_least, column_most, columns_scale, mirror_scale, own_of, row_least, row_most, rows_scale, together, whole_scale}
 use Rattle.weights.specs.Sums.{sum}
@@ -85,9 +86,9 @@ module _ (usable singles : ℕ) (targets lows highs sources : List ℕ) (x : Lin
       let first = row_least (own_of q) s in
       let last = min high (column_most (own_of q) s from may) in
       sums-le
-      (λ o. number_at targets lows highs x.wholeslot x.wholefrom x.wholeto (record { way = 0; mask = from; to = to; slot = s; limit = 0; first = first }) o (w.kind o))
+      (λ o. number_at targets lows highs x.wholeslot x.wholefrom x.wholeto (record { count = Low; mask = from; to = to; slot = s; limit = 0; first = first }) o (w.kind o))
       (λ o. cond (bit (w.kind o) from && in_mask (get_or targets (w.kind o * 32 + s) 0) to) (max (get_or lows (w.kind o * 32 + s) 0) (cond (eqb o 0) first 0)) 0)
-      (λ p. number_at targets lows highs x.wholeslot x.wholefrom x.wholeto (record { way = 2; mask = to; to = 0; slot = s; limit = high; first = last }) p (w.kind p))
+      (λ p. number_at targets lows highs x.wholeslot x.wholefrom x.wholeto (record { count = Flat; mask = to; to = 0; slot = s; limit = high; first = last }) p (w.kind p))
       (λ p. cond (bit (w.kind p) to) (cond (eqb p 0) last high) 0)
       w.size
       (λ o. number-low targets lows highs x.wholeslot x.wholefrom x.wholeto from to s 0 first (cond (eqb o 0) first 0) (w.kind o))
@@ -110,9 +111,9 @@ module _ (usable singles : ℕ) (targets lows highs sources : List ℕ) (x : Lin
       let first = max low (column_least (own_of q) s from may) in
       let last = row_most (own_of q) s in
       sums-le
-      (λ p. number_at targets lows highs x.wholeslot x.wholefrom x.wholeto (record { way = 2; mask = to; to = 0; slot = s; limit = low; first = first }) p (w.kind p))
+      (λ p. number_at targets lows highs x.wholeslot x.wholefrom x.wholeto (record { count = Flat; mask = to; to = 0; slot = s; limit = low; first = first }) p (w.kind p))
       (λ p. cond (bit (w.kind p) to) (cond (eqb p 0) first low) 0)
-      (λ o. number_at targets lows highs x.wholeslot x.wholefrom x.wholeto (record { way = 1; mask = from; to = 0; slot = s; limit = 255; first = last }) o (w.kind o))
+      (λ o. number_at targets lows highs x.wholeslot x.wholefrom x.wholeto (record { count = High; mask = from; to = 0; slot = s; limit = 255; first = last }) o (w.kind o))
       (λ o. cond (bit (w.kind o) from) (min (get_or highs (w.kind o * 32 + s) 0) (cond (eqb o 0) last 255)) 0)
       w.size
       (λ p. number-flat targets lows highs x.wholeslot x.wholefrom x.wholeto to 0 s low first (cond (eqb p 0) first low) (w.kind p))
@@ -136,9 +137,9 @@ module _ (usable singles : ℕ) (targets lows highs sources : List ℕ) (x : Lin
       let first = row_least (own_of q) s in
       let last = min (row_most (own_of q) back) (column_most (own_of q) s from may) in
       sums-le
-      (λ o. number_at targets lows highs x.wholeslot x.wholefrom x.wholeto (record { way = 0; mask = from; to = to; slot = s; limit = 0; first = first }) o (w.kind o))
+      (λ o. number_at targets lows highs x.wholeslot x.wholefrom x.wholeto (record { count = Low; mask = from; to = to; slot = s; limit = 0; first = first }) o (w.kind o))
       (λ o. cond (bit (w.kind o) from && in_mask (get_or targets (w.kind o * 32 + s) 0) to) (max (get_or lows (w.kind o * 32 + s) 0) (cond (eqb o 0) first 0)) 0)
-      (λ p. number_at targets lows highs x.wholeslot x.wholefrom x.wholeto (record { way = 1; mask = to; to = 0; slot = back; limit = 255; first = last }) p (w.kind p))
+      (λ p. number_at targets lows highs x.wholeslot x.wholefrom x.wholeto (record { count = High; mask = to; to = 0; slot = back; limit = 255; first = last }) p (w.kind p))
       (λ p. cond (bit (w.kind p) to) (min (get_or highs (w.kind p * 32 + back) 0) (cond (eqb p 0) last 255)) 0)
       w.size
       (λ o. number-low targets lows highs x.wholeslot x.wholefrom x.wholeto from to s 0 first (cond (eqb o 0) first 0) (w.kind o))
@@ -205,9 +206,9 @@ module _ (usable singles : ℕ) (targets lows highs sources : List ℕ) (x : Lin
       let first = cond (own_of q).asked q.low 0 in
       let least : ℕ → ℕ = λ o. whole_low targets lows x.wholeslot x.wholefrom x.wholeto q.row (cond (eqb o 0) first 0) (w.kind o) 16 in
       sums-le
-      (λ o. number_at targets lows highs x.wholeslot x.wholefrom x.wholeto (record { way = 3; mask = from; to = 0; slot = q.row; limit = 0; first = first }) o (w.kind o))
+      (λ o. number_at targets lows highs x.wholeslot x.wholefrom x.wholeto (record { count = Parts; mask = from; to = 0; slot = q.row; limit = 0; first = first }) o (w.kind o))
       (λ o. cond (bit (w.kind o) from) (least o) 0)
-      (λ p. number_at targets lows highs x.wholeslot x.wholefrom x.wholeto (record { way = 2; mask = to; to = 0; slot = q.row; limit = 1; first = 1 }) p (w.kind p))
+      (λ p. number_at targets lows highs x.wholeslot x.wholefrom x.wholeto (record { count = Flat; mask = to; to = 0; slot = q.row; limit = 1; first = 1 }) p (w.kind p))
       (λ p. cond (bit (w.kind p) to) 1 0)
       w.size
       (λ o. number-parts targets lows highs x.wholeslot x.wholefrom x.wholeto from 0 q.row 0 first (cond (eqb o 0) first 0) (w.kind o))

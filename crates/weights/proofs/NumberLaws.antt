@@ -1,4 +1,4 @@
--- Laws of the numbers by types: how the code finds them, and what they are by each way.
+-- Laws of the numbers by types: how the code finds them, and what they are by each count.
 -- Assumes nothing.
 use Prim.Native.Nat.{◌*◌, ◌+◌, ◌<◌, ◌≤◌, max, min, ℕ}
 use native.Mathlib.Numerals.{add-one}
@@ -14,8 +14,10 @@ use borrow.Author.Tests.{eqb-true, ne_eqb}
 use Rattle.laws.specs.Bits.{bit}
 use Rattle.laws.proofs.BitLaws.{bit-or, bit-both}
 use Rattle.laws.proofs.ConnectiveLaws.{or_left, or_right}
+use Rattle.weights.specs.declared.Count.TheVariants.{Flat, High, Low, Parts}
+use Rattle.weights.specs.declared.Count.{Count}
 use Rattle.weights.specs.declared.Weight.{Weight}
-use Rattle.weights.specs.Numbers.{in_mask, limit_at, line_number, number_by, slot_number, whole_low, whole_row}
+use Rattle.weights.specs.Numbers.{in_mask, limit_at, line_number, counted, number_by, whole_low, whole_row}
 
 -- ---- masks
 
@@ -64,21 +66,19 @@ module _ (targets lows highs slots froms tos : List ℕ) where
     unfolding number_by
     number-none e = rw e
 
-    pub number-whole : {r : ℕ} → bit t w.mask ≡ true → eqb w.way 3 ≡ true → r ≡ whole_low targets lows slots froms tos w.slot limit t 16
+    pub number-as : (k : Count) {r : ℕ} → w.count ≡ k → bit t w.mask ≡ true → r ≡ counted targets lows highs slots froms tos k w limit t
         → r ≡ number_by targets lows highs slots froms tos w limit t
     unfolding number_by
-    number-whole e f g = rw (e, f) g
+    number-as k e f g =
+        let by : Count → ℕ = λ c. counted targets lows highs slots froms tos c w limit t in
+        let h : by w.count ≡ number_by targets lows highs slots froms tos w limit t = rw f in
+        g ∙ ap by (sym e) ∙ h
 
-    pub number-slot : {r : ℕ} → bit t w.mask ≡ true → eqb w.way 3 ≡ false → r ≡ slot_number targets lows highs w limit t
-        → r ≡ number_by targets lows highs slots froms tos w limit t
-    unfolding number_by
-    number-slot e f g = rw (e, f) g
-
-  -- by each way
+  -- by what is counted
   module _ (mask to slot limit₀ first limit t : ℕ) where
-    pub number-low : number_by targets lows highs slots froms tos (record { way = 0; mask = mask; to = to; slot = slot; limit = limit₀; first = first }) limit t
+    pub number-low : number_by targets lows highs slots froms tos (record { count = Low; mask = mask; to = to; slot = slot; limit = limit₀; first = first }) limit t
         ≡ cond (bit t mask && in_mask (get_or targets (t * 32 + slot) 0) to) (max (get_or lows (t * 32 + slot) 0) limit) 0
-    unfolding number_by slot_number
+    unfolding number_by counted
     number-low = go (bit t mask)
       where
         go : (b : Bool) → cond b (cond (in_mask (get_or targets (t * 32 + slot) 0) to) (max (get_or lows (t * 32 + slot) 0) limit) 0) 0
@@ -86,18 +86,18 @@ module _ (targets lows highs slots froms tos : List ℕ) where
         go true = refl
         go false = refl
 
-    pub number-high : number_by targets lows highs slots froms tos (record { way = 1; mask = mask; to = to; slot = slot; limit = limit₀; first = first }) limit t
+    pub number-high : number_by targets lows highs slots froms tos (record { count = High; mask = mask; to = to; slot = slot; limit = limit₀; first = first }) limit t
         ≡ cond (bit t mask) (min (get_or highs (t * 32 + slot) 0) limit) 0
-    unfolding number_by slot_number
+    unfolding number_by counted
     number-high = refl
 
-    pub number-flat : number_by targets lows highs slots froms tos (record { way = 2; mask = mask; to = to; slot = slot; limit = limit₀; first = first }) limit t ≡ cond (bit t mask) limit 0
-    unfolding number_by slot_number
+    pub number-flat : number_by targets lows highs slots froms tos (record { count = Flat; mask = mask; to = to; slot = slot; limit = limit₀; first = first }) limit t ≡ cond (bit t mask) limit 0
+    unfolding number_by counted
     number-flat = refl
 
-    pub number-parts : number_by targets lows highs slots froms tos (record { way = 3; mask = mask; to = to; slot = slot; limit = limit₀; first = first }) limit t
+    pub number-parts : number_by targets lows highs slots froms tos (record { count = Parts; mask = mask; to = to; slot = slot; limit = limit₀; first = first }) limit t
         ≡ cond (bit t mask) (whole_low targets lows slots froms tos slot limit t 16) 0
-    unfolding number_by
+    unfolding number_by counted
     number-parts = refl
 
 -- an object that is not the first has the common limit

@@ -3,6 +3,8 @@
 use Rattle.std.specs.Prelude.{◌*◌, ◌+◌, max, min, suc, zero, ℕ, Bool, ◌&&◌, cond, List, eqb, get_or}
 use Rattle.std.specs.Int.Bits.{bit_or}
 use Rattle.laws.specs.Bits.{bit}
+use Rattle.weights.specs.declared.Count.{Count}
+use Rattle.weights.specs.declared.Count.TheVariants.{Flat, High, Low, Parts}
 use Rattle.weights.specs.declared.Weight.{Weight}
 
 -- every type of the mask a is one of b
@@ -28,17 +30,17 @@ module _ (targets lows slots froms tos : List ℕ) where
   whole_low slot limit t zero = 0
   whole_low slot limit t (suc n) = max (whole_low slot limit t n) (whole_row slot limit t n)
 
--- the number of type t by one slot
-unfoldable pub slot_number : List ℕ → List ℕ → List ℕ → Weight → ℕ → ℕ → ℕ
-slot_number targets lows highs w limit t =
-    let x = t * 32 + w.slot in
-    cond (eqb w.way 2) limit (cond (eqb w.way 1) (min (get_or highs x 0) limit) (cond (in_mask (get_or targets x 0) w.to) (max (get_or lows x 0) limit) 0))
-
 module _ (targets lows highs slots froms tos : List ℕ) where
+  -- the number of a type t of the mask, by what is counted
+  unfoldable pub counted : Count → Weight → ℕ → ℕ → ℕ
+  counted Low w limit t = cond (in_mask (get_or targets (t * 32 + w.slot) 0) w.to) (max (get_or lows (t * 32 + w.slot) 0) limit) 0
+  counted High w limit t = min (get_or highs (t * 32 + w.slot) 0) limit
+  counted Flat w limit t = limit
+  counted Parts w limit t = whole_low targets lows slots froms tos w.slot limit t 16
+
   -- the number of type t
   unfoldable pub number_by : Weight → ℕ → ℕ → ℕ
-  number_by w limit t =
-      cond (bit t w.mask) (cond (eqb w.way 3) (whole_low targets lows slots froms tos w.slot limit t 16) (slot_number targets lows highs w limit t)) 0
+  number_by w limit t = cond (bit t w.mask) (counted w.count w limit t) 0
 
   -- the number of object o, which has type t
   abbrev pub number_at : Weight → ℕ → ℕ → ℕ

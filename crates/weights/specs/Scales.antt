@@ -7,6 +7,7 @@ use Rattle.worlds.specs.declared.Lines.{Lines}
 use Rattle.worlds.specs.declared.Query.{Query}
 use Rattle.worlds.specs.Asked.{Satisfies}
 use Rattle.worlds.specs.Kept.{Allowed, SourceTable, sheet}
+use Rattle.weights.specs.declared.Count.TheVariants.{Flat, High, Low, Parts}
 use Rattle.weights.specs.declared.Own.{Own}
 use Rattle.weights.specs.declared.Scale.{Scale}
 use Rattle.weights.specs.declared.Weight.{Weight}
@@ -35,29 +36,29 @@ column_most own s from may = cond (own.asked && eqb own.column s && in_mask (bit
 -- rows of sources `from` against columns of targets `to` with at most `high` sources
 unfoldable pub rows_scale : Own → ℕ → ℕ → ℕ → ℕ → ℕ → Scale
 rows_scale own s from to high may = record {
-  a = record { way = 0; mask = from; to = to; slot = s; limit = 0; first = row_least own s };
-  b = record { way = 2; mask = to; to = 0; slot = s; limit = high; first = min high (column_most own s from may) };
+  a = record { count = Low; mask = from; to = to; slot = s; limit = 0; first = row_least own s };
+  b = record { count = Flat; mask = to; to = 0; slot = s; limit = high; first = min high (column_most own s from may) };
 }
 
 -- columns of targets `to` with at least `low` sources against rows of sources `from`
 unfoldable pub columns_scale : Own → ℕ → ℕ → ℕ → ℕ → ℕ → Scale
 columns_scale own s from to low may = record {
-  a = record { way = 2; mask = to; to = 0; slot = s; limit = low; first = max low (column_least own s from may) };
-  b = record { way = 1; mask = from; to = 0; slot = s; limit = 255; first = row_most own s };
+  a = record { count = Flat; mask = to; to = 0; slot = s; limit = low; first = max low (column_least own s from may) };
+  b = record { count = High; mask = from; to = 0; slot = s; limit = 255; first = row_most own s };
 }
 
 -- rows of sources `from` against the rows back of targets `to`
 unfoldable pub mirror_scale : Own → ℕ → ℕ → ℕ → ℕ → ℕ → Scale
 mirror_scale own s back from to may = record {
-  a = record { way = 0; mask = from; to = to; slot = s; limit = 0; first = row_least own s };
-  b = record { way = 1; mask = to; to = 0; slot = back; limit = 255; first = min (row_most own back) (column_most own s from may) };
+  a = record { count = Low; mask = from; to = to; slot = s; limit = 0; first = row_least own s };
+  b = record { count = High; mask = to; to = 0; slot = back; limit = 255; first = min (row_most own back) (column_most own s from may) };
 }
 
 -- rows of wholes, of the types `from`, against parts, of the types `to`
 unfoldable pub whole_scale : Own → ℕ → ℕ → Scale
 whole_scale own from to = record {
-  a = record { way = 3; mask = from; to = 0; slot = own.row; limit = 0; first = cond own.asked own.low 0 };
-  b = record { way = 2; mask = to; to = 0; slot = own.row; limit = 1; first = 1 };
+  a = record { count = Parts; mask = from; to = 0; slot = own.row; limit = 0; first = cond own.asked own.low 0 };
+  b = record { count = Flat; mask = to; to = 0; slot = own.row; limit = 1; first = 1 };
 }
 
 -- the numbers of the objects of a world together

@@ -1,12 +1,12 @@
 -- What a query asks of a world, and the worlds that a search for it wants.
 -- Assumes nothing.
-use Rattle.std.specs.Prelude.{◌*◌, ◌+◌, ◌<◌, ◌≤◌, ℕ, Bool, ◌&&◌, false, true, ◌≡◌, get_or}
+use Rattle.std.specs.Prelude.{◌*◌, ◌+◌, ◌<◌, ◌≤◌, ℕ, Bool, ◌&&◌, false, true, [], Option, None, Some, ◌≡◌, get_or}
 use Rattle.laws.specs.Bits.{bit}
 use Rattle.laws.specs.Bounded.{tally}
 use Rattle.growing.specs.World.{World, target_count}
 use Rattle.link_search.specs.Nets.{InLimits, net_of}
 use Rattle.worlds.specs.declared.Query.{Query}
-use Rattle.worlds.specs.declared.Built.{Built}
+use Rattle.worlds.specs.declared.Site.{Site}
 use Rattle.worlds.specs.Kept.{Allowed, Sheet, world_in}
 
 -- o counts as a source of the first seed
@@ -39,9 +39,10 @@ pub record Solution (x : Sheet) (q : Query) (n : ℕ) (w : World) : Type 0 where
   pub asked : Satisfies q w
   pub size : w.size ≡ n
 
--- the world that was built, of n objects
-abbrev pub world_built : ℕ → Built → World
-world_built n b = world_in n b.types b.links
+-- the world of n objects that was built; where none was, any
+abbrev pub world_built : ℕ → Option Site → World
+world_built n None = world_in n [] []
+world_built n (Some s) = world_in n s.types s.links
 
 -- a world with the property: where `ok`, m is one; else there is none
 pub record Answers (S : World → Type 0) (ok : Bool) (m : World) : Type 0 where

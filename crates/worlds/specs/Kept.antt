@@ -8,6 +8,8 @@ use Rattle.records.specs.declared.MemoryRecord.{MemoryRecord}
 use Rattle.growing.specs.World.{World, target_count}
 use Rattle.link_search.specs.Nets.{InLimits, net_of}
 use Rattle.worlds.specs.declared.Lines.{Lines}
+use Rattle.worlds.specs.declared.Others.{Others}
+use Rattle.worlds.specs.declared.Tables.{Tables}
 
 -- the world of n objects whose types and rows of links stand in arrays, as in a record in memory
 unfoldable pub world_in : ℕ → List ℕ → List ℕ → World
@@ -69,6 +71,9 @@ pub record Sheet : Type 0 where
 abbrev pub sheet : ℕ → ℕ → List ℕ → List ℕ → List ℕ → Lines → Sheet
 sheet usable singles targets lows highs lines = record { usable = usable; singles = singles; targets = targets; lows = lows; highs = highs; lines = lines }
 
+abbrev pub sheet_of : Tables → Sheet
+sheet_of t = sheet t.usable t.singles t.targets t.lows t.highs t.lines
+
 pub record Allowed (x : Sheet) (w : World) : Type 0 where
   pub few : w.size ≤ 8
   pub past : (s o p : ℕ) → 32 ≤ s → w.link s o p ≡ false
@@ -92,6 +97,9 @@ pub record AllKept (bad singles : ℕ) (missing : Bool) (targets lows highs : Li
   pub mirrors : MirrorsKept x w
   pub wholes : WholesKept x w
 
+abbrev pub KeepsOthers : Others → World → Type 0
+KeepsOthers o w = AllKept o.bad o.singles o.missing o.targets o.lows o.highs o.lines w
+
 -- ---- what code asks of tables
 
 -- the slots of lines are role slots
@@ -104,3 +112,7 @@ pub record Slotted (x : Lines) : Type 0 where
 -- the table of sources is the table of targets, turned: t may have u as a target in slot s
 pub record SourceTable (targets sources : List ℕ) : Type 0 where
   pub at : (t s u : ℕ) → t < 24 → s < 32 → u < 24 → bit t (get_or sources (u * 32 + s) 0) ≡ bit u (get_or targets (t * 32 + s) 0)
+
+pub record Coherent (t : Tables) : Type 0 where
+  pub slotted : Slotted t.lines
+  pub turned : SourceTable t.targets t.sources

@@ -1,8 +1,6 @@
 // What the search by types works on: a query, tables by types, and what it finds.
 #![tactic(auto)]
 
-ghost use Rattle.std.specs.Prelude.{◌≡◌, false};
-
 // A question about the sites that one diagram allows. Its seeds are the first objects.
 #[derive(Clone, Copy)]
 pub struct Query {
@@ -45,21 +43,38 @@ pub struct Lines {
     pub wholeto: [u32; 16],
 }
 
-// A site that was found: the types of its objects, and their links as in a record. Where none was found, anything.
+// What the diagram whose sites are searched says of their objects, by types and role slots.
 #[derive(Clone, Copy)]
-pub struct Built {
-    pub ok: bool,
-    pub types: [u8; 8],
-    pub links: [u8; 256],
+pub struct Tables {
+    // For type t and role slot s at t * 32 + s: the types of the targets that an object may have and of the sources, and the limits for
+    // the number of its targets.
+    pub targets: [u32; 768],
+    pub sources: [u32; 768],
+    pub lows: [u8; 768],
+    pub highs: [u8; 768],
+    pub lines: Lines,
+    // The types that an object can have, and those that exactly one object has.
+    pub usable: u32,
+    pub singles: u32,
 }
 
-// No site was found.
-pub fn nothing() -> Built
-    ensures { result.ok ≡ false }
-{
-    Built {
-        ok: false,
-        types: [0u8; 8],
-        links: [0u8; 256],
-    }
+// What another diagram says of these sites, by the same types and role slots.
+#[derive(Clone, Copy)]
+pub struct Others {
+    pub targets: [u32; 768],
+    pub lows: [u8; 768],
+    pub highs: [u8; 768],
+    pub lines: Lines,
+    // The types that no object may have, and those that exactly one object has.
+    pub bad: u32,
+    pub singles: u32,
+    // Exactly one object has a type that there is not.
+    pub missing: bool,
+}
+
+// A site that was found: the types of its objects, and their links as in a record.
+#[derive(Clone, Copy)]
+pub struct Site {
+    pub types: [u8; 8],
+    pub links: [u8; 256],
 }

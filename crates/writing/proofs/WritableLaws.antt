@@ -1,19 +1,17 @@
--- What follows where a record can be written, and where it cannot.
+-- What follows where a record can be written.
 -- Assumes nothing.
 use Prim.Native.Nat.{ℕ, ◌≤◌}
-use mathlib.Core.Bool.{true, false}
-use mathlib.Core.List.{List}
-use mathlib.Core.Path.{◌≡◌, refl}
+use mathlib.Core.Bool.{true}
+use mathlib.Core.Path.{◌≡◌}
 use lib.Dec.{leb}
-use lib.ListN.{length}
 use borrow.Author.Tests.{leb-true}
-use Rattle.laws.proofs.ConnectiveLaws.{both_left, both_right, true-false}
+use Rattle.laws.proofs.ConnectiveLaws.{both_left, both_right}
 use Rattle.files.specs.Diagram.{Diagram}
 use Rattle.records.specs.declared.MemoryRecord.{MemoryRecord}
-use Rattle.records.specs.Written.{Within, record_of}
+use Rattle.records.specs.Written.{Within}
 use Rattle.records.specs.WithinTest.{within}
 use Rattle.records.proofs.WithinLaws.{within-sound}
-use Rattle.writing.specs.Writes.{Writes, WritesWithin, writable}
+use Rattle.writing.specs.Writes.{writable}
 
 module _ (d : Diagram) (m : MemoryRecord) where
   module _ (room : ℕ) (h : writable d m room ≡ true) where
@@ -24,9 +22,3 @@ module _ (d : Diagram) (m : MemoryRecord) where
     pub writable-within : Within d m
     unfolding writable
     writable-within = within-sound d m (both_right (leb 59300 room) (within d m) h)
-
-  pub record-written : {before : List ℕ} {n : ℕ} {after : List ℕ} → writable d m (length before) ≡ true → Writes (record_of d m) before n after → WritesWithin d m before n after
-  record-written h w = record { written = λ t. w; refused = λ f. absurd (true-false h f) }
-
-  pub record-refused : {before : List ℕ} → writable d m (length before) ≡ false → WritesWithin d m before 0 before
-  record-refused h = record { written = λ t. absurd (true-false t h); refused = λ f. (refl, refl) }

@@ -4,8 +4,8 @@ use Rattle.bench.proofs.settle.Goals as goal
 
 pub returns-then-p-eq0 : goal.returns-then-p-eq0
 unfolding settled_in
-returns-then-p-eq0 c = rw (eq-eqb _ 0 c.if-p-eq0.true, c.no_witness-c.ensures)
+returns-then-p-eq0 c = rw (eq-eqb _ 0 c.if-p-eq0.true)
 
 pub returns-else-p-eq0 : goal.returns-else-p-eq0
 unfolding settled_in
-returns-else-p-eq0 c = rw (ne_eqb _ 0 c.if-p-eq0.false, c.no_witness-c.ensures)
+returns-else-p-eq0 c = rw (ne_eqb _ 0 c.if-p-eq0.false)

@@ -4,7 +4,4 @@ use Prim.Native.Nat.{◌≤◌, ◌-◌}
 use Rattle.cases.proofs.decode.Given as goal
 
 abbrev pub invariant-loop-i : goal.invariant-loop-i
-invariant-loop-i l = (l.i ≤ l.n) × ((l.n ≤ length l.out) × (length l.out ≡ length l.initial.out))
-
-abbrev pub decreases-loop-i : goal.decreases-loop-i
-decreases-loop-i l = l.n - l.i
+invariant-loop-i l = (l.n ≤ length l.out) × (length l.out ≡ length l.initial.out)

@@ -5,8 +5,8 @@ use Rattle.cases.proofs.run_site.Goals as goal
 pub slice_bounds-read_diagram-end-2 : goal.slice_bounds-read_diagram-end-2
 slice_bounds-read_diagram-end-2 c = sym (length-take-le _ _ c.decode-n.ensures)
 
-pub slice_bounds-reply-end-then-l-eq0 : goal.slice_bounds-reply-end-then-l-eq0
-slice_bounds-reply-end-then-l-eq0 c = sym (length-take-le _ _ c.decode-k.ensures)
+pub slice_bounds-reply-end-in-Ok : goal.slice_bounds-reply-end-in-Ok
+slice_bounds-reply-end-in-Ok c = sym (length-take-le _ _ c.decode-k.ensures)
 
 pub reply-requires : goal.reply-requires
-reply-requires c = c.read_diagram-l.ensures.held c.if-l-eq0.true
+reply-requires c = c.in-Ok.ensures.held

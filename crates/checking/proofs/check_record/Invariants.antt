@@ -2,8 +2,8 @@ use Rattle.checking.proofs.ReadingLaws.{Reading}
 use lib.ListN.{length}
 use Rattle.checking.proofs.check_record.Given as goal
 
-abbrev pub invariant-loop-rest : goal.invariant-loop-rest
-invariant-loop-rest l = Reading l.file l.s l.value l.link l.rest
+abbrev pub invariant-loop-field : goal.invariant-loop-field
+invariant-loop-field l = Reading l.file l.s l.value l.link l.rest
 
-abbrev pub decreases-loop-rest : goal.decreases-loop-rest
-decreases-loop-rest l = length l.rest
+abbrev pub decreases-loop-field : goal.decreases-loop-field
+decreases-loop-field l = length l.rest

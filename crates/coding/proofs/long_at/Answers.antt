@@ -4,4 +4,4 @@ use Rattle.coding.proofs.long_at.Goals as goal
 
 pub returns : goal.returns
 unfolding long_at
-returns c = (cc, omega arith)
+returns c = (omega arith, omega arith)

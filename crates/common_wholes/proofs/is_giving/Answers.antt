@@ -16,9 +16,9 @@ returns-then-lines-j c = λ e. absurd (true-false e refl)
 pub returns : goal.returns
 returns c =
     let a = c.args in
-    let x = c.has32.result in
-    let y = c.has32-2.result in
+    let x = c.has.result in
+    let y = c.has-2.result in
     let z = c.is_inside.result in
     λ e. giving a.lines a.t a.j c.requires.1 (omega (arith, c.if-lines-j-eq0.false)) c.if-lines-j.false
-    (sym c.has32.ensures ∙ and_left x y (and_left (x && y) z e)) (sym c.has32-2.ensures ∙ and_right x y (and_left (x && y) z e))
+    (sym c.has.ensures ∙ and_left x y (and_left (x && y) z e)) (sym c.has-2.ensures ∙ and_right x y (and_left (x && y) z e))
     (c.is_inside.ensures (and_right (x && y) z e))

@@ -2,20 +2,14 @@ use Rattle.comparing.proofs.CompareLaws.{compared, few-objects}
 use Rattle.comparing.proofs.ReadyLaws.{ready}
 use Rattle.comparing.proofs.compare.Goals as goal
 
-pub single_types-singles-requires : goal.single_types-singles-requires
-single_types-singles-requires c = (c.requires.0, c.requires.0)
+pub single_types-requires : goal.single_types-requires
+single_types-requires c = (c.requires.0, c.requires.0)
 
-pub rows_by-other-requires : goal.rows_by-other-requires
-rows_by-other-requires c = (c.requires.0, c.requires.1)
+pub rows_by-requires-2 : goal.rows_by-requires-2
+rows_by-requires-2 c = (c.requires.0, c.requires.1)
 
-pub lines_by-lines2-requires : goal.lines_by-lines2-requires
-lines_by-lines2-requires c = (c.requires.0, c.requires.1)
-
-pub single_types-singles2-requires : goal.single_types-singles2-requires
-single_types-singles2-requires c = (c.requires.0, c.requires.1)
-
-pub single_missing-missing-requires : goal.single_missing-missing-requires
-single_missing-missing-requires c = (c.requires.0, c.requires.1)
+pub lines_by-requires-2 : goal.lines_by-requires-2
+lines_by-requires-2 c = (c.requires.0, c.requires.1)
 
 pub bad_types-requires : goal.bad_types-requires
 bad_types-requires c = ((c.requires.0, c.requires.1), c.due_values-dues.ensures)
@@ -23,16 +17,21 @@ bad_types-requires c = ((c.requires.0, c.requires.1), c.due_values-dues.ensures)
 pub missing_links-requires : goal.missing_links-requires
 missing_links-requires c = (c.requires.0, c.requires.1)
 
+pub single_types-requires-2 : goal.single_types-requires-2
+single_types-requires-2 c = (c.requires.0, c.requires.1)
+
+pub single_missing-requires : goal.single_missing-requires
+single_missing-requires c = (c.requires.0, c.requires.1)
+
 pub least-requires : goal.least-requires
 least-requires c = (
   c.requires.0,
   c.requires.1,
-  ready c.args.old c.args.new c.requires.0 c.due_values-dues.ensures c.rows_by-own.ensures c.narrowed-targets.ensures c.sources_of-sources.ensures c.lines_by-lines.ensures
-      c.usable_types-usable.ensures c.single_types-singles.ensures c.rows_by-other.ensures c.lines_by-lines2.ensures c.single_types-singles2.ensures
-      c.single_missing-missing.ensures c.bad_types.ensures c.missing_links.ensures,
-  few-objects c.args.bound c.at_most_8.result c.at_most_8.ensures,
+  ready c.args.old c.args.new c.requires.0 c.due_values-dues.ensures c.rows_by.ensures c.narrowed-targets.ensures c.sources_of-sources.ensures c.lines_by.ensures
+      c.usable_types-usable.ensures c.single_types.ensures c.rows_by-2.ensures c.lines_by-2.ensures c.single_types-2.ensures
+      c.single_missing.ensures c.bad_types.ensures c.missing_links.ensures,
+  few-objects c.args.bound c.min.result c.min.ensures,
 )
 
 pub returns : goal.returns
-returns c =
-    compared c.requires.0.wf c.at_most_8.ensures c.least.ensures
+returns c = compared c.requires.0.wf c.min.ensures c.least.ensures

@@ -1,16 +1,15 @@
-use Prim.Native.Nat.{◌-◌}
-use Rattle.comparing.proofs.SoughtLaws.{fewer-left, next-within, none_first, none-next, sought}
-use borrow.Author.Rules.{rules}
+use native.Mathlib.Omega.{arith}
+use Rattle.comparing.proofs.SoughtLaws.{none_first, none_found, none-next, sought}
 use Rattle.comparing.proofs.least.Goals as goal
 
 pub loop-n-init : goal.loop-n-init
-loop-n-init c = search (rules, none_first)
+loop-n-init c = none_first
 
-pub returns-then-f-n : goal.returns-then-f-n
-returns-then-f-n c = search (rules, sought)
-
-pub loop-n-smaller : goal.loop-n-smaller
-loop-n-smaller c = search (rules, fewer-left)
+pub returns-in-Some : goal.returns-in-Some
+returns-in-Some c = sought c.loop-n.invariant _ c.loop-n-test.true c.in-Some.ensures
 
 pub loop-n-preserved : goal.loop-n-preserved
-loop-n-preserved c = search (rules, none-next, next-within)
+loop-n-preserved c = none-next c.loop-n.invariant c.in_default.ensures
+
+pub returns : goal.returns
+returns c = none_found c.loop-n.invariant _ (omega (arith, c.loop-n-test.false))

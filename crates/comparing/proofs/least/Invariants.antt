@@ -1,10 +1,6 @@
-use Prim.Native.Nat.{◌-◌, ◌≤◌}
 use Rattle.diagrams.specs.View.{diagram_of}
 use Rattle.comparing.specs.Sought.{NoneBelow}
 use Rattle.comparing.proofs.least.Given as goal
 
 abbrev pub invariant-loop-n : goal.invariant-loop-n
-invariant-loop-n l = (l.n ≤ l.most) × NoneBelow (diagram_of l.old) (diagram_of l.new) l.n
-
-abbrev pub decreases-loop-n : goal.decreases-loop-n
-decreases-loop-n l = l.most - l.n
+invariant-loop-n l = NoneBelow (diagram_of l.old) (diagram_of l.new) l.n

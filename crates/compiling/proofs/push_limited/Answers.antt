@@ -6,6 +6,6 @@ pub returns-then-up-eq65535 : goal.returns-then-up-eq65535
 returns-then-up-eq65535 c = let a = c.args in
     (appends-as c.push.ensures.0 (limited-none a.kind a.association a.side a.low a.up c.requires.1.1 c.if-up-eq65535.true), c.push.ensures.1)
 
-pub returns : goal.returns
-returns c = let a = c.args in
-    (appends-as c.push-2.ensures.0 (limited-some a.kind a.association a.side a.low a.up c.requires.1.1 c.if-up-eq65535.false), c.push-2.ensures.1)
+pub returns-else-up-eq65535 : goal.returns-else-up-eq65535
+returns-else-up-eq65535 c = let a = c.args in
+    (appends-as c.push-else-up-eq65535.ensures.0 (limited-some a.kind a.association a.side a.low a.up c.requires.1.1 c.if-up-eq65535.false), c.push-else-up-eq65535.ensures.1)

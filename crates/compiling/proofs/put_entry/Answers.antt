@@ -4,11 +4,13 @@ use Rattle.compiling.proofs.ByteLaws.{bytes-more}
 use Rattle.compiling.proofs.put_entry.Goals as goal
 
 pub overflow_cast-list : goal.overflow_cast-list
+unfolding entry_in
 overflow_cast-list c = omega (arith, c.requires.1.1.low c.args.i)
 
 pub overflow_cast-list-2 : goal.overflow_cast-list-2
+unfolding entry_in
 overflow_cast-list-2 c = omega (arith, c.requires.1.1.up c.args.i)
 
 pub returns : goal.returns
 unfolding entry_in
-returns c = bytes-more c.args.e c.args.list.now c.args.i c.requires.0 c.requires.1.0
+returns c = bytes-more c.args.e.now c.args.list.now c.args.i c.requires.0 c.requires.1.0

@@ -1,15 +1,11 @@
-use Rattle.laws.proofs.LoopLaws.{each}
-use Prim.Native.Nat.{◌-◌}
+use borrow.Author.Rules.{rules}
+use borrow.Author.Tests.{tests}
+use mathlib.Core.Path.{refl}
+use Rattle.masks.proofs.RangeLaws.{all-range}
+use Rattle.declarations.specs.Declares.{agrees_at}
 use Rattle.declarations.proofs.are_agreeing.Goals as goal
 
-pub loop-a-init : goal.loop-a-init
-loop-a-init c = search each
-
-pub returns-then-not-is_agreeing : goal.returns-then-not-is_agreeing
-returns-then-not-is_agreeing c = search each
-
-pub loop-a-preserved : goal.loop-a-preserved
-loop-a-preserved c = search each
-
 pub returns : goal.returns
-returns c = search each
+returns c =
+    let a = c.args in
+    all-range (agrees_at a.attributes.now.owners a.attributes.now.types a.t.now.masks a.t.now.slots a.o a.s a.value_type) _ c.all.ensures.ran refl (λ x b q k. search (rules, tests))

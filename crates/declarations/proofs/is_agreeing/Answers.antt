@@ -1,3 +1,4 @@
+use mathlib.Core.Path.{refl}
 use Rattle.declarations.proofs.DeclarationLaws.{agrees-by}
 use Rattle.laws.proofs.SearchLaws.{tests}
 use Rattle.declarations.specs.Declares.{agrees_at}
@@ -10,4 +11,4 @@ unfolding agrees_at
 returns-then-not-is_declaring c = search tests depth 8 fits 20000
 
 pub returns : goal.returns
-returns c = agrees-by _ _ _ _ _ _ _ _ c.is_declaring.ensures (ap not c.if-not-is_declaring.false) c.wide.ensures.0 c.byte.ensures
+returns c = agrees-by _ _ _ _ _ _ _ _ c.is_declaring.ensures (ap not c.if-not-is_declaring.false) refl c.byte.ensures

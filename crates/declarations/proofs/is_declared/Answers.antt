@@ -1,15 +1,11 @@
-use Rattle.laws.proofs.LoopLaws.{each}
-use Prim.Native.Nat.{◌-◌}
+use borrow.Author.Rules.{rules}
+use borrow.Author.Tests.{tests}
+use mathlib.Core.Path.{refl}
+use Rattle.masks.proofs.RangeLaws.{any-range}
+use Rattle.declarations.specs.Declares.{declares_at}
 use Rattle.declarations.proofs.is_declared.Goals as goal
 
-pub loop-a-init : goal.loop-a-init
-loop-a-init c = search each
-
-pub returns-then-is_declaring : goal.returns-then-is_declaring
-returns-then-is_declaring c = search each
-
-pub loop-a-preserved : goal.loop-a-preserved
-loop-a-preserved c = search each
-
 pub returns : goal.returns
-returns c = search each
+returns c =
+    let a = c.args in
+    any-range (declares_at a.attributes.now.owners a.t.now.masks a.t.now.slots a.o a.s) _ c.any.ensures.ran refl (λ x b q k. search (rules, tests))

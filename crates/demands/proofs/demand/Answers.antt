@@ -1,98 +1,80 @@
 -- `demand` meets its contract: what is known with no count, sharpened by one family of needs after the other.
 -- Assumes nothing.
+use Rattle.std.specs.Prelude.{Option, Some, ℕ}
 use Prim.Native.Nat.{◌-◌}
-use mathlib.Core.Bool.{false}
 use native.Mathlib.Omega.{arith}
 use Rattle.worlds.specs.Asked.{Solution}
-use Rattle.worlds.specs.Kept.{sheet}
+use Rattle.worlds.specs.Kept.{sheet_of}
 use Rattle.demands.specs.declared.Start.{Start}
-use Rattle.demands.specs.declared.Wish.{Wish}
-use Rattle.demands.specs.Wishes.{Known, Sharpens}
+use Rattle.demands.specs.Wishes.{Sharpens}
 use Rattle.demands.proofs.NeedLaws.{sharp-trans}
 use Rattle.demands.proofs.StartLaws.{demanded}
 use Rattle.demands.proofs.SolutionLaws.{by-columns, by-own, by_rows, by-singles, by_weights, by-wholes}
 use Rattle.demands.proofs.demand.Goals as goal
 
-pub returns-then-single : goal.returns-then-single
-returns-then-single c =
+pub returns-in_err-single : goal.returns-in_err-single
+returns-in_err-single c =
     let a = c.args in
-    let x = sheet a.usable a.singles a.targets.now a.lows.now a.highs.now a.lines in
-    let s : Start = record { types = a.types; k = a.k; spare = a.n - a.k; free = c.types_free-free.result } in
-    let Sharp : Wish → Type 0 = λ r. Sharpens (Solution x a.q a.n) s (record { dead = false; g = c.types_free-free.result }) r in
-    let single : Sharp c.with_singles-single.result = by-singles x a.q a.n s _ c.with_singles-single.result c.with_singles-single.ensures in
-    demanded x a.q a.n a.types a.k a.forb c.types_free-free.result (c.types_free-free.ensures a.types a.k c.types_present-here.ensures) c.with_singles-single.result single
+    let x = sheet_of a.tables.now in
+    rw c.from_residual.ensures (demanded x a.q a.n a.types a.k a.forb c.types_free-free.result (c.types_free-free.ensures a.types a.k c.types_present-here.ensures) _ (by-singles x a.q a.n _ _ _ c.in_err-single.ensures))
 
-pub returns-then-row : goal.returns-then-row
-returns-then-row c =
+pub returns-in_err-row : goal.returns-in_err-row
+returns-in_err-row c =
     let a = c.args in
-    let x = sheet a.usable a.singles a.targets.now a.lows.now a.highs.now a.lines in
+    let x = sheet_of a.tables.now in
     let s : Start = record { types = a.types; k = a.k; spare = a.n - a.k; free = c.types_free-free.result } in
-    let Sharp : Wish → Type 0 = λ r. Sharpens (Solution x a.q a.n) s (record { dead = false; g = c.types_free-free.result }) r in
-    let single : Sharp c.with_singles-single.result = by-singles x a.q a.n s _ c.with_singles-single.result c.with_singles-single.ensures in
-    let row : Sharp c.with_rows-row.result = sharp-trans s _ c.with_singles-single.result c.with_rows-row.result single (by_rows x a.q a.n s c.with_singles-single.result c.with_rows-row.result c.with_rows-row.ensures) in
-    demanded x a.q a.n a.types a.k a.forb c.types_free-free.result (c.types_free-free.ensures a.types a.k c.types_present-here.ensures) c.with_rows-row.result row
+    let Sharp : Option ℕ → Type 0 = Sharpens (Solution x a.q a.n) s (Some c.types_free-free.result) in
+    let single : Sharp (Some c.in_ok-single.single) = by-singles x a.q a.n _ _ _ c.in_ok-single.ensures in
+    rw c.from_residual-in_err-row.ensures (demanded x a.q a.n a.types a.k a.forb c.types_free-free.result (c.types_free-free.ensures a.types a.k c.types_present-here.ensures) _ (sharp-trans _ _ _ _ single (by_rows x a.q a.n _ _ _ c.in_err-row.ensures)))
 
-pub returns-then-column : goal.returns-then-column
-returns-then-column c =
+pub returns-in_err-column : goal.returns-in_err-column
+returns-in_err-column c =
     let a = c.args in
-    let x = sheet a.usable a.singles a.targets.now a.lows.now a.highs.now a.lines in
+    let x = sheet_of a.tables.now in
     let s : Start = record { types = a.types; k = a.k; spare = a.n - a.k; free = c.types_free-free.result } in
-    let Sharp : Wish → Type 0 = λ r. Sharpens (Solution x a.q a.n) s (record { dead = false; g = c.types_free-free.result }) r in
-    let single : Sharp c.with_singles-single.result = by-singles x a.q a.n s _ c.with_singles-single.result c.with_singles-single.ensures in
-    let row : Sharp c.with_rows-row.result = sharp-trans s _ c.with_singles-single.result c.with_rows-row.result single (by_rows x a.q a.n s c.with_singles-single.result c.with_rows-row.result c.with_rows-row.ensures) in
-    let column : Sharp c.with_columns-column.result = sharp-trans s _ c.with_rows-row.result c.with_columns-column.result row (by-columns x a.q a.n s c.with_rows-row.result c.with_columns-column.result a.sources.now c.requires.1 c.with_columns-column.ensures) in
-    demanded x a.q a.n a.types a.k a.forb c.types_free-free.result (c.types_free-free.ensures a.types a.k c.types_present-here.ensures) c.with_columns-column.result column
+    let Sharp : Option ℕ → Type 0 = Sharpens (Solution x a.q a.n) s (Some c.types_free-free.result) in
+    let single : Sharp (Some c.in_ok-single.single) = by-singles x a.q a.n _ _ _ c.in_ok-single.ensures in
+    let row : Sharp (Some c.in_ok-row.row) = sharp-trans _ _ _ _ single (by_rows x a.q a.n _ _ _ c.in_ok-row.ensures) in
+    rw c.from_residual-in_err-column.ensures (demanded x a.q a.n a.types a.k a.forb c.types_free-free.result (c.types_free-free.ensures a.types a.k c.types_present-here.ensures) _ (sharp-trans _ _ _ _ row (by-columns x a.q a.n _ _ _ _ c.requires.0.turned c.in_err-column.ensures)))
 
-pub returns-then-part : goal.returns-then-part
-returns-then-part c =
+pub returns-in_err-part : goal.returns-in_err-part
+returns-in_err-part c =
     let a = c.args in
-    let x = sheet a.usable a.singles a.targets.now a.lows.now a.highs.now a.lines in
+    let x = sheet_of a.tables.now in
     let s : Start = record { types = a.types; k = a.k; spare = a.n - a.k; free = c.types_free-free.result } in
-    let Sharp : Wish → Type 0 = λ r. Sharpens (Solution x a.q a.n) s (record { dead = false; g = c.types_free-free.result }) r in
-    let single : Sharp c.with_singles-single.result = by-singles x a.q a.n s _ c.with_singles-single.result c.with_singles-single.ensures in
-    let row : Sharp c.with_rows-row.result = sharp-trans s _ c.with_singles-single.result c.with_rows-row.result single (by_rows x a.q a.n s c.with_singles-single.result c.with_rows-row.result c.with_rows-row.ensures) in
-    let column : Sharp c.with_columns-column.result = sharp-trans s _ c.with_rows-row.result c.with_columns-column.result row (by-columns x a.q a.n s c.with_rows-row.result c.with_columns-column.result a.sources.now c.requires.1 c.with_columns-column.ensures) in
-    let part : Sharp c.with_wholes-part.result = sharp-trans s _ c.with_columns-column.result c.with_wholes-part.result column (by-wholes x a.q a.n s c.with_columns-column.result c.with_wholes-part.result c.with_wholes-part.ensures) in
-    demanded x a.q a.n a.types a.k a.forb c.types_free-free.result (c.types_free-free.ensures a.types a.k c.types_present-here.ensures) c.with_wholes-part.result part
+    let Sharp : Option ℕ → Type 0 = Sharpens (Solution x a.q a.n) s (Some c.types_free-free.result) in
+    let single : Sharp (Some c.in_ok-single.single) = by-singles x a.q a.n _ _ _ c.in_ok-single.ensures in
+    let row : Sharp (Some c.in_ok-row.row) = sharp-trans _ _ _ _ single (by_rows x a.q a.n _ _ _ c.in_ok-row.ensures) in
+    let column : Sharp (Some c.in_ok-column.column) = sharp-trans _ _ _ _ row (by-columns x a.q a.n _ _ _ _ c.requires.0.turned c.in_ok-column.ensures) in
+    rw c.from_residual-in_err-part.ensures (demanded x a.q a.n a.types a.k a.forb c.types_free-free.result (c.types_free-free.ensures a.types a.k c.types_present-here.ensures) _ (sharp-trans _ _ _ _ column (by-wholes x a.q a.n _ _ _ c.in_err-part.ensures)))
 
-pub with_own-own-requires : goal.with_own-own-requires
-with_own-own-requires c =
-    let a = c.args in
-    let x = sheet a.usable a.singles a.targets.now a.lows.now a.highs.now a.lines in
-    let s : Start = record { types = a.types; k = a.k; spare = a.n - a.k; free = c.types_free-free.result } in
-    let known : Known s = record { eight = omega arith; types = c.requires.6 } in
-    (known, c.requires.2, c.requires.3)
+pub with_own-requires : goal.with_own-requires
+with_own-requires c = (record { eight = omega arith; types = c.requires.5 }, c.requires.1, c.requires.2)
 
-pub returns-then-own : goal.returns-then-own
-returns-then-own c =
+pub returns-in_err-own : goal.returns-in_err-own
+returns-in_err-own c =
     let a = c.args in
-    let x = sheet a.usable a.singles a.targets.now a.lows.now a.highs.now a.lines in
+    let x = sheet_of a.tables.now in
     let s : Start = record { types = a.types; k = a.k; spare = a.n - a.k; free = c.types_free-free.result } in
-    let Sharp : Wish → Type 0 = λ r. Sharpens (Solution x a.q a.n) s (record { dead = false; g = c.types_free-free.result }) r in
-    let single : Sharp c.with_singles-single.result = by-singles x a.q a.n s _ c.with_singles-single.result c.with_singles-single.ensures in
-    let row : Sharp c.with_rows-row.result = sharp-trans s _ c.with_singles-single.result c.with_rows-row.result single (by_rows x a.q a.n s c.with_singles-single.result c.with_rows-row.result c.with_rows-row.ensures) in
-    let column : Sharp c.with_columns-column.result = sharp-trans s _ c.with_rows-row.result c.with_columns-column.result row (by-columns x a.q a.n s c.with_rows-row.result c.with_columns-column.result a.sources.now c.requires.1 c.with_columns-column.ensures) in
-    let part : Sharp c.with_wholes-part.result = sharp-trans s _ c.with_columns-column.result c.with_wholes-part.result column (by-wholes x a.q a.n s c.with_columns-column.result c.with_wholes-part.result c.with_wholes-part.ensures) in
-    let own : Sharp c.with_own-own.result = sharp-trans s _ c.with_wholes-part.result c.with_own-own.result part (by-own x a.q a.n s c.with_wholes-part.result c.with_own-own.result a.sources.now c.requires.1 c.with_own-own.ensures) in
-    demanded x a.q a.n a.types a.k a.forb c.types_free-free.result (c.types_free-free.ensures a.types a.k c.types_present-here.ensures) c.with_own-own.result own
+    let Sharp : Option ℕ → Type 0 = Sharpens (Solution x a.q a.n) s (Some c.types_free-free.result) in
+    let single : Sharp (Some c.in_ok-single.single) = by-singles x a.q a.n _ _ _ c.in_ok-single.ensures in
+    let row : Sharp (Some c.in_ok-row.row) = sharp-trans _ _ _ _ single (by_rows x a.q a.n _ _ _ c.in_ok-row.ensures) in
+    let column : Sharp (Some c.in_ok-column.column) = sharp-trans _ _ _ _ row (by-columns x a.q a.n _ _ _ _ c.requires.0.turned c.in_ok-column.ensures) in
+    let part : Sharp (Some c.in_ok-part.part) = sharp-trans _ _ _ _ column (by-wholes x a.q a.n _ _ _ c.in_ok-part.ensures) in
+    rw c.from_residual-in_err-own.ensures (demanded x a.q a.n a.types a.k a.forb c.types_free-free.result (c.types_free-free.ensures a.types a.k c.types_present-here.ensures) _ (sharp-trans _ _ _ _ part (by-own x a.q a.n _ _ _ _ c.requires.0.turned c.in_err-own.ensures)))
 
 pub with_weights-requires : goal.with_weights-requires
-with_weights-requires c =
-    let a = c.args in
-    let x = sheet a.usable a.singles a.targets.now a.lows.now a.highs.now a.lines in
-    let s : Start = record { types = a.types; k = a.k; spare = a.n - a.k; free = c.types_free-free.result } in
-    let known : Known s = record { eight = omega arith; types = c.requires.6 } in
-    (known, c.requires.0, c.requires.1, c.requires.2, c.requires.3)
+with_weights-requires c = (record { eight = omega arith; types = c.requires.5 }, c.requires.0, c.requires.1, c.requires.2)
 
 pub returns : goal.returns
 returns c =
     let a = c.args in
-    let x = sheet a.usable a.singles a.targets.now a.lows.now a.highs.now a.lines in
+    let x = sheet_of a.tables.now in
     let s : Start = record { types = a.types; k = a.k; spare = a.n - a.k; free = c.types_free-free.result } in
-    let Sharp : Wish → Type 0 = λ r. Sharpens (Solution x a.q a.n) s (record { dead = false; g = c.types_free-free.result }) r in
-    let single : Sharp c.with_singles-single.result = by-singles x a.q a.n s _ c.with_singles-single.result c.with_singles-single.ensures in
-    let row : Sharp c.with_rows-row.result = sharp-trans s _ c.with_singles-single.result c.with_rows-row.result single (by_rows x a.q a.n s c.with_singles-single.result c.with_rows-row.result c.with_rows-row.ensures) in
-    let column : Sharp c.with_columns-column.result = sharp-trans s _ c.with_rows-row.result c.with_columns-column.result row (by-columns x a.q a.n s c.with_rows-row.result c.with_columns-column.result a.sources.now c.requires.1 c.with_columns-column.ensures) in
-    let part : Sharp c.with_wholes-part.result = sharp-trans s _ c.with_columns-column.result c.with_wholes-part.result column (by-wholes x a.q a.n s c.with_columns-column.result c.with_wholes-part.result c.with_wholes-part.ensures) in
-    let own : Sharp c.with_own-own.result = sharp-trans s _ c.with_wholes-part.result c.with_own-own.result part (by-own x a.q a.n s c.with_wholes-part.result c.with_own-own.result a.sources.now c.requires.1 c.with_own-own.ensures) in
-    demanded x a.q a.n a.types a.k a.forb c.types_free-free.result (c.types_free-free.ensures a.types a.k c.types_present-here.ensures) c.with_weights.result (sharp-trans s _ c.with_own-own.result c.with_weights.result own (by_weights x a.q a.n s c.with_own-own.result c.with_weights.result c.with_weights.ensures))
+    let Sharp : Option ℕ → Type 0 = Sharpens (Solution x a.q a.n) s (Some c.types_free-free.result) in
+    let single : Sharp (Some c.in_ok-single.single) = by-singles x a.q a.n _ _ _ c.in_ok-single.ensures in
+    let row : Sharp (Some c.in_ok-row.row) = sharp-trans _ _ _ _ single (by_rows x a.q a.n _ _ _ c.in_ok-row.ensures) in
+    let column : Sharp (Some c.in_ok-column.column) = sharp-trans _ _ _ _ row (by-columns x a.q a.n _ _ _ _ c.requires.0.turned c.in_ok-column.ensures) in
+    let part : Sharp (Some c.in_ok-part.part) = sharp-trans _ _ _ _ column (by-wholes x a.q a.n _ _ _ c.in_ok-part.ensures) in
+    let own : Sharp (Some c.in_ok-own.own) = sharp-trans _ _ _ _ part (by-own x a.q a.n _ _ _ _ c.requires.0.turned c.in_ok-own.ensures) in
+    demanded x a.q a.n a.types a.k a.forb c.types_free-free.result (c.types_free-free.ensures a.types a.k c.types_present-here.ensures) _ (sharp-trans _ _ _ _ own (by_weights x a.q a.n _ _ _ c.with_weights.ensures))

@@ -1,24 +1,45 @@
-use Rattle.evaluating.proofs.EntryLaws.{kinds}
+use native.Mathlib.Omega.{arith}
+use Rattle.masks.specs.Masks.{limits_of}
+use Rattle.rules.specs.Evaluate.{side_of}
 use Rattle.memory_rules.specs.SiteIn.{site_in}
-use borrow.Author.Rules.{rules}
+use Rattle.evaluating.proofs.EntryLaws.{holds-1, holds-2, holds-3, holds-4, holds-5, holds-6}
+use Rattle.evaluating.proofs.SideLaws.{mirror-of, sources-of, targets_of, whole_of}
 use Rattle.evaluating.proofs.entry_holds.Goals as goal
 
-pub returns-then-kind-eq1 : goal.returns-then-kind-eq1
+pub returns-in-1 : goal.returns-in-1
 unfolding site_in
-returns-then-kind-eq1 c = search (kinds, rules) depth 8 fits 20000
+returns-in-1 c = λ d m j.
+    let e = c.args.entry in
+    holds-1 d (site_in d m) e.kind e.association e.side e.low e.up c.in-1.is (let n = j.count in let h = j.few in omega arith)
+    (targets_of j e.association c.requires _ c.from-i.ensures (side_of e.side) (limits_of e.low e.up) c.targets_hold.ensures)
 
-pub returns-then-kind-eq2 : goal.returns-then-kind-eq2
-returns-then-kind-eq2 c = search (kinds, rules) depth 8 fits 20000
+pub returns-in-2 : goal.returns-in-2
+returns-in-2 c = λ d m j.
+    let e = c.args.entry in
+    holds-2 d (site_in d m) e.kind e.association e.side e.low e.up (λ z. let q : ⊥ = omega arith in q) c.in-2.is
+    (targets_of j e.association c.requires _ c.from-i.ensures (side_of e.side) (limits_of e.low 65535) c.targets_hold-in-2.ensures)
 
-pub returns-then-kind-eq3 : goal.returns-then-kind-eq3
+pub returns-in-3 : goal.returns-in-3
 unfolding site_in
-returns-then-kind-eq3 c = search (kinds, rules) depth 8 fits 20000
+returns-in-3 c = λ d m j.
+    let e = c.args.entry in
+    holds-3 d (site_in d m) e.kind e.association e.side e.low e.up (λ z. let q : ⊥ = omega arith in q) (λ z. let q : ⊥ = omega arith in q) c.in-3.is (let n = j.count in let h = j.few in omega arith)
+    (sources-of j e.association c.requires _ c.from-i.ensures (side_of e.side) (limits_of e.low e.up) c.sources_hold.ensures)
 
-pub returns-then-kind-eq4 : goal.returns-then-kind-eq4
-returns-then-kind-eq4 c = search (kinds, rules) depth 8 fits 20000
+pub returns-in-4 : goal.returns-in-4
+returns-in-4 c = λ d m j.
+    let e = c.args.entry in
+    holds-4 d (site_in d m) e.kind e.association e.side e.low e.up (λ z. let q : ⊥ = omega arith in q) (λ z. let q : ⊥ = omega arith in q) (λ z. let q : ⊥ = omega arith in q) c.in-4.is
+    (sources-of j e.association c.requires _ c.from-i.ensures (side_of e.side) (limits_of e.low 65535) c.sources_hold-in-4.ensures)
 
-pub returns-then-kind-eq5 : goal.returns-then-kind-eq5
-returns-then-kind-eq5 c = search (kinds, rules) depth 8 fits 20000
+pub returns-in-5 : goal.returns-in-5
+returns-in-5 c = λ d m j.
+    let e = c.args.entry in
+    holds-5 d (site_in d m) e.kind e.association e.side e.low e.up (λ z. let q : ⊥ = omega arith in q) (λ z. let q : ⊥ = omega arith in q) (λ z. let q : ⊥ = omega arith in q) (λ z. let q : ⊥ = omega arith in q) c.in-5.is
+    (mirror-of j e.association c.requires _ c.from-i.ensures c.mirror_holds.ensures)
 
-pub returns : goal.returns
-returns c = search (kinds, rules) depth 8 fits 20000
+pub returns-in_default : goal.returns-in_default
+returns-in_default c = λ d m j.
+    let e = c.args.entry in
+    holds-6 d (site_in d m) e.kind e.association e.side e.low e.up (λ z. let q : ⊥ = omega arith in q) (λ z. let q : ⊥ = omega arith in q) (λ z. let q : ⊥ = omega arith in q) (λ z. let q : ⊥ = omega arith in q) (λ z. let q : ⊥ = omega arith in q)
+    (whole_of j e.association c.requires _ c.from-i.ensures c.one_whole.ensures)

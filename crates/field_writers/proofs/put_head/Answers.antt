@@ -1,21 +1,14 @@
-use Rattle.field_writers.proofs.PutLaws.{put-sets, put_as}
-use Rattle.field_writers.specs.Put.{head}
+use Rattle.std.proofs.Common.{ℕ, ◌<◌, ◌/◌, ◌%◌, ◌≡◌, ◌++◌, ◌∷◌, [], List, drop, get_or}
 use Rattle.fields.proofs.HeadLaws.{high-whole}
-use native.Mathlib.Omega.{arith}
-use lib.ListN.{length-set}
-use mathlib.Core.List.{List, [], ◌∷◌}
-use Prim.Native.Nat.{ℕ}
-use borrow.Author.Rules.{rules}
+use Rattle.laws.specs.Lists.{over}
+use Rattle.field_writers.specs.Put.{Put, head}
+use mathlib.Core.Path.{refl}
 use Rattle.field_writers.proofs.put_head.Goals as goal
 
-pub bounds-out-1 : goal.bounds-out-1
-bounds-out-1 c = simp length-set (omega arith)
-
-pub bounds-out-2 : goal.bounds-out-2
-bounds-out-2 c = simp length-set (omega arith)
+by_bytes : (tag n b : ℕ) (two four out : List ℕ) → n < 65536 → two ≡ n / 256 % 256 ∷ n % 256 ∷ [] → four ≡ tag ∷ get_or two 0 0 ∷ get_or two 1 0 ∷ b ∷ []
+    → Put (head tag n b) out 4 (four ++ drop 4 out)
+unfolding over
+by_bytes tag n b two four out l e f = record { length-is = refl; bytes = rw (f, e, high-whole n l) refl }
 
 pub returns : goal.returns
-returns c =
-    let a = c.args in
-    let xs : List ℕ = a.tag ∷ c.high.result ∷ c.low.result ∷ a.b ∷ [] in
-    put_as (put-sets xs a.out.now (search rules)) (head a.tag a.n a.b) (cc (high-whole a.n (search rules)))
+returns c = by_bytes _ _ _ _ _ _ c.requires.1 c.to_be_bytes.ensures c.copy_from_slice.ensures.after

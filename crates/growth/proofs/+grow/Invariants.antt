@@ -2,7 +2,7 @@
 use Prim.Native.Nat.{◌-◌}
 use Rattle.growing.specs.Growth.{Tried}
 use Rattle.worlds.specs.Asked.{Solution}
-use Rattle.worlds.specs.Kept.{sheet}
+use Rattle.worlds.specs.Kept.{sheet_of}
 use Rattle.growth.proofs.+grow.Given as goal
 
 abbrev pub decreases-grow : goal.decreases-grow
@@ -10,7 +10,4 @@ decreases-grow l = l.n - l.k
 
 abbrev pub invariant-loop-t : goal.invariant-loop-t
 invariant-loop-t l =
-    Tried (Solution (sheet l.usable l.singles l.targets l.lows l.highs l.lines) l.q l.n) 24 l.types l.k l.forb l.n l.g l.t l.f
-
-abbrev pub decreases-loop-t : goal.decreases-loop-t
-decreases-loop-t l = 24 - l.t
+    Tried (Solution (sheet_of l.tables) l.q l.n) 24 l.types l.k l.forb l.n l.g l.t l.f

@@ -2,7 +2,7 @@
 -- Assumes nothing.
 use native.Mathlib.Omega.{arith}
 use borrow.Author.Rules.{rules}
-use mathlib.Core.Path.{◌≡◌}
+use mathlib.Core.Path.{◌≡◌, refl}
 use Prim.Native.Nat.{◌<◌}
 use lib.ListN.{length}
 use Rattle.growth.proofs.SeedLaws.{grown-chosen, grown-seeded}
@@ -11,11 +11,11 @@ use Rattle.growth.proofs.+seed.Goals as goal
 pub returns-then-k-q : goal.returns-then-k-q
 returns-then-k-q t c = grown-seeded _ _ _ _ _ _ _ c.if-k-q.true c.grow.ensures
 
-pub returns-then-r : goal.returns-then-r
-returns-then-r t c =
+pub returns-in-Some : goal.returns-in-Some
+returns-in-Some t c =
     let a = c.args in
     let sized : length a.types ≡ 8 = search rules in
     -- object k is a seed
-    let among : a.k < a.q.seeds = omega (arith, c.requires.3, c.if-k-q.false) in
-    let room : a.k < length a.types = omega (arith, sized, among, c.requires.4, c.requires.5) in
-    grown-chosen _ _ _ _ _ c.loop-t.t _ _ room (rw c.put.ensures at c.seed-r.ensures) c.if-r.true
+    let among : a.k < a.q.seeds = omega (arith, c.requires.2, c.if-k-q.false) in
+    let room : a.k < length a.types = omega (arith, sized, among, c.requires.3, c.requires.4) in
+    grown-chosen _ _ _ _ _ c.loop-t.t _ _ room (rw c.put.ensures at c.in-Some.ensures) refl

@@ -1,6 +1,6 @@
 -- The number of seeds without a type.
 use Prim.Native.Nat.{◌-◌}
-use Rattle.worlds.specs.Kept.{sheet}
+use Rattle.worlds.specs.Kept.{sheet_of}
 use Rattle.growth.proofs.SeedLaws.{Passed}
 use Rattle.growth.proofs.+seed.Given as goal
 
@@ -8,7 +8,4 @@ abbrev pub decreases-seed : goal.decreases-seed
 decreases-seed l = l.q.seeds - l.k
 
 abbrev pub invariant-loop-t : goal.invariant-loop-t
-invariant-loop-t l = Passed (sheet l.usable l.singles l.targets l.lows l.highs l.lines) l.q l.types l.k l.n l.t
-
-abbrev pub decreases-loop-t : goal.decreases-loop-t
-decreases-loop-t l = 24 - l.t
+invariant-loop-t l = Passed (sheet_of l.tables) l.q l.types l.k l.n l.t

@@ -1,17 +1,18 @@
 -- `find` meets its contract: with no object given, every wanted world starts with what is given.
 -- Assumes nothing.
+use mathlib.Core.Path.{refl}
 use native.Mathlib.Omega.{arith}
 use Rattle.growth.proofs.FullLaws.{small-zeros}
 use Rattle.growth.proofs.SeedLaws.{answers-few, answers-grown}
 use Rattle.growth.proofs.find.Goals as goal
 
 pub returns-then-n-q : goal.returns-then-n-q
-returns-then-n-q c = answers-few _ _ _ _ _ c.if-n-q.true c.nothing.ensures
+returns-then-n-q c = answers-few _ _ _ _ _ c.if-n-q.true refl
 
 pub seed-requires : goal.seed-requires
 seed-requires c =
     let p = c.requires in
-    (p.0, p.1, p.2, omega arith, c.if-n-q.false, p.3, small-zeros 8)
+    (p.0, p.1, omega arith, c.if-n-q.false, p.2, small-zeros 8)
 
 pub returns : goal.returns
 returns c = answers-grown _ _ _ _ _ _ c.seed.ensures

@@ -5,7 +5,7 @@ use Rattle.laws.specs.Bounded.{all}
 use Rattle.laws.proofs.LoopLaws.{each}
 use Rattle.laws.proofs.SearchLaws.{both-no, both_yes}
 use borrow.Author.Tests.{le-leb, lt-leb}
-use Prim.Native.Nat.{◌-◌, ◌≤◌}
+use Prim.Native.Nat.{◌≤◌}
 use mathlib.Core.Bool.{false, true}
 use mathlib.Core.Path.{◌≡◌}
 use Rattle.known_records.proofs.is_within.Goals as goal
@@ -21,8 +21,8 @@ pub returns-then-not-object_known : goal.returns-then-not-object_known
 unfolding within
 returns-then-not-object_known c =
     let a = c.args in
-    let few : a.m.count ≤ 8 = omega arith in
-    let e : false ≡ all (object_known (diagram_of a.d) a.m) a.m.count = search each in
+    let few : a.m.now.count ≤ 8 = omega arith in
+    let e : false ≡ all (object_known (diagram_of a.d.now) a.m.now) a.m.now.count = search each in
     both_yes (le-leb _ _ few) e
 
 pub loop-o-preserved : goal.loop-o-preserved
@@ -32,6 +32,6 @@ pub returns : goal.returns
 unfolding within
 returns c =
     let a = c.args in
-    let few : a.m.count ≤ 8 = omega arith in
-    let e : true ≡ all (object_known (diagram_of a.d) a.m) a.m.count = search each in
+    let few : a.m.now.count ≤ 8 = omega arith in
+    let e : true ≡ all (object_known (diagram_of a.d.now) a.m.now) a.m.now.count = search each in
     both_yes (le-leb _ _ few) e

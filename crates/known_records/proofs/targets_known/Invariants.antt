@@ -1,13 +1,10 @@
 use Rattle.records.specs.WithinTest.{row_known}
 use Rattle.laws.specs.Bounded.{all}
-use Prim.Native.Nat.{◌*◌, ◌+◌, ◌-◌, ◌≤◌}
+use Prim.Native.Nat.{◌*◌, ◌+◌}
 use mathlib.Core.Bool.{true}
 use mathlib.Core.Path.{◌≡◌}
 use lib.ListN.{get_or}
 use Rattle.known_records.proofs.targets_known.Given as goal
 
 abbrev pub invariant-loop-s : goal.invariant-loop-s
-invariant-loop-s l = (l.s ≤ l.end) × (all (λ i. row_known l.n (get_or l.m.links (l.o * 32 + i) 0)) l.s ≡ true)
-
-abbrev pub decreases-loop-s : goal.decreases-loop-s
-decreases-loop-s l = l.end - l.s
+invariant-loop-s l = all (λ i. row_known l.m.count (get_or l.m.links (l.o * 32 + i) 0)) l.s ≡ true

@@ -7,11 +7,11 @@ use Rattle.known_records.proofs.value_known.Goals as goal
 pub returns-then-v-eq0 : goal.returns-then-v-eq0
 returns-then-v-eq0 c = value_none _ _ c.if-v-eq0.true
 
-pub returns-then-values-t : goal.returns-then-values-t
-returns-then-values-t c = value-untyped _ _ _ c.if-v-eq0.false c.wide-t.ensures.0 c.if-values-t.true
+pub returns-then-d-t : goal.returns-then-d-t
+returns-then-d-t c = value-untyped _ _ _ c.if-v-eq0.false c.from-t.ensures c.if-d-t.true
 
 pub returns : goal.returns
 returns c =
-    let w = c.wide-t in
-    let l : w.result < c.args.d.values.count = omega (arith, c.if-values-t.false) in
-    value-typed _ _ _ _ c.if-v-eq0.false w.ensures.0 l refl
+    let w = c.from-t in
+    let l : w.result < c.args.d.now.values.count = omega (arith, c.if-d-t.false) in
+    value-typed _ _ _ _ c.if-v-eq0.false w.ensures l refl

@@ -4,7 +4,6 @@ use Rattle.records.specs.WithinTest.{value_known}
 use Rattle.diagrams.specs.View.{diagram_of}
 use Rattle.laws.specs.Bounded.{all}
 use Rattle.laws.proofs.LoopLaws.{each}
-use Prim.Native.Nat.{◌-◌}
 use mathlib.Core.Bool.{false, true}
 use mathlib.Core.Path.{◌≡◌, ◌∙◌}
 use Rattle.known_records.proofs.values_known.Goals as goal
@@ -15,8 +14,8 @@ loop-s-init c = search each
 pub returns-then-not-value_known : goal.returns-then-not-value_known
 returns-then-not-value_known c =
     let a = c.args in
-    let e : false ≡ all (λ i. value_known (diagram_of a.d) (value_in a.m a.o i)) a.d.attributes.count = search each in
-    e ∙ values-stored a.d a.m a.o
+    let e : false ≡ all (λ i. value_known (diagram_of a.d.now) (value_in a.m.now a.o i)) a.d.now.attributes.count = search each in
+    e ∙ values-stored a.d.now a.m.now a.o
 
 pub loop-s-preserved : goal.loop-s-preserved
 loop-s-preserved c = search each
@@ -24,5 +23,5 @@ loop-s-preserved c = search each
 pub returns : goal.returns
 returns c =
     let a = c.args in
-    let e : true ≡ all (λ i. value_known (diagram_of a.d) (value_in a.m a.o i)) a.d.attributes.count = search each in
-    e ∙ values-stored a.d a.m a.o
+    let e : true ≡ all (λ i. value_known (diagram_of a.d.now) (value_in a.m.now a.o i)) a.d.now.attributes.count = search each in
+    e ∙ values-stored a.d.now a.m.now a.o

@@ -1,6 +1,5 @@
 use Rattle.layouts.proofs.NamesLaws.{past-begin, past_next, starts-at, laid-not, laid_end}
 use Rattle.laws.proofs.LoopLaws.{each}
-use Prim.Native.Nat.{◌-◌}
 use Rattle.layouts.proofs.names_laid.Goals as goal
 
 pub loop-i-init : goal.loop-i-init

@@ -1,5 +1,4 @@
-use Rattle.layouts.proofs.NamesLaws.{past-begin, past_next, past-done}
-use Prim.Native.Nat.{◌-◌}
+use Rattle.layouts.proofs.NamesLaws.{past-begin, past_next}
 use borrow.Author.Rules.{rules}
 use Rattle.layouts.proofs.past_names.Goals as goal
 
@@ -8,6 +7,3 @@ loop-i-init c = search (rules, past-begin)
 
 pub loop-i-preserved : goal.loop-i-preserved
 loop-i-preserved c = search (rules, past_next)
-
-pub returns : goal.returns
-returns c = search (rules, past-done)

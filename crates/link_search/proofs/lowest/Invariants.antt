@@ -1,11 +1,8 @@
 use mathlib.Core.Path.{◌≡◌}
 use mathlib.Core.Bool.{false}
-use Prim.Native.Nat.{ℕ, ◌-◌, ◌≤◌, ◌<◌}
+use Prim.Native.Nat.{ℕ, ◌<◌}
 use Rattle.laws.specs.Bits.{bit}
 use Rattle.link_search.proofs.lowest.Given as goal
 
 abbrev pub invariant-loop-k : goal.invariant-loop-k
-invariant-loop-k l = (l.k ≤ 7) × ((j : ℕ) → j < l.k → bit j l.m ≡ false)
-
-abbrev pub decreases-loop-k : goal.decreases-loop-k
-decreases-loop-k l = 7 - l.k
+invariant-loop-k l = (j : ℕ) → j < l.k → bit j l.m ≡ false

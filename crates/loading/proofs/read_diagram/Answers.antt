@@ -1,32 +1,24 @@
-use mathlib.Core.Path.{◌≡◌, sym, ◌∙◌}
-use Rattle.loading.proofs.ReaderLaws.{start-held, start-says, reply-empty, reply-accepted, reply-cut, reply-refused, field-on, rest-shorter}
-use borrow.Author.Rules.{rules}
+use Rattle.loading.proofs.ReaderLaws.{start-held, start-says, reply-empty, reply-accepted, reply-cut, reply-refused, field-on}
 use Rattle.loading.proofs.read_diagram.Goals as goal
 
-pub loop-rest-init : goal.loop-rest-init
-loop-rest-init c = search (start-held, start-says)
+pub loop-field-init : goal.loop-field-init
+loop-field-init c = search (start-held, start-says)
 
-pub returns-in-Cut : goal.returns-in-Cut
-returns-in-Cut c = search reply-cut
+pub returns-in_err-field : goal.returns-in_err-field
+returns-in_err-field c = reply-cut _ _ _ _ c.loop-field.invariant.1 _ _ c.in_err-field.ensures c.from_residual.ensures.1
 
-pub returns-then-no-ne0 : goal.returns-then-no-ne0
-returns-then-no-ne0 c = search reply-refused
+pub returns-in_err-check_field : goal.returns-in_err-check_field
+returns-in_err-check_field c =
+    reply-refused _ _ _ _ c.loop-field.invariant.1 c.in-Some.field (rw c.in-Some.is at c.in_ok-field.ensures) _ _ c.in_err-check_field.ensures c.from_residual-in_err-check_field.ensures.1
 
-pub with_field-grown-requires : goal.with_field-grown-requires
-with_field-grown-requires c = record { last = c.loop-rest.last; passed = sym c.field_no-no.ensures ∙ (search rules); held = c.loop-rest.invariant.0 }
-
-pub loop-rest-smaller : goal.loop-rest-smaller
-loop-rest-smaller c = search rest-shorter
-
-pub loop-rest-preserved : goal.loop-rest-preserved
-loop-rest-preserved c = let none : c.field_no-no.result ≡ 0 = search rules in (
-  c.with_field-grown.ensures.held,
-  field-on c.args.file.now c.loop-rest.rest.now c.loop-rest.last _ _ c.loop-rest.d _ c.loop-rest.invariant.1 c.read_head.ensures
-      c.in-Whole.is c.content-c.ensures c.field_no-no.ensures none c.with_field-grown.ensures c.after-next.ensures,
+pub loop-field-preserved : goal.loop-field-preserved
+loop-field-preserved c = (
+  c.with_field-d.ensures.held,
+  field-on _ _ _ _ c.loop-field.invariant.1 c.in-Some.field (rw c.in-Some.is at c.in_ok-field.ensures) _ c.in_ok-check_field.ensures c.with_field-d.ensures,
 )
 
 pub returns-then-last-eq0 : goal.returns-then-last-eq0
-returns-then-last-eq0 c = search (rules, reply-empty)
+returns-then-last-eq0 c = reply-empty _ _ _ _ c.loop-field.invariant.1 (rw c.in_default.is at c.in_ok-field.ensures) c.if-last-eq0.true
 
 pub returns : goal.returns
-returns c = search (rules, reply-accepted)
+returns c = reply-accepted _ _ _ _ c.loop-field.invariant.1 c.loop-field.invariant.0 (rw c.in_default.is at c.in_ok-field.ensures) c.if-last-eq0.false

@@ -1,4 +1,3 @@
-use Prim.Native.Nat.{◌-◌}
 use Rattle.laws.proofs.LoopLaws.{each}
 use Rattle.name_lists.proofs.NamesLaws.{names-asked}
 use Rattle.name_lists.proofs.find_name.Goals as goal

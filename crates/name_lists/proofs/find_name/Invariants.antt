@@ -1,4 +1,3 @@
-use Prim.Native.Nat.{◌-◌, ◌≤◌}
 use lib.ListN.{get_or}
 use mathlib.Core.Bool.{false}
 use mathlib.Core.List.{[]}
@@ -9,7 +8,4 @@ use Rattle.name_lists.specs.Names.{names_in}
 use Rattle.name_lists.proofs.find_name.Given as goal
 
 abbrev pub invariant-loop-i : goal.invariant-loop-i
-invariant-loop-i l = (l.i ≤ l.n.count) × (any (λ j. same_name (get_or (names_in l.n) j []) l.w) l.i ≡ false)
-
-abbrev pub decreases-loop-i : goal.decreases-loop-i
-decreases-loop-i l = l.n.count - l.i
+invariant-loop-i l = any (λ j. same_name (get_or (names_in l.n) j []) l.w) l.i ≡ false

@@ -1,15 +1,11 @@
-use Rattle.laws.proofs.LoopLaws.{each}
-use Prim.Native.Nat.{◌-◌}
+use borrow.Author.Rules.{rules}
+use borrow.Author.Tests.{tests}
+use mathlib.Core.Path.{refl}
+use Rattle.masks.proofs.RangeLaws.{any-range}
+use Rattle.permits.specs.Permits.{permits_at}
 use Rattle.permits.proofs.is_permitted.Goals as goal
 
-pub loop-a-init : goal.loop-a-init
-loop-a-init c = search each
-
-pub returns-then-is_permitting : goal.returns-then-is_permitting
-returns-then-is_permitting c = search each
-
-pub loop-a-preserved : goal.loop-a-preserved
-loop-a-preserved c = search each
-
 pub returns : goal.returns
-returns c = search each
+returns c =
+    let a = c.args in
+    any-range (permits_at a.associations.now.arrows a.associations.now.types a.t.now.masks a.t.now.slots a.s a.o a.p) _ c.any.ensures.ran refl (λ x b q k. search (rules, tests))

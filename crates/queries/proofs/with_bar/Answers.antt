@@ -5,4 +5,4 @@ use Rattle.queries.proofs.with_bar.Goals as goal
 
 pub returns : goal.returns
 unfolding barred with_bit
-returns c = rw (c.wide.ensures.0, c.wide-2.ensures.0)
+returns c = rw (c.from.ensures, c.from-2.ensures)

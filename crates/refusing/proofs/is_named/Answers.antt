@@ -1,4 +1,3 @@
-use Prim.Native.Nat.{◌-◌}
 use Rattle.laws.proofs.LoopLaws.{each}
 use Rattle.refusing.proofs.is_named.Goals as goal
 

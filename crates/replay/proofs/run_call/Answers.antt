@@ -3,26 +3,26 @@ use Rattle.coding.specs.CallBytes.{call_of}
 use Rattle.replay.proofs.CodeLaws.{at_code}
 use Rattle.replay.proofs.run_call.Goals as goal
 
-pub returns-then-code-lt2 : goal.returns-then-code-lt2
+pub returns-in-1 : goal.returns-in-1
 unfolding call_of
-returns-then-code-lt2 c = at_code _ _ 1 c.args.code (omega arith) (λ buffer. c.load.ensures)
+returns-in-1 c = at_code _ _ 1 c.args.code c.in-1.is (λ buffer. c.load.ensures)
 
-pub returns-then-code-lt3 : goal.returns-then-code-lt3
+pub returns-in-2 : goal.returns-in-2
 unfolding call_of
-returns-then-code-lt3 c = at_code _ _ 2 c.args.code (omega arith) (λ buffer. c.clear.ensures)
+returns-in-2 c = at_code _ _ 2 c.args.code c.in-2.is (λ buffer. c.clear.ensures)
 
-pub returns-then-code-lt4 : goal.returns-then-code-lt4
+pub returns-in-3 : goal.returns-in-3
 unfolding call_of
-returns-then-code-lt4 c = at_code _ _ 3 c.args.code (omega arith) (λ buffer. c.judge.ensures)
+returns-in-3 c = at_code _ _ 3 c.args.code c.in-3.is (λ buffer. c.judge.ensures)
 
-pub returns-then-code-lt6 : goal.returns-then-code-lt6
+pub returns-in-5 : goal.returns-in-5
 unfolding call_of
-returns-then-code-lt6 c = at_code _ _ 5 c.args.code (omega arith) (λ buffer. c.evaluate.ensures)
+returns-in-5 c = at_code _ _ 5 c.args.code c.in-5.is (λ buffer. c.evaluate.ensures)
 
-pub returns-then-code-lt7 : goal.returns-then-code-lt7
+pub returns-in-6 : goal.returns-in-6
 unfolding call_of
-returns-then-code-lt7 c = at_code _ _ 6 c.args.code (omega arith) (λ buffer. c.compare.ensures)
+returns-in-6 c = at_code _ _ 6 c.args.code c.in-6.is (λ buffer. c.compare.ensures)
 
-pub returns : goal.returns
+pub returns-in_default : goal.returns-in_default
 unfolding call_of
-returns c = at_code _ _ 8 c.args.code (omega arith) (λ buffer. c.load_text.ensures)
+returns-in_default c = at_code _ _ 8 c.args.code (omega arith) (λ buffer. c.load_text.ensures)

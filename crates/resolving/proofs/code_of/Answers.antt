@@ -1,5 +1,4 @@
 use Rattle.laws.proofs.LoopLaws.{each}
-use Prim.Native.Nat.{◌-◌}
 use Rattle.resolving.proofs.code_of.Goals as goal
 
 pub loop-k-init : goal.loop-k-init

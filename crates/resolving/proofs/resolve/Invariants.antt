@@ -3,8 +3,8 @@ use Rattle.diagrams.specs.View.{diagram_of}
 use Rattle.resolving.proofs.ReadLaws.{Reads}
 use Rattle.resolving.proofs.resolve.Given as goal
 
-abbrev pub invariant-loop-s : goal.invariant-loop-s
-invariant-loop-s l = Reads (diagram_of l.d) l.file l.m l.s
+abbrev pub invariant-loop-field : goal.invariant-loop-field
+invariant-loop-field l = Reads (diagram_of l.d) l.file l.m l.rest
 
-abbrev pub decreases-loop-s : goal.decreases-loop-s
-decreases-loop-s l = length l.s
+abbrev pub decreases-loop-field : goal.decreases-loop-field
+decreases-loop-field l = length l.rest

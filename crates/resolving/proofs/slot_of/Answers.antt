@@ -1,6 +1,5 @@
 use Rattle.resolving.specs.Lookup.{slot_of}
 use Rattle.laws.proofs.LoopLaws.{each}
-use Prim.Native.Nat.{◌-◌}
 use Rattle.resolving.proofs.slot_of.Goals as goal
 
 pub loop-i-init : goal.loop-i-init

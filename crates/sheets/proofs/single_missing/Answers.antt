@@ -5,4 +5,4 @@ use Rattle.sheets.proofs.single_missing.Goals as goal
 pub returns : goal.returns
 returns c = let found = c.images-found in
     let chosen = c.singles_of-chosen in
-    c.has32.ensures ∙ missing-is c.args.old c.args.d found.result found.ensures chosen.result c.images_of.result chosen.ensures c.images_of.ensures
+    c.has.ensures ∙ missing-is c.args.old c.args.d found.result found.ensures chosen.result c.images_of.result chosen.ensures c.images_of.ensures

@@ -3,8 +3,8 @@ use mathlib.Core.Path.{refl}
 use native.Mathlib.Omega.{arith}
 use Rattle.tables.proofs.attribute_slots.Goals as goal
 
-pub overflow_cast-a : goal.overflow_cast-a
-overflow_cast-a c = omega (arith, c.requires.counts.attributes)
+pub overflow_cast-d : goal.overflow_cast-d
+overflow_cast-d c = omega (arith, c.requires.counts.attributes)
 
 pub slots_of-requires : goal.slots_of-requires
 slots_of-requires c = c.requires.counts.attributes

@@ -1,6 +1,4 @@
-use Prim.Native.Nat.{◌-◌}
 use mathlib.Core.Path.{ap, ◌∙◌}
-use native.Mathlib.Omega.{arith}
 use Rattle.laws.specs.Bits.{bit}
 use Rattle.laws.proofs.MaskLaws.{mask-begin, mask-with, mask-miss, mask_done}
 use Rattle.tables.specs.Numbers.{counts_as}
@@ -9,19 +7,16 @@ use Rattle.tables.proofs.mask_of.Goals as goal
 use Rattle.tables.proofs.mask_of.Goals.{then-counts_as, else-counts_as}
 
 pub loop-o-init : goal.loop-o-init
-loop-o-init c = (search rules, mask-begin _)
+loop-o-init c = mask-begin _
 
 pub loop-o-preserved : goal.loop-o-preserved
 loop-o-preserved c = let a = c.args in
-    let p = counts_as a.sets.now a.n a.types.now a.k in
-    let e = c.counts_as.ensures in (
-      omega arith,
-      elim c.if-counts_as.branch [
-        | then-counts_as w ↦ (λ j. ap (bit j) w.mask-is ∙ mask-with p c.loop-o.o c.loop-o.mask w.with8-mask.result c.loop-o.invariant.1 e w.if-counts_as.true w.with8-mask.ensures j)
-        | else-counts_as w ↦ (λ j. ap (bit j) w.mask-is ∙ mask-miss p c.loop-o.o c.loop-o.mask c.loop-o.invariant.1 e w.if-counts_as.false j)
-      ],
-    )
+    let p = counts_as a.t.now.sets a.t.now.count a.types.now a.k in
+    let e = c.counts_as.ensures in elim c.if-counts_as.branch [
+      | then-counts_as w ↦ (λ j. ap (bit j) w.mask-is ∙ mask-with p c.loop-o.o c.loop-o.mask w.with-mask.result c.loop-o.invariant e w.if-counts_as.true w.with-mask.ensures j)
+      | else-counts_as w ↦ (λ j. ap (bit j) w.mask-is ∙ mask-miss p c.loop-o.o c.loop-o.mask c.loop-o.invariant e w.if-counts_as.false j)
+    ]
 
 pub returns : goal.returns
 returns c = let a = c.args in
-    mask_done (counts_as a.sets.now a.n a.types.now a.k) 8 c.loop-o.o c.loop-o.mask c.loop-o.invariant.0 (search rules) c.loop-o.invariant.1
+    mask_done (counts_as a.t.now.sets a.t.now.count a.types.now a.k) 8 c.loop-o.o c.loop-o.mask c.loop-o.auto.o-end (search rules) c.loop-o.invariant

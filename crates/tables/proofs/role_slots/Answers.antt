@@ -4,11 +4,11 @@ use native.Mathlib.Omega.{arith}
 use Prim.Native.Nat.{◌*◌}
 use Rattle.tables.proofs.role_slots.Goals as goal
 
-pub overflow_mul-a : goal.overflow_mul-a
-overflow_mul-a c = omega (arith, c.requires.counts.associations)
+pub overflow_mul-d : goal.overflow_mul-d
+overflow_mul-d c = omega (arith, c.requires.counts.associations)
 
-pub overflow_cast-a : goal.overflow_cast-a
-overflow_cast-a c = omega (arith, c.requires.counts.associations)
+pub overflow_cast-d : goal.overflow_cast-d
+overflow_cast-d c = omega (arith, c.requires.counts.associations)
 
 pub slots_of-requires : goal.slots_of-requires
 slots_of-requires c = omega (arith, c.requires.counts.associations)

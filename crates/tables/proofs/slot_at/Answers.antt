@@ -1,4 +1,3 @@
-use Prim.Native.Nat.{◌-◌}
 use Rattle.laws.proofs.LoopLaws.{each}
 use Rattle.tables.specs.Numbers.{slot_at}
 use Rattle.tables.proofs.slot_at.Goals as goal

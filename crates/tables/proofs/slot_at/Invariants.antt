@@ -1,4 +1,3 @@
-use Prim.Native.Nat.{◌≤◌, ◌-◌}
 use mathlib.Core.Path.{◌≡◌}
 use mathlib.Core.Bool.{false}
 use Rattle.laws.specs.Bounded.{any}
@@ -7,7 +6,4 @@ use Rattle.fields.specs.Slot.{slot_name}
 use Rattle.tables.proofs.slot_at.Given as goal
 
 abbrev pub invariant-loop-t : goal.invariant-loop-t
-invariant-loop-t l = (l.t ≤ l.n) × (any (λ k. same_name (slot_name l.names k) (slot_name l.names l.i)) l.t ≡ false)
-
-abbrev pub decreases-loop-t : goal.decreases-loop-t
-decreases-loop-t l = l.n - l.t
+invariant-loop-t l = any (λ k. same_name (slot_name l.names k) (slot_name l.names l.i)) l.t ≡ false

@@ -1,4 +1,3 @@
-use Prim.Native.Nat.{◌-◌}
 use Rattle.text_checks.proofs.CountedLaws.{used-begin, used-done, used-next, used_over, used-over-alone}
 use borrow.Author.Rules.{rules}
 use Rattle.text_checks.proofs.has_many_attributes.Goals as goal

@@ -1,4 +1,3 @@
-use Prim.Native.Nat.{◌-◌}
 use Rattle.laws.proofs.LoopLaws.{any-begin}
 use Rattle.text_checks.proofs.OverlongLaws.{overlong-found, overlong-next, overlong-none}
 use borrow.Author.Rules.{rules}

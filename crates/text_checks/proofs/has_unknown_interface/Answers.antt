@@ -1,4 +1,3 @@
-use Prim.Native.Nat.{◌-◌}
 use Rattle.text_checks.proofs.UnknownLaws.{known-begin, known-done, known_next, known-not}
 use borrow.Author.Rules.{rules}
 use Rattle.text_checks.proofs.has_unknown_interface.Goals as goal

@@ -1,4 +1,3 @@
-use Prim.Native.Nat.{◌-◌}
 use Rattle.laws.proofs.LoopLaws.{any-begin}
 use Rattle.text_checks.proofs.LookedLaws.{looked-done, looked-found, looked-next}
 use borrow.Author.Rules.{rules}

@@ -1,5 +1,4 @@
-use mathlib.Core.Path.{◌∙◌}
 use Rattle.text_checks.proofs.is_kind_in_row.Goals as goal
 
 pub returns : goal.returns
-returns c = c.is_kind.ensures _ (c.wide.ensures.0 ∙ c.what.ensures.0)
+returns c = c.is_kind.ensures _ c.what.ensures

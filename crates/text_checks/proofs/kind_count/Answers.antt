@@ -1,4 +1,3 @@
-use Prim.Native.Nat.{◌-◌}
 use Rattle.laws.proofs.LoopLaws.{tally-begin}
 use Rattle.text_checks.proofs.CountedLaws.{counted-done, counted_next}
 use borrow.Author.Rules.{rules}

@@ -1,5 +1,4 @@
-use Prim.Native.Nat.{◌-◌}
-use Rattle.text_checks.proofs.CollectedLaws.{collected-begin, collected-done, collected-full, collected-next}
+use Rattle.text_checks.proofs.CollectedLaws.{collected-begin, collected-done, collected-full, collected-next, name-short}
 use borrow.Author.Rules.{rules}
 use Rattle.text_checks.proofs.names_of_kind.Goals as goal
 
@@ -9,8 +8,8 @@ loop-k-init c = search (rules, collected-begin)
 pub returns-then-names-most : goal.returns-then-names-most
 returns-then-names-most c = search (rules, collected-full)
 
-pub with_name_of-more-requires : goal.with_name_of-more-requires
-with_name_of-more-requires c = (search rules, (search rules, (search rules, (search rules, (search rules, search rules)))))
+pub with_name-names-requires : goal.with_name-names-requires
+with_name-names-requires c = (search rules, search (rules, name-short))
 
 pub loop-k-preserved : goal.loop-k-preserved
 loop-k-preserved c = search (rules, collected-next)

@@ -1,10 +1,6 @@
-use Prim.Native.Nat.{◌-◌}
 use Rattle.text_rows.specs.RowAt.{declaration_by}
 use Rattle.text_checks.proofs.TakenLaws.{Taken}
 use Rattle.text_checks.proofs.with_types_of.Given as goal
 
 abbrev pub invariant-loop-i : goal.invariant-loop-i
 invariant-loop-i l = Taken (declaration_by l.s).attribute_types l.count l.initial.r l.i l.r
-
-abbrev pub decreases-loop-i : goal.decreases-loop-i
-decreases-loop-i l = l.count - l.i

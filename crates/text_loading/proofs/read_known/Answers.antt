@@ -6,25 +6,28 @@ use Rattle.text_loading.proofs.ReplyLaws.{few-of, says-many, says-over-52, says-
 use borrow.Author.Rules.{rules}
 use Rattle.text_loading.proofs.read_known.Goals as goal
 
-pub returns-then-n-gt52 : goal.returns-then-n-gt52
-returns-then-n-gt52 c = says-over-52 c.requires.0 c.requires.1.0 c.requires.1.1 (search rules) c.refused.ensures
+pub returns-then-o-gt52 : goal.returns-then-o-gt52
+returns-then-o-gt52 c = says-over-52 c.requires.0 c.requires.1 c.args.o.now.outlines (search rules)
 
 pub returns-then-has_many : goal.returns-then-has_many
-returns-then-has_many c = says-many c.requires.0 c.requires.1.0 c.has_many.ensures (search rules) c.refused-then-has_many.ensures
+returns-then-has_many c = says-many c.requires.0 c.requires.1 c.has_many.ensures (search rules)
 
 pub value_names-values-requires : goal.value_names-values-requires
-value_names-values-requires c = (short c.requires.0, (c.requires.1.1, search rules))
+value_names-values-requires c = (short c.requires.0, search rules)
 
 pub returns-then-values-gt12 : goal.returns-then-values-gt12
-returns-then-values-gt12 c = let v = c.value_names-values in
-    says-values c.requires.0 v.result c.requires.1.0 v.ensures.0 (search rules) c.refused-then-values-gt12.ensures
+returns-then-values-gt12 c =
+    let v = c.value_names-values in
+    says-values c.requires.0 v.result c.requires.1 v.ensures.0 (search rules)
 
 pub read_declared-requires : goal.read_declared-requires
-read_declared-requires c = let v = c.value_names-values in
-    let f = few-of c.args.body.now v.result c.has_many.ensures (search rules) v.ensures.0 (search rules) in
-    (writable c.requires.0 c.requires.1.0.allowed f, (c.requires.1.1, (search rules, (omega (arith, v.ensures.1), values-all (declarations_by c.args.body.now) v.result v.ensures.0 (search rules)))))
+read_declared-requires c =
+    let v = c.value_names-values in
+    let f = few-of c.args.o.now.body.now v.result c.has_many.ensures (search rules) v.ensures.0 (search rules) in
+    (writable c.requires.0 c.requires.1.allowed f, (search rules, (omega (arith, v.ensures.1), values-all (declarations_by c.args.o.now.body.now) v.result v.ensures.0 (search rules))))
 
 pub returns : goal.returns
-returns c = let v = c.value_names-values in
-    let f = few-of c.args.body.now v.result c.has_many.ensures (search rules) v.ensures.0 (search rules) in
-    says-read c.requires.0 c.requires.1.0 f c.read_declared.ensures
+returns c =
+    let v = c.value_names-values in
+    let f = few-of c.args.o.now.body.now v.result c.has_many.ensures (search rules) v.ensures.0 (search rules) in
+    says-read c.requires.0 c.requires.1 f c.read_declared.ensures

@@ -1,5 +1,6 @@
+use mathlib.Core.Path.{refl}
 use Rattle.text_rows.proofs.BlankLaws.{unblank-bare}
-use Rattle.text_rows.proofs.EndLaws.{behind-drop, behind-is, behind-self, behind-unblank, continues-next, continues-self, row_ends, row_open}
+use Rattle.text_rows.proofs.EndLaws.{behind-drop, behind-self, behind-unblank, continues-next, continues-self, ends-some, ends-none}
 use Rattle.text_rows.proofs.RowLaws.{Step, rest-shorter}
 use Rattle.text_rows.proofs.row_end.Goals as goal
 
@@ -9,13 +10,9 @@ loop-rest-init c = let s = c.args.s.now in
     let e = c.unblanked-rest.ensures in
     (unblank-bare s t e, (c.requires, (behind-self s t e, continues-self c.args.q s t e)))
 
-pub overflow_sub-result : goal.overflow_sub-result
-overflow_sub-result c = let s = c.args.s.now in
-    (behind-is s c.past-after.result.now (behind-drop s c.loop-rest.rest.now c.past-after.result.now c.token_at-f.result.size c.loop-rest.invariant.1.1.0 c.past-after.ensures)).0
-
 pub returns-then-n-eq3 : goal.returns-then-n-eq3
 returns-then-n-eq3 c = let step : Step c.loop-rest.rest.now c.token_at-f.result c.loop-rest.state c.next_state-n.result = record { some = c.loop-rest-test.true; bare = c.loop-rest.invariant.0; is = c.token_at-f.ensures; to = c.next_state-n.ensures.0 } in
-    row_ends step c.loop-rest.invariant.1.1.1 c.past-after.ensures c.if-n-eq3.true c.loop-rest.invariant.1.1.0
+    ends-some step c.loop-rest.invariant.1.1.1 c.past-after.ensures c.if-n-eq3.true c.loop-rest.invariant.1.1.0 _ refl
 
 pub loop-rest-smaller : goal.loop-rest-smaller
 loop-rest-smaller c = let step : Step c.loop-rest.rest.now c.token_at-f.result c.loop-rest.state c.next_state-n.result = record { some = c.loop-rest-test.true; bare = c.loop-rest.invariant.0; is = c.token_at-f.ensures; to = c.next_state-n.ensures.0 } in
@@ -37,4 +34,4 @@ loop-rest-preserved c = let step : Step c.loop-rest.rest.now c.token_at-f.result
     )
 
 pub returns : goal.returns
-returns c = row_open c.args.q c.args.s.now c.loop-rest.rest.now c.loop-rest.state c.loop-rest.invariant.1.1.1 c.loop-rest-test.false
+returns c = ends-none c.args.q c.args.s.now c.loop-rest.rest.now c.loop-rest.state c.loop-rest.invariant.1.1.1 c.loop-rest-test.false

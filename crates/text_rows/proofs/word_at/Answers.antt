@@ -4,6 +4,8 @@ use lib.ListN.{get_or, take}
 use native.Mathlib.Omega.{arith}
 use Rattle.texts.specs.Table.{Symbol, row_from, words_for}
 use Rattle.texts.specs.Token.{Token}
+use Prim.Native.Nat.{ℕ, ◌-◌}
+use Rattle.text_rows.proofs.NotedLaws.{one-from}
 use Rattle.text_rows.proofs.BlankLaws.{unblank-bare}
 use Rattle.text_rows.proofs.EndLaws.{behind-drop, behind-is, behind-self, behind-unblank}
 use Rattle.text_rows.proofs.RowLaws.{Step, rest-shorter, rest-tokens, row-begin, word_end, word-here, word_next, word_none}
@@ -26,7 +28,7 @@ returns-then-wanted-left c = let step : Step c.loop-rest.rest.now c.token_at-f.r
 pub returns-then-n-eq3 : goal.returns-then-n-eq3
 returns-then-n-eq3 c = let step : Step c.loop-rest.rest.now c.token_at-f.result c.loop-rest.state c.next_state-n.result = record { some = c.loop-rest-test.true; bare = c.loop-rest.invariant.0; is = c.token_at-f.ensures; to = c.next_state-n.ensures.0 } in
     let b = c.args in
-    word_none step b.a b.b b.c c.is_wanted-wanted.ensures c.loop-rest.left c.if-wanted-left.false c.counted_down-left.ensures c.if-n-eq3.true ∙ sym c.loop-rest.invariant.1.1.1
+    word_none step b.a b.b b.c c.is_wanted-wanted.ensures c.loop-rest.left c.if-wanted-left.false (c.saturating_sub-left.ensures ∙ ap (λ (k : ℕ). c.loop-rest.left - k) (c.from.ensures ∙ one-from _)) c.if-n-eq3.true ∙ sym c.loop-rest.invariant.1.1.1
 
 pub loop-rest-smaller : goal.loop-rest-smaller
 loop-rest-smaller c = let step : Step c.loop-rest.rest.now c.token_at-f.result c.loop-rest.state c.next_state-n.result = record { some = c.loop-rest-test.true; bare = c.loop-rest.invariant.0; is = c.token_at-f.ensures; to = c.next_state-n.ensures.0 } in
@@ -37,13 +39,13 @@ loop-rest-preserved c = let step : Step c.loop-rest.rest.now c.token_at-f.result
     let b = c.args in
     let p = c.past in
     let t = c.unblanked-after in
-    let d = c.counted_down-left in (
+    let d = c.saturating_sub-left in (
       unblank-bare p.result.now t.result.now t.ensures,
       (
         c.next_state-n.ensures.1,
         (
           behind-unblank b.s.now p.result.now t.result.now (behind-drop b.s.now c.loop-rest.rest.now p.result.now c.token_at-f.result.size c.loop-rest.invariant.1.1.0 p.ensures) t.ensures,
-          c.loop-rest.invariant.1.1.1 ∙ word_next step b.a b.b b.c c.is_wanted-wanted.ensures c.loop-rest.left c.if-wanted-left.false d.ensures c.if-n-eq3.false
+          c.loop-rest.invariant.1.1.1 ∙ word_next step b.a b.b b.c c.is_wanted-wanted.ensures c.loop-rest.left c.if-wanted-left.false (d.ensures ∙ ap (λ (k : ℕ). c.loop-rest.left - k) (c.from.ensures ∙ one-from _)) c.if-n-eq3.false
               ∙ ap (λ (ts : List Token). get_or (words_for b.a b.b b.c (row_from c.next_state-n.result ts)) d.result []) (rest-tokens step p.ensures t.ensures),
         ),
       ),

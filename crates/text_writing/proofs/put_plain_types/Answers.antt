@@ -1,4 +1,3 @@
-use Prim.Native.Nat.{◌-◌}
 use Rattle.text_writing.specs.Pieces.{plain_piece}
 use Rattle.text_writing.proofs.PuttingLaws.{putting-at, putting-begin, putting-done, putting-fits, putting-long, putting-next, putting-spare}
 use borrow.Author.Rules.{rules}
@@ -13,8 +12,8 @@ slice_bounds-put_plain_at-count c = search (rules, putting-at)
 pub slice_bounds-put_plain_at-start : goal.slice_bounds-put_plain_at-start
 slice_bounds-put_plain_at-start c = search (rules, putting-at)
 
-pub put_plain_at-m-requires : goal.put_plain_at-m-requires
-put_plain_at-m-requires c = search (rules, putting-spare)
+pub put_plain_at-at-requires : goal.put_plain_at-at-requires
+put_plain_at-at-requires c = search (rules, putting-spare)
 
 pub overflow_add-at : goal.overflow_add-at
 unfolding plain_piece

@@ -1,4 +1,3 @@
-use Prim.Native.Nat.{◌-◌}
 use Rattle.name_lists.specs.Names.{names_in}
 use Rattle.text_writing.specs.Pieces.{plain_piece}
 use Rattle.text_writing.proofs.PuttingLaws.{Putting}
@@ -6,6 +5,3 @@ use Rattle.text_writing.proofs.put_plain_types.Given as goal
 
 abbrev pub invariant-loop-i : goal.invariant-loop-i
 invariant-loop-i l = Putting (plain_piece (names_in l.values) l.e) l.end l.initial.out l.out l.at l.i
-
-abbrev pub decreases-loop-i : goal.decreases-loop-i
-decreases-loop-i l = l.end - l.i

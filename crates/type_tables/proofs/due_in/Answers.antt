@@ -1,4 +1,3 @@
-use Prim.Native.Nat.{◌-◌}
 use Rattle.type_tables.proofs.DueInLaws.{due-begin, due-done, due-next}
 use borrow.Author.Rules.{rules}
 use Rattle.type_tables.proofs.due_in.Goals as goal
@@ -11,6 +10,3 @@ due_more-e-requires c = c.requires c.loop-a.a (search rules)
 
 pub loop-a-preserved : goal.loop-a-preserved
 loop-a-preserved c = search (rules, due-next)
-
-pub returns : goal.returns
-returns c = search (rules, due-done)

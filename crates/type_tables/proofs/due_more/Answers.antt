@@ -2,9 +2,6 @@ use Rattle.type_tables.proofs.DueInLaws.{more-declared, more-other, read_small}
 use borrow.Author.Rules.{rules}
 use Rattle.type_tables.proofs.due_more.Goals as goal
 
-pub join_due-requires : goal.join_due-requires
-join_due-requires c = search (rules, read_small)
-
 pub returns-then-is_declaring : goal.returns-then-is_declaring
 returns-then-is_declaring c = search (rules, more-declared)
 

@@ -1,6 +1,6 @@
 use native.Mathlib.Omega.{arith}
-use Prim.Native.Nat.{ℕ, ◌-◌}
-use mathlib.Core.Path.{◌∙◌, ◌≡◌, ap}
+use Prim.Native.Nat.{ℕ}
+use mathlib.Core.Path.{◌≡◌}
 use borrow.Author.Count.{below_none}
 use lib.ListN.{get_or}
 use Rattle.laws.specs.Bounded.{first}
@@ -10,20 +10,20 @@ use borrow.Author.Rules.{rules}
 use Rattle.type_values.proofs.all_lacking.Goals as goal
 
 pub loop-v-init : goal.loop-v-init
-loop-v-init c = (search rules, search rules, below_none _)
+loop-v-init c = (
+  search rules,
+  below_none _,
+)
 
 pub loop-v-preserved : goal.loop-v-preserved
 loop-v-preserved c =
-    let w = c.wide-i in
     let l = c.loop-v in
     let a = c.args in
-    let found : ℕ → ℕ → ℕ = λ v i. first (lacking_in a.olds.now (get_or a.counts.now i 0) a.sizes.now a.constants.now a.n (get_or a.types.now i 0) v) 8 in (
+    let w = a.values.now in
+    let found : ℕ → ℕ = λ v. first (lacking_in a.olds.now.constants (get_or a.olds.now.sizes v 0) w.sizes w.constants w.count (get_or a.types.now v 0) v) 8 in (
       search rules,
-      search rules,
-      rw w.ensures.0
-          (set_more (λ (k x : ℕ). x ≡ found k k) l.firsts l.v c.first_lacking-c.result (omega arith) l.invariant.2
-          (c.first_lacking-c.ensures ∙ ap (found l.v) w.ensures.0)),
+      set_more (λ (k x : ℕ). x ≡ found k) l.firsts l.v c.first_lacking-c.result (omega arith) l.invariant.1 c.first_lacking-c.ensures,
     )
 
 pub returns : goal.returns
-returns c = λ v h. c.loop-v.invariant.2 v (omega arith)
+returns c = λ v h. c.loop-v.invariant.1 v (omega arith)

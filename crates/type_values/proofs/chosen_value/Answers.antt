@@ -9,4 +9,4 @@ returns-then-e-gt12 c = chosen-past _ _ c.if-e-gt12.true
 
 pub returns : goal.returns
 returns c =
-    chosen-one _ _ c.if-e-eq0.false c.if-e-gt12.false c.wide.ensures.0 c.byte.ensures c.chosen_constant.ensures.0
+    chosen-one _ _ c.if-e-eq0.false c.if-e-gt12.false c.from.ensures c.byte.ensures c.chosen_constant.ensures.0

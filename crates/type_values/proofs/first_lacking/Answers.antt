@@ -1,5 +1,4 @@
 use Rattle.laws.proofs.LoopLaws.{each}
-use Prim.Native.Nat.{◌-◌}
 use Rattle.type_values.proofs.first_lacking.Goals as goal
 
 pub loop-c-init : goal.loop-c-init

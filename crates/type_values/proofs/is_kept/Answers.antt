@@ -7,4 +7,4 @@ returns-then-e-eq0 c = kept-nothing _ _ _ _ c.if-e-eq0.true
 
 pub returns : goal.returns
 returns c =
-    kept-some _ _ _ _ c.if-e-eq0.false c.wide-v.ensures.0 refl c.wide.ensures.0 c.byte.ensures c.wide-2.ensures.0 c.byte-2.ensures
+    kept-some _ _ _ _ c.if-e-eq0.false c.from-v.ensures refl c.from.ensures c.byte.ensures c.from-2.ensures c.byte-2.ensures

@@ -4,4 +4,4 @@ use Rattle.type_values.proofs.same_types.Goals as goal
 
 pub returns : goal.returns
 returns c =
-    same-types-are c.args.old c.args.new c.requires.1 c.places.result _ _ refl refl c.places.ensures
+    same-types-are c.args.old c.args.new c.requires.1 c.places.result _ _ refl refl c.places.ensures.0

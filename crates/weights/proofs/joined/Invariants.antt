@@ -1,4 +1,4 @@
-use Prim.Native.Nat.{◌-◌, ◌<◌, ◌≤◌, ℕ}
+use Prim.Native.Nat.{◌<◌, ℕ}
 use mathlib.Core.Bool.{true}
 use mathlib.Core.Path.{◌≡◌}
 use lib.ListN.{get_or}
@@ -6,7 +6,4 @@ use Rattle.laws.specs.Bits.{bit}
 use Rattle.weights.proofs.joined.Given as goal
 
 abbrev pub invariant-loop-j : goal.invariant-loop-j
-invariant-loop-j l = (l.j ≤ 16) × ((i : ℕ) → i < l.j → (t : ℕ) → bit t (get_or l.masks i 0) ≡ true → bit t l.m ≡ true)
-
-abbrev pub decreases-loop-j : goal.decreases-loop-j
-decreases-loop-j l = 16 - l.j
+invariant-loop-j l = (i : ℕ) → i < l.j → (t : ℕ) → bit t (get_or l.masks i 0) ≡ true → bit t l.m ≡ true

@@ -1,14 +1,29 @@
-use borrow.Author.Tests.{eq-eqb, ne_eqb}
-use Rattle.laws.proofs.SearchLaws.{by-no, by-yes}
-use Rattle.weights.proofs.NumberLaws.{number-none, number-slot, number-whole}
+-- `number_of` meets its contract: by what is counted.
+-- Assumes nothing.
+use mathlib.Core.Bool.{not}
+use mathlib.Core.Path.{ap}
 use borrow.Author.Rules.{rules}
+use Rattle.laws.proofs.SearchLaws.{by-no, by-yes}
+use Rattle.weights.specs.Numbers.{counted}
+use Rattle.weights.specs.declared.Count.TheVariants.{Flat, High, Low, Parts}
+use Rattle.weights.proofs.NumberLaws.{number-as, number-none}
 use Rattle.weights.proofs.number_of.Goals as goal
 
-pub returns-then-not-has32 : goal.returns-then-not-has32
-returns-then-not-has32 c = search (rules, by-no, number-none)
+pub returns-then-not-has : goal.returns-then-not-has
+returns-then-not-has c = search (rules, by-no, number-none)
 
-pub returns-then-w-eq3 : goal.returns-then-w-eq3
-returns-then-w-eq3 c = search (rules, by-yes, number-whole, eq-eqb)
+pub returns-in-Low : goal.returns-in-Low
+unfolding counted
+returns-in-Low c = number-as _ _ _ _ _ _ _ _ _ Low c.in-Low.is (by-yes c.has.ensures (ap not c.if-not-has.false)) cc
 
-pub returns : goal.returns
-returns c = search (rules, by-yes, number-slot, ne_eqb)
+pub returns-in-High : goal.returns-in-High
+unfolding counted
+returns-in-High c = number-as _ _ _ _ _ _ _ _ _ High c.in-High.is (by-yes c.has.ensures (ap not c.if-not-has.false)) cc
+
+pub returns-in-Flat : goal.returns-in-Flat
+unfolding counted
+returns-in-Flat c = number-as _ _ _ _ _ _ _ _ _ Flat c.in-Flat.is (by-yes c.has.ensures (ap not c.if-not-has.false)) cc
+
+pub returns-in-Parts : goal.returns-in-Parts
+unfolding counted
+returns-in-Parts c = number-as _ _ _ _ _ _ _ _ _ Parts c.in-Parts.is (by-yes c.has.ensures (ap not c.if-not-has.false)) cc

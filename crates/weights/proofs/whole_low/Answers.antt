@@ -1,4 +1,3 @@
-use Prim.Native.Nat.{◌-◌}
 use Rattle.weights.proofs.NumberLaws.{whole-begin, whole-done, whole-next}
 use borrow.Author.Rules.{rules}
 use Rattle.weights.proofs.whole_low.Goals as goal

@@ -8,21 +8,21 @@ use Rattle.queries.proofs.FitLaws.{sane-of}
 use Rattle.queries.specs.Forms.{columned, seeded}
 use Rattle.worlds.specs.declared.Query.{Query}
 use borrow.Author.Tests.{not-true}
-use mathlib.Core.Path.{◌∙◌, ap}
+use mathlib.Core.Path.{◌∙◌, ap, refl}
 use native.Mathlib.Omega.{arith}
 use mathlib.Core.Bool.{not}
 use Rattle.aims.proofs.asks.ask_columns.Goals as goal
 
 pub returns-then-not-meets : goal.returns-then-not-meets
-returns-then-not-meets c = breaks-none _ _ _ _ _ c.nothing.ensures (skip-columns _ _ (c.meets.ensures (not-true c.meets.result (ap not c.if-not-meets.true))) _ _ _ _)
+returns-then-not-meets c = breaks-none _ _ _ _ _ refl (skip-columns _ _ (c.meets.ensures (not-true c.meets.result (ap not c.if-not-meets.true))) _ _ _ _)
 
 pub find-requires : goal.find-requires
 find-requires c =
     let s = c.args in
-    let p = c.requires in (p.0, p.1, sane-of (c.with_column-q.ensures ∙ ap (λ (y : Query). columned y s.s s.from s.low s.high) c.with_seeds.ensures) (fit-columned 1 (seeded 1 s.a 0 0) s.s (fit-seeded 1 s.a 0 0 (omega arith)) p.3 s.from s.low s.high), p.2)
+    let p = c.requires in (p.0, sane-of (c.with_column-q.ensures ∙ ap (λ (y : Query). columned y s.s s.from s.low s.high) c.with_seeds.ensures) (fit-columned 1 (seeded 1 s.a 0 0) s.s (fit-seeded 1 s.a 0 0 (omega arith)) p.2 s.from s.low s.high), p.1)
 
 pub returns : goal.returns
 returns c =
     let s = c.args in
     let p = c.requires in
-    column-said _ _ _ _ _ _ p.3 _ _ _ _ (c.with_column-q.ensures ∙ ap (λ (y : Query). columned y s.s s.from s.low s.high) c.with_seeds.ensures) c.find.ensures
+    column-said _ _ _ _ _ _ p.2 _ _ _ _ (c.with_column-q.ensures ∙ ap (λ (y : Query). columned y s.s s.from s.low s.high) c.with_seeds.ensures) c.find.ensures

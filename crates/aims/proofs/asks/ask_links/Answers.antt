@@ -7,23 +7,23 @@ use Rattle.queries.proofs.FitLaws.{fit-link, sane-of}
 use Rattle.queries.specs.Forms.{linked}
 use Rattle.worlds.specs.declared.Query.{Query}
 use borrow.Author.Tests.{not-true}
-use mathlib.Core.Path.{◌∙◌, ap}
+use mathlib.Core.Path.{◌∙◌, ap, refl}
 use mathlib.Core.Bool.{not}
 use Rattle.aims.proofs.asks.ask_links.Goals as goal
 
 pub returns-then-not-meets : goal.returns-then-not-meets
-returns-then-not-meets c = breaks-none _ _ _ _ _ c.nothing.ensures (skip-links _ _ (c.meets.ensures (not-true c.meets.result (ap not c.if-not-meets.true))) _ _)
+returns-then-not-meets c = breaks-none _ _ _ _ _ refl (skip-links _ _ (c.meets.ensures (not-true c.meets.result (ap not c.if-not-meets.true))) _ _)
 
 pub returns-then-not-meets-2 : goal.returns-then-not-meets-2
-returns-then-not-meets-2 c = breaks-none _ _ _ _ _ c.nothing-then-not-meets-2.ensures (skip-links-to _ _ (c.meets-2.ensures (not-true c.meets-2.result (ap not c.if-not-meets-2.true))) _ _)
+returns-then-not-meets-2 c = breaks-none _ _ _ _ _ refl (skip-links-to _ _ (c.meets-2.ensures (not-true c.meets-2.result (ap not c.if-not-meets-2.true))) _ _)
 
 pub find-requires : goal.find-requires
 find-requires c =
     let s = c.args in
-    let p = c.requires in (p.0, p.1, sane-of (c.with_link-q.ensures ∙ ap (λ (y : Query). linked y s.s 0 1) c.with_seeds.ensures) (fit-link s.s s.a s.b p.3), p.2)
+    let p = c.requires in (p.0, sane-of (c.with_link-q.ensures ∙ ap (λ (y : Query). linked y s.s 0 1) c.with_seeds.ensures) (fit-link s.s s.a s.b p.2), p.1)
 
 pub returns : goal.returns
 returns c =
     let s = c.args in
     let p = c.requires in
-    link-said _ _ _ _ _ _ p.3 _ _ (c.with_link-q.ensures ∙ ap (λ (y : Query). linked y s.s 0 1) c.with_seeds.ensures) c.find.ensures
+    link-said _ _ _ _ _ _ p.2 _ _ (c.with_link-q.ensures ∙ ap (λ (y : Query). linked y s.s 0 1) c.with_seeds.ensures) c.find.ensures

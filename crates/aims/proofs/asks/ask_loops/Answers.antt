@@ -7,20 +7,20 @@ use Rattle.queries.proofs.FitLaws.{fit-loop, sane-of}
 use Rattle.queries.specs.Forms.{linked}
 use Rattle.worlds.specs.declared.Query.{Query}
 use borrow.Author.Tests.{not-true}
-use mathlib.Core.Path.{◌∙◌, ap}
+use mathlib.Core.Path.{◌∙◌, ap, refl}
 use mathlib.Core.Bool.{not}
 use Rattle.aims.proofs.asks.ask_loops.Goals as goal
 
 pub returns-then-not-meets : goal.returns-then-not-meets
-returns-then-not-meets c = breaks-none _ _ _ _ _ c.nothing.ensures (skip-loops _ _ (c.meets.ensures (not-true c.meets.result (ap not c.if-not-meets.true))) _)
+returns-then-not-meets c = breaks-none _ _ _ _ _ refl (skip-loops _ _ (c.meets.ensures (not-true c.meets.result (ap not c.if-not-meets.true))) _)
 
 pub find-requires : goal.find-requires
 find-requires c =
     let s = c.args in
-    let p = c.requires in (p.0, p.1, sane-of (c.with_link-q.ensures ∙ ap (λ (y : Query). linked y s.s 0 0) c.with_seeds.ensures) (fit-loop s.s s.a p.3), p.2)
+    let p = c.requires in (p.0, sane-of (c.with_link-q.ensures ∙ ap (λ (y : Query). linked y s.s 0 0) c.with_seeds.ensures) (fit-loop s.s s.a p.2), p.1)
 
 pub returns : goal.returns
 returns c =
     let s = c.args in
     let p = c.requires in
-    loop-said _ _ _ _ _ _ p.3 _ (c.with_link-q.ensures ∙ ap (λ (y : Query). linked y s.s 0 0) c.with_seeds.ensures) c.find.ensures
+    loop-said _ _ _ _ _ _ p.2 _ (c.with_link-q.ensures ∙ ap (λ (y : Query). linked y s.s 0 0) c.with_seeds.ensures) c.find.ensures

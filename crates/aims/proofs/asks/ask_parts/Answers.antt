@@ -7,26 +7,26 @@ use Rattle.queries.proofs.PartLaws.{part-said}
 use Rattle.queries.specs.Forms.{linked}
 use Rattle.worlds.specs.declared.Query.{Query}
 use borrow.Author.Tests.{not-true}
-use mathlib.Core.Path.{◌∙◌, ap}
+use mathlib.Core.Path.{◌∙◌, ap, refl}
 use mathlib.Core.Bool.{not}
 use Rattle.aims.proofs.asks.ask_parts.Goals as goal
 
 pub returns-then-not-meets : goal.returns-then-not-meets
-returns-then-not-meets c = breaks-none _ _ _ _ _ c.nothing.ensures (skip-parts _ _ (c.meets.ensures (not-true c.meets.result (ap not c.if-not-meets.true))) _ _ _ _)
+returns-then-not-meets c = breaks-none _ _ _ _ _ refl (skip-parts _ _ (c.meets.ensures (not-true c.meets.result (ap not c.if-not-meets.true))) _ _ _ _)
 
 pub returns-then-not-meets-2 : goal.returns-then-not-meets-2
-returns-then-not-meets-2 c = breaks-none _ _ _ _ _ c.nothing-then-not-meets-2.ensures (skip-parts-of _ _ (c.meets-2.ensures (not-true c.meets-2.result (ap not c.if-not-meets-2.true))) _ _ _ _)
+returns-then-not-meets-2 c = breaks-none _ _ _ _ _ refl (skip-parts-of _ _ (c.meets-2.ensures (not-true c.meets-2.result (ap not c.if-not-meets-2.true))) _ _ _ _)
 
 pub returns-then-not-meets-3 : goal.returns-then-not-meets-3
-returns-then-not-meets-3 c = breaks-none _ _ _ _ _ c.nothing-then-not-meets-3.ensures (skip-parts-too _ _ (c.meets-3.ensures (not-true c.meets-3.result (ap not c.if-not-meets-3.true))) _ _ _ _)
+returns-then-not-meets-3 c = breaks-none _ _ _ _ _ refl (skip-parts-too _ _ (c.meets-3.ensures (not-true c.meets-3.result (ap not c.if-not-meets-3.true))) _ _ _ _)
 
 pub find-requires : goal.find-requires
 find-requires c =
     let s = c.args in
-    let p = c.requires in (p.0, p.1, sane-of (c.with_link-q.ensures ∙ ap (λ (y : Query). linked y s.u 2 0) c.with_link.ensures ∙ ap (λ (y : Query). linked (linked y s.s 1 0) s.u 2 0) c.with_seeds.ensures) (fit-part s.s s.u s.a s.b s.c p.3 p.4), p.2)
+    let p = c.requires in (p.0, sane-of (c.with_link-q.ensures ∙ ap (λ (y : Query). linked y s.u 2 0) c.with_link.ensures ∙ ap (λ (y : Query). linked (linked y s.s 1 0) s.u 2 0) c.with_seeds.ensures) (fit-part s.s s.u s.a s.b s.c p.2 p.3), p.1)
 
 pub returns : goal.returns
 returns c =
     let s = c.args in
     let p = c.requires in
-    part-said _ _ _ _ _ _ _ p.3 p.4 _ _ _ (c.with_link-q.ensures ∙ ap (λ (y : Query). linked y s.u 2 0) c.with_link.ensures ∙ ap (λ (y : Query). linked (linked y s.s 1 0) s.u 2 0) c.with_seeds.ensures) c.find.ensures
+    part-said _ _ _ _ _ _ _ p.2 p.3 _ _ _ (c.with_link-q.ensures ∙ ap (λ (y : Query). linked y s.u 2 0) c.with_link.ensures ∙ ap (λ (y : Query). linked (linked y s.s 1 0) s.u 2 0) c.with_seeds.ensures) c.find.ensures

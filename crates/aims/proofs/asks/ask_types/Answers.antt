@@ -8,16 +8,16 @@ use Rattle.queries.proofs.FitLaws.{sane-of}
 use borrow.Author.Tests.{not-true}
 use native.Mathlib.Omega.{arith}
 use mathlib.Core.Bool.{not}
-use mathlib.Core.Path.{ap}
+use mathlib.Core.Path.{ap, refl}
 use Rattle.aims.proofs.asks.ask_types.Goals as goal
 
 pub returns-then-not-meets : goal.returns-then-not-meets
-returns-then-not-meets c = breaks-none _ _ _ _ _ c.nothing.ensures (skip-types _ _ (c.meets.ensures (not-true c.meets.result (ap not c.if-not-meets.true))))
+returns-then-not-meets c = breaks-none _ _ _ _ _ refl (skip-types _ _ (c.meets.ensures (not-true c.meets.result (ap not c.if-not-meets.true))))
 
 pub find-requires : goal.find-requires
 find-requires c =
     let s = c.args in
-    let p = c.requires in (p.0, p.1, sane-of c.with_seeds-q.ensures (fit-seeded 1 s.a 0 0 (omega arith)), p.2)
+    let p = c.requires in (p.0, sane-of c.with_seeds-q.ensures (fit-seeded 1 s.a 0 0 (omega arith)), p.1)
 
 pub returns : goal.returns
 returns c = typed-said _ _ _ _ _ _ c.with_seeds-q.ensures c.find.ensures

@@ -1,12 +1,13 @@
 -- `find_column` meets its contract: one limit after the other.
 -- Assumes nothing.
+use mathlib.Core.Path.{refl}
 use Rattle.aims.proofs.ColumnLaws.{column-both, column-least, column-most}
 use Rattle.queries.proofs.BreakLaws.{breaks-hit, breaks-last}
 use Rattle.aims.proofs.columns.find_column.Goals as goal
 
-pub returns-then-r : goal.returns-then-r
-returns-then-r c = breaks-hit _ _ _ _ _ _ c.if-r.true (column-least _ _) c.find_few-r.ensures
+pub returns-in-Some : goal.returns-in-Some
+returns-in-Some c = breaks-hit _ _ _ _ _ _ refl (column-least _ _) c.in-Some.ensures
 
 pub returns : goal.returns
 returns c =
-    breaks-last _ _ _ _ _ _ (column-most _ _) (λ w h e. column-both _ _ w (c.find_few-r.ensures.kept c.if-r.false w h e)) c.find_many.ensures
+    breaks-last _ _ _ _ _ _ (column-most _ _) (λ w h e. column-both _ _ w (c.in_default.ensures.kept refl w h e)) c.find_many.ensures

@@ -1,12 +1,13 @@
 -- `find_mirror` meets its contract: one way and the other.
 -- Assumes nothing.
+use mathlib.Core.Path.{refl}
 use Rattle.aims.proofs.MirrorLaws.{mirror-back, mirror-both, mirror-there}
 use Rattle.queries.proofs.BreakLaws.{breaks-hit, breaks-last}
 use Rattle.aims.proofs.mirrors.find_mirror.Goals as goal
 
-pub returns-then-r : goal.returns-then-r
-returns-then-r c = breaks-hit _ _ _ _ _ _ c.if-r.true (mirror-there _ _) c.find_halves-r.ensures
+pub returns-in-Some : goal.returns-in-Some
+returns-in-Some c = breaks-hit _ _ _ _ _ _ refl (mirror-there _ _) c.in-Some.ensures
 
 pub returns : goal.returns
 returns c =
-    breaks-last _ _ _ _ _ _ (mirror-back _ _) (λ w h e. mirror-both _ _ w (c.find_halves-r.ensures.kept c.if-r.false w h e)) c.find_halves.ensures
+    breaks-last _ _ _ _ _ _ (mirror-back c.args.others.now _) (λ w h e. mirror-both c.args.others.now _ w (c.in_default.ensures.kept refl w h e)) c.find_halves-2.ensures

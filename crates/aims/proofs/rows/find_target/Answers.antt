@@ -1,11 +1,12 @@
 -- `find_target` meets its contract: a link that the own table allows goes to a type that the other does not allow, or there is none.
 -- Assumes nothing.
+use mathlib.Core.Path.{refl}
 use Rattle.aims.proofs.RowLaws.{target_found, target_none}
 use Rattle.queries.proofs.BreakLaws.{breaks-none}
 use Rattle.aims.proofs.rows.find_target.Goals as goal
 
 pub returns-then-b-eq0 : goal.returns-then-b-eq0
-returns-then-b-eq0 c = breaks-none _ _ _ _ _ c.nothing.ensures (target_none _ _ _ _ _ c.without-b.ensures c.if-b-eq0.true)
+returns-then-b-eq0 c = breaks-none _ _ _ _ _ refl (target_none _ _ _ _ _ c.without-b.ensures c.if-b-eq0.true)
 
 pub returns : goal.returns
 returns c = target_found _ _ _ _ _ _ _ _ c.slot_at.ensures.0 c.type_at.ensures _ c.without-b.ensures c.find_links.ensures

@@ -1,8 +1,5 @@
-use Rattle.bench.proofs.StoreLaws.{stores}
+use Rattle.bench.proofs.CallLaws.{whole}
 use Rattle.bench.proofs.Bench.clear.Goals as goal
 
-pub returns-then-place-gt1 : goal.returns-then-place-gt1
-returns-then-place-gt1 c = search stores depth 8 fits 20000
-
 pub returns : goal.returns
-returns c = search stores depth 8 fits 20000
+returns c = whole c.args.self _ c.cleared.result c.or_refused.ensures c.cleared.ensures

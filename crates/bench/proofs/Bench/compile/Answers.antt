@@ -1,18 +1,15 @@
-use Prim.Native.Nat.{◌≤◌}
 use native.Mathlib.Omega.{arith}
-use Rattle.bench.proofs.AskLaws.{asks, number-few}
-use Rattle.bench.proofs.FoundLaws.{found-held}
-use borrow.Author.Rules.{rules}
+use Rattle.bench.proofs.AskLaws.{compile-done, compile-place, number-few}
 use Rattle.bench.proofs.Bench.compile.Goals as goal
 
-pub returns-then-no-ne0 : goal.returns-then-no-ne0
-returns-then-no-ne0 c = search (rules, asks)
-
 pub compile-c-requires : goal.compile-c-requires
-compile-c-requires c = search (rules, found-held)
+compile-c-requires c = c.in-Ok.ensures.held
 
-pub overflow_cast-number : goal.overflow_cast-number
-overflow_cast-number c = let few : c.compile-c.result.number ≤ 64 = search (rules, number-few, found-held) in record { fits = omega arith }
+pub overflow_cast-result : goal.overflow_cast-result
+overflow_cast-result c = let few = number-few c.in-Ok.ensures.held c.compile-c.ensures in record { fits = omega arith }
 
-pub returns : goal.returns
-returns c = search (rules, asks)
+pub returns-in-Ok : goal.returns-in-Ok
+returns-in-Ok c = compile-done c.args.self c.args.place c.requires _ c.in-Ok.ensures c.compile-c.ensures
+
+pub returns-in-Err : goal.returns-in-Err
+returns-in-Err c = compile-place c.args.self c.args.place c.requires _ c.in-Err.ensures

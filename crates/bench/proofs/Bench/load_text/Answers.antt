@@ -1,11 +1,5 @@
-use Rattle.bench.proofs.StoreLaws.{stores}
+use Rattle.bench.proofs.CallLaws.{whole}
 use Rattle.bench.proofs.Bench.load_text.Goals as goal
 
-pub returns-then-place-gt1 : goal.returns-then-place-gt1
-returns-then-place-gt1 c = search stores depth 8 fits 20000
-
-pub returns-then-t-ne0 : goal.returns-then-t-ne0
-returns-then-t-ne0 c = search stores depth 8 fits 20000
-
 pub returns : goal.returns
-returns c = search stores depth 8 fits 20000
+returns c = whole c.args.self _ c.loaded_text.result c.or_refused.ensures c.loaded_text.ensures

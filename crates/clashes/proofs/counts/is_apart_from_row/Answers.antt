@@ -8,5 +8,5 @@ use Rattle.clashes.proofs.counts.is_apart_from_row.Goals as goal
 pub returns : goal.returns
 returns c =
     let a = c.args in
-    λ e. never-row a.first a.here a.slot a.mask a.least a.most a.targets.now a.lows.now a.highs.now a.there a.back (a.x + c.wide.result) c.requires.2
-    (omega (arith, c.wide.ensures.0, c.requires.1)) (c.is_apart_back.ensures e a.first a.slot a.back)
+    λ e. never-row a.asked.first a.asked.here a.asked.slot a.asked.mask a.asked.least a.asked.most a.tables.now.targets a.tables.now.lows a.tables.now.highs a.there a.back (a.x + c.from.result) c.requires.2
+    (omega (arith, c.from.ensures, c.requires.1)) (c.is_apart_back.ensures e a.asked.first a.asked.slot a.back)

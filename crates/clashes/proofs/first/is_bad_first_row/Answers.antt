@@ -9,7 +9,7 @@ use Rattle.clashes.proofs.first.is_bad_first_row.Goals as goal
 pub returns : goal.returns
 returns c =
     let a = c.args in
-    let p = c.rows_at.result + c.wide.result in
-    λ e targets seeds some. first-row-refuted targets a.lows.now a.highs.now a.types.now a.row a.low a.high p seeds c.requires.0
-    (omega (arith, c.rows_at.ensures.0, c.wide.ensures.0))
-    (let h : c.smaller.result < c.larger.result = ltb-true c.smaller.result c.larger.result e in omega (arith, c.smaller.ensures, c.larger.ensures)) some
+    let p = c.rows_at.result + c.from.result in
+    λ e targets seeds some. first-row-refuted targets a.tables.now.lows a.tables.now.highs a.types.now a.row a.low a.high p seeds c.requires.0
+    (omega (arith, c.rows_at.ensures.0, c.from.ensures))
+    (let h : c.min.result < c.max.result = ltb-true c.min.result c.max.result e in omega (arith, c.min.ensures, c.max.ensures)) some

@@ -1,18 +1,14 @@
 -- `mirrors::is_bad_mirror` meets its contract.
 -- Assumes nothing.
-use Prim.Native.Nat.{◌%◌, ◌-◌, ◌/◌, ℕ}
+use Prim.Native.Nat.{◌%◌, ◌/◌, ℕ}
 use mathlib.Core.Bool.{false≢true}
 use mathlib.Core.Path.{◌∙◌, ap, sym}
-use native.Mathlib.Omega.{arith}
 use lib.Dec.{ltb}
 use borrow.Author.Tests.{ltb-true}
 use Rattle.laws.specs.Bits.{bit}
 use Rattle.laws.proofs.ConnectiveLaws.{and_left, and_right}
 use Rattle.clashes.proofs.MirrorLaws.{mirror-refuted}
 use Rattle.clashes.proofs.mirrors.is_bad_mirror.Goals as goal
-
-pub loop-y-init : goal.loop-y-init
-loop-y-init c = omega arith
 
 pub returns-then-is_bad_pair : goal.returns-then-is_bad_pair
 returns-then-is_bad_pair c =
@@ -21,12 +17,6 @@ returns-then-is_bad_pair c =
     let p = c.loop-y.y % 8 in
     λ _. mirror-refuted a.must.now a.shut.now a.types.now a.seeds a.from a.to a.right a.left o p
     (ltb-true o a.seeds (and_left (ltb o a.seeds) (ltb p a.seeds) c.if-o-seeds.true)) (ltb-true p a.seeds (and_right (ltb o a.seeds) (ltb p a.seeds) c.if-o-seeds.true))
-    (ap (λ (z : ℕ). bit z a.from) (sym c.type_of.ensures.0) ∙ sym c.has32.ensures ∙ and_left c.has32.result c.has32-then-o-seeds.result c.if-has32.true)
-    (ap (λ (z : ℕ). bit z a.to) (sym c.type_of-then-o-seeds.ensures.0) ∙ sym c.has32-then-o-seeds.ensures ∙ and_right c.has32.result c.has32-then-o-seeds.result c.if-has32.true)
+    (ap (λ (z : ℕ). bit z a.from) (sym c.type_of.ensures.0) ∙ sym c.has.ensures ∙ and_left c.has.result c.has-then-o-seeds.result c.if-has.true)
+    (ap (λ (z : ℕ). bit z a.to) (sym c.type_of-then-o-seeds.ensures.0) ∙ sym c.has-then-o-seeds.ensures ∙ and_right c.has.result c.has-then-o-seeds.result c.if-has.true)
     (c.is_bad_pair.ensures c.if-is_bad_pair.true)
-
-pub loop-y-preserved : goal.loop-y-preserved
-loop-y-preserved c = omega arith
-
-pub returns : goal.returns
-returns c = λ e. absurd (false≢true e)

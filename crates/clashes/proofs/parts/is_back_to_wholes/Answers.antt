@@ -15,8 +15,8 @@ returns-then-lines-j-2 c = λ e. absurd (true-false e refl)
 pub returns : goal.returns
 returns c =
     let a = c.args in
-    let x = c.has32.result in
-    let y = c.has32-2.result in
+    let x = c.has.result in
+    let y = c.has-2.result in
     let z = c.is_inside.result in
-    λ e. two-wholes a.lines a.t a.slot a.mask a.j c.requires.1 c.if-lines-j.false c.if-lines-j-2.false (sym c.has32.ensures ∙ and_left x y (and_left (x && y) z e))
-    (sym c.has32-2.ensures ∙ and_right x y (and_left (x && y) z e)) (c.is_inside.ensures (and_right (x && y) z e))
+    λ e. two-wholes a.lines.now a.t a.slot a.mask a.j c.requires.1 c.if-lines-j.false c.if-lines-j-2.false (sym c.has.ensures ∙ and_left x y (and_left (x && y) z e))
+    (sym c.has-2.ensures ∙ and_right x y (and_left (x && y) z e)) (c.is_inside.ensures (and_right (x && y) z e))

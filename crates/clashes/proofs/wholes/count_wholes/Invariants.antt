@@ -1,11 +1,8 @@
-use Prim.Native.Nat.{◌-◌, ◌≤◌}
+use Prim.Native.Nat.{◌≤◌}
 use mathlib.Core.Path.{◌≡◌}
 use Rattle.laws.specs.Bounded.{tally}
 use Rattle.clashes.specs.Refuted.{must_whole}
 use Rattle.clashes.proofs.wholes.count_wholes.Given as goal
 
 abbrev pub invariant-loop-o : goal.invariant-loop-o
-invariant-loop-o l = (l.o ≤ l.seeds) × ((l.n ≤ l.o) × (l.n ≡ tally (must_whole l.lines l.must l.types l.p) l.o))
-
-abbrev pub decreases-loop-o : goal.decreases-loop-o
-decreases-loop-o l = l.seeds - l.o
+invariant-loop-o l = (l.n ≤ l.o) × (l.n ≡ tally (must_whole l.lines l.must l.types l.p) l.o)

@@ -1,22 +1,12 @@
 -- `wholes::is_bad_part` meets its contract.
 -- Assumes nothing.
-use Prim.Native.Nat.{◌-◌}
 use mathlib.Core.Bool.{false≢true}
 use native.Mathlib.Omega.{arith}
 use Rattle.clashes.proofs.PartLaws.{part-refuted}
 use Rattle.clashes.proofs.wholes.is_bad_part.Goals as goal
 
-pub loop-p-init : goal.loop-p-init
-loop-p-init c = omega arith
-
 pub returns-then-count_wholes-gt1 : goal.returns-then-count_wholes-gt1
 returns-then-count_wholes-gt1 c =
     let a = c.args in
-    λ _ shut. part-refuted a.lines c.requires.0 a.must.now shut a.types.now a.seeds c.loop-p.p c.requires.1 c.loop-p-test.true
+    λ _ shut. part-refuted a.lines.now c.requires.0 a.must.now shut a.types.now a.seeds c.loop-p.p c.requires.1 c.loop-p-test.true
     (omega (arith, c.count_wholes.ensures, c.if-count_wholes-gt1.true))
-
-pub loop-p-preserved : goal.loop-p-preserved
-loop-p-preserved c = omega arith
-
-pub returns : goal.returns
-returns c = λ e. absurd (false≢true e)

@@ -1,34 +1,37 @@
 -- `columns::with_column` meets its contract: one object after the other.
 -- Assumes nothing.
-use Prim.Native.Nat.{◌-◌, ℕ}
+use Rattle.std.specs.Prelude.{Some}
+use Prim.Native.Nat.{ℕ}
 use mathlib.Core.Path.{◌∙◌, ap, subst, sym}
-use native.Mathlib.Omega.{arith}
 use Rattle.laws.specs.Bits.{bit}
-use Rattle.growing.specs.World.{World}
 use Rattle.demands.specs.Wishes.{Sharpens}
 use Rattle.clashes.specs.Sources.{SourcesKept}
 use Rattle.demands.specs.Families.{SourcesWithin}
 use Rattle.demands.proofs.NeedLaws.{sharp-same, sharp-trans}
 use Rattle.demands.proofs.ColumnLaws.{column-sharp}
 use Rattle.demands.proofs.columns.with_column.Goals as goal
-use Rattle.demands.proofs.columns.with_column.Goals.{then-has32, else-has32}
+use Rattle.demands.proofs.columns.with_column.Goals.{then-has+in_ok-best, else-has}
 
 pub loop-p-init : goal.loop-p-init
-loop-p-init c = (omega arith, sharp-same _ _)
+loop-p-init c = sharp-same _ _
+
+pub returns-in_err-best : goal.returns-in_err-best
+returns-in_err-best c =
+    let a = c.args in
+    rw c.from_residual.ensures (sharp-trans _ _ _ _ c.loop-p.invariant
+    (column-sharp a.s a.tables.now.sources _ _ a.slot a.mask a.to a.low a.high c.loop-p.p c.loop-p-test.true
+    (ap (λ (y : ℕ). bit y a.to) (sym c.type_of.ensures.0) ∙ sym c.has.ensures ∙ c.if-has.true) c.in_err-best.ensures))
 
 pub loop-p-preserved : goal.loop-p-preserved
 loop-p-preserved c =
     let a = c.args in
-    let P : World → Type 0 = λ w. SourcesKept a.sources.now w × SourcesWithin a.slot a.mask a.to a.low a.high w in (
-      omega arith,
-      elim c.if-has32.branch [
-        | then-has32 w ↦ subst (Sharpens P a.s a.best) (sym w.wish-is)
-            (sharp-trans a.s a.best c.loop-p.wish w.with_sources-wish.result c.loop-p.invariant.1
-            (column-sharp a.s a.sources.now c.loop-p.wish w.with_sources-wish.result a.slot a.mask a.to a.low a.high c.loop-p.p c.loop-p-test.true
-            (ap (λ (y : ℕ). bit y a.to) (sym c.type_of.ensures.0) ∙ sym c.has32.ensures ∙ w.if-has32.true) w.with_sources-wish.ensures))
-        | else-has32 w ↦ subst (Sharpens P a.s a.best) (sym w.wish-is) c.loop-p.invariant.1
-      ],
-    )
+    let Sharp : ℕ → Type 0 = λ v. Sharpens (λ w. SourcesKept a.tables.now.sources w × SourcesWithin a.slot a.mask a.to a.low a.high w) a.s (Some a.best) (Some v) in
+    elim c.if-has.branch [
+      | then-has+in_ok-best w ↦ subst Sharp (sym w.best-is) (sharp-trans _ _ _ _ c.loop-p.invariant
+          (column-sharp a.s a.tables.now.sources _ _ a.slot a.mask a.to a.low a.high c.loop-p.p c.loop-p-test.true
+          (ap (λ (y : ℕ). bit y a.to) (sym c.type_of.ensures.0) ∙ sym c.has.ensures ∙ w.if-has.true) w.in_ok-best.ensures))
+      | else-has w ↦ subst Sharp (sym w.best-is) c.loop-p.invariant
+    ]
 
 pub returns : goal.returns
-returns c = c.loop-p.invariant.1
+returns c = c.loop-p.invariant

@@ -1,11 +1,8 @@
-use Prim.Native.Nat.{◌-◌, ◌≤◌}
+use Rattle.std.specs.Prelude.{Some}
 use Rattle.demands.specs.Wishes.{Sharpens}
 use Rattle.clashes.specs.Sources.{SourcesKept}
 use Rattle.demands.specs.Families.{SourcesWithin}
 use Rattle.demands.proofs.columns.with_column.Given as goal
 
 abbrev pub invariant-loop-p : goal.invariant-loop-p
-invariant-loop-p l = (l.p ≤ l.k) × Sharpens (λ w. SourcesKept l.sources w × SourcesWithin l.slot l.mask l.to l.low l.high w) l.s l.initial.wish l.wish
-
-abbrev pub decreases-loop-p : goal.decreases-loop-p
-decreases-loop-p l = l.k - l.p
+invariant-loop-p l = Sharpens (λ w. SourcesKept l.tables.sources w × SourcesWithin l.slot l.mask l.to l.low l.high w) l.s (Some l.fn.best) (Some l.best)

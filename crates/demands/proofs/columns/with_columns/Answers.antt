@@ -1,42 +1,36 @@
 -- `columns::with_columns` meets its contract: one column after the other.
 -- Assumes nothing.
-use Prim.Native.Nat.{◌-◌}
+use Rattle.std.specs.Prelude.{Some, ℕ}
 use mathlib.Core.Path.{subst, sym}
-use native.Mathlib.Omega.{arith}
-use Rattle.growing.specs.World.{World}
 use Rattle.worlds.specs.Kept.{ColumnsKept}
 use Rattle.demands.specs.Wishes.{Sharpens}
 use Rattle.clashes.specs.Sources.{SourcesKept}
 use Rattle.demands.proofs.NeedLaws.{sharp-same, sharp-trans}
 use Rattle.demands.proofs.ColumnLaws.{columns-sharp}
 use Rattle.demands.proofs.columns.with_columns.Goals as goal
-use Rattle.demands.proofs.columns.with_columns.Goals.{then-low-gt0+else-wish, else-low-gt0}
+use Rattle.demands.proofs.columns.with_columns.Goals.{then-low-gt0+in_ok-best, else-low-gt0}
 
 pub loop-j-init : goal.loop-j-init
-loop-j-init c = (omega arith, sharp-same _ _)
+loop-j-init c = sharp-same _ _
 
-pub with_column-wish-requires : goal.with_column-wish-requires
-with_column-wish-requires c =
+pub with_column-requires : goal.with_column-requires
+with_column-requires c =
     (c.requires.0, c.requires.1.column c.loop-j.j c.loop-j-test.true)
 
-pub returns-then-wish : goal.returns-then-wish
-returns-then-wish c =
+pub returns-in_err-best : goal.returns-in_err-best
+returns-in_err-best c =
     let a = c.args in
-    sharp-trans a.s a.best c.loop-j.wish c.with_column-wish.result c.loop-j.invariant.1
-    (columns-sharp a.s a.sources.now c.loop-j.wish c.with_column-wish.result a.lines c.loop-j.j c.loop-j-test.true c.with_column-wish.ensures)
+    rw c.from_residual.ensures (sharp-trans _ _ _ _ c.loop-j.invariant (columns-sharp a.s a.tables.now.sources _ _ a.tables.now.lines c.loop-j.j c.loop-j-test.true c.in_err-best.ensures))
 
 pub loop-j-preserved : goal.loop-j-preserved
 loop-j-preserved c =
     let a = c.args in
-    let P : World → Type 0 = λ w. SourcesKept a.sources.now w × ColumnsKept a.lines w in (
-      omega arith,
-      elim c.if-low-gt0.branch [
-        | then-low-gt0+else-wish w ↦ subst (Sharpens P a.s a.best) (sym w.wish-is)
-            (sharp-trans a.s a.best c.loop-j.wish w.with_column-wish.result c.loop-j.invariant.1
-            (columns-sharp a.s a.sources.now c.loop-j.wish w.with_column-wish.result a.lines c.loop-j.j c.loop-j-test.true w.with_column-wish.ensures))
-        | else-low-gt0 w ↦ subst (Sharpens P a.s a.best) (sym w.wish-is) c.loop-j.invariant.1
-      ],
-    )
+    let Sharp : ℕ → Type 0 = λ v. Sharpens (λ w. SourcesKept a.tables.now.sources w × ColumnsKept a.tables.now.lines w) a.s (Some a.best) (Some v) in
+    elim c.if-low-gt0.branch [
+      | then-low-gt0+in_ok-best w ↦ subst Sharp (sym w.best-is) (sharp-trans _ _ _ _ c.loop-j.invariant
+          (columns-sharp a.s a.tables.now.sources _ _ a.tables.now.lines c.loop-j.j c.loop-j-test.true w.in_ok-best.ensures))
+      | else-low-gt0 w ↦ subst Sharp (sym w.best-is) c.loop-j.invariant
+    ]
 
 pub returns : goal.returns
-returns c = c.loop-j.invariant.1
+returns c = c.loop-j.invariant

@@ -1,4 +1,4 @@
-use Prim.Native.Nat.{ℕ, ◌-◌, ◌≤◌}
+use Prim.Native.Nat.{ℕ, ◌≤◌}
 use mathlib.Core.Path.{◌≡◌}
 use mathlib.Core.Bool.{Bool, ◌&&◌, not}
 use mathlib.Core.List.{List}
@@ -11,7 +11,4 @@ abbrev pub is_candidate : List ℕ → ℕ → ℕ → ℕ → Bool
 is_candidate types mask shut o = bit (get_or types o 0) mask && not (bit o shut)
 
 abbrev pub invariant-loop-o : goal.invariant-loop-o
-invariant-loop-o l = (l.o ≤ l.k) × ((l.n ≤ l.o) × (l.n ≡ tally (is_candidate l.types l.mask l.shut) l.o))
-
-abbrev pub decreases-loop-o : goal.decreases-loop-o
-decreases-loop-o l = l.k - l.o
+invariant-loop-o l = (l.n ≤ l.o) × (l.n ≡ tally (is_candidate l.s.types l.mask l.shut) l.o)

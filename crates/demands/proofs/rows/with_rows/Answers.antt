@@ -1,18 +1,17 @@
 -- `rows::with_rows` meets its contract: one object after the other.
 -- Assumes nothing.
-use Prim.Native.Nat.{◌-◌}
-use native.Mathlib.Omega.{arith}
 use Rattle.demands.proofs.NeedLaws.{sharp-same, sharp-trans}
 use Rattle.demands.proofs.rows.with_rows.Goals as goal
 
 pub loop-o-init : goal.loop-o-init
-loop-o-init c = (omega arith, sharp-same _ _)
+loop-o-init c = sharp-same _ _
 
-pub returns-then-wish : goal.returns-then-wish
-returns-then-wish c = sharp-trans _ _ _ _ c.loop-o.invariant.1 c.with_rows_of-wish.ensures
+pub returns-in_err-best : goal.returns-in_err-best
+returns-in_err-best c =
+    rw c.from_residual.ensures (sharp-trans _ _ _ _ c.loop-o.invariant c.in_err-best.ensures)
 
 pub loop-o-preserved : goal.loop-o-preserved
-loop-o-preserved c = (omega arith, sharp-trans _ _ _ _ c.loop-o.invariant.1 c.with_rows_of-wish.ensures)
+loop-o-preserved c = sharp-trans _ _ _ _ c.loop-o.invariant c.in_ok-best.ensures
 
 pub returns : goal.returns
-returns c = c.loop-o.invariant.1
+returns c = c.loop-o.invariant

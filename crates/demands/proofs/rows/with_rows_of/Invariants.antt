@@ -1,10 +1,7 @@
-use Prim.Native.Nat.{◌-◌, ◌≤◌}
+use Rattle.std.specs.Prelude.{Some}
 use Rattle.demands.specs.Wishes.{Sharpens}
 use Rattle.demands.specs.Families.{RowsOpen}
 use Rattle.demands.proofs.rows.with_rows_of.Given as goal
 
 abbrev pub invariant-loop-i : goal.invariant-loop-i
-invariant-loop-i l = (l.i ≤ 32) × Sharpens (RowsOpen l.targets l.lows l.highs l.shut) l.s l.initial.wish l.wish
-
-abbrev pub decreases-loop-i : goal.decreases-loop-i
-decreases-loop-i l = 32 - l.i
+invariant-loop-i l = Sharpens (RowsOpen l.tables.targets l.tables.lows l.tables.highs l.shut) l.s (Some l.fn.best) (Some l.best)

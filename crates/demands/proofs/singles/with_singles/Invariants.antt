@@ -1,10 +1,7 @@
-use Prim.Native.Nat.{◌-◌, ◌≤◌}
+use Rattle.std.specs.Prelude.{Some}
 use Rattle.worlds.specs.Kept.{SinglesKept}
 use Rattle.demands.specs.Wishes.{Sharpens}
 use Rattle.demands.proofs.singles.with_singles.Given as goal
 
 abbrev pub invariant-loop-t : goal.invariant-loop-t
-invariant-loop-t l = (l.t ≤ 24) × Sharpens (SinglesKept l.singles) l.s l.initial.wish l.wish
-
-abbrev pub decreases-loop-t : goal.decreases-loop-t
-decreases-loop-t l = 24 - l.t
+invariant-loop-t l = Sharpens (SinglesKept l.singles) l.s (Some l.fn.best) (Some l.best)

@@ -1,6 +1,5 @@
 -- `each_fits` meets its contract: object by object, up to the first that does not fit.
 -- Assumes nothing.
-use Prim.Native.Nat.{◌-◌}
 use Rattle.laws.proofs.LoopLaws.{each}
 use Rattle.leaves.proofs.fitting.each_fits.Goals as goal
 
@@ -12,6 +11,3 @@ returns-then-not-type_fits c = search each
 
 pub loop-o-preserved : goal.loop-o-preserved
 loop-o-preserved c = search each
-
-pub returns : goal.returns
-returns c = search each

@@ -1,4 +1,3 @@
-use Prim.Native.Nat.{◌-◌, ◌≤◌}
 use mathlib.Core.Bool.{true}
 use mathlib.Core.Path.{◌≡◌}
 use Rattle.laws.specs.Bounded.{all}
@@ -6,7 +5,4 @@ use Rattle.leaves.specs.Fitting.{type_fits}
 use Rattle.leaves.proofs.fitting.each_fits.Given as goal
 
 abbrev pub invariant-loop-o : goal.invariant-loop-o
-invariant-loop-o l = (l.o ≤ l.n) × (all (type_fits l.usable l.seeds l.wanted l.never l.types) l.o ≡ true)
-
-abbrev pub decreases-loop-o : goal.decreases-loop-o
-decreases-loop-o l = l.n - l.o
+invariant-loop-o l = all (type_fits l.usable l.seeds l.wanted l.never l.types) l.o ≡ true

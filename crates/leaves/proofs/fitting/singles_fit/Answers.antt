@@ -1,6 +1,5 @@
 -- `singles_fit` meets its contract: type by type, up to the first that does not fit.
 -- Assumes nothing.
-use Prim.Native.Nat.{◌-◌}
 use Rattle.laws.proofs.LoopLaws.{each}
 use Rattle.leaves.proofs.fitting.singles_fit.Goals as goal
 
@@ -12,6 +11,3 @@ returns-then-not-single_fits c = search each
 
 pub loop-t-preserved : goal.loop-t-preserved
 loop-t-preserved c = search each
-
-pub returns : goal.returns
-returns c = search each

@@ -1,4 +1,3 @@
-use Prim.Native.Nat.{◌-◌, ◌≤◌}
 use mathlib.Core.Bool.{true}
 use mathlib.Core.Path.{◌≡◌}
 use Rattle.laws.specs.Bounded.{all}
@@ -6,7 +5,4 @@ use Rattle.leaves.specs.Fitting.{single_fits}
 use Rattle.leaves.proofs.fitting.singles_fit.Given as goal
 
 abbrev pub invariant-loop-t : goal.invariant-loop-t
-invariant-loop-t l = (l.t ≤ 24) × (all (single_fits l.singles l.types l.n) l.t ≡ true)
-
-abbrev pub decreases-loop-t : goal.decreases-loop-t
-decreases-loop-t l = 24 - l.t
+invariant-loop-t l = all (single_fits l.singles l.types l.n) l.t ≡ true

@@ -1,6 +1,5 @@
 -- `all_covered` meets its contract: row by row, up to the first that is not.
 -- Assumes nothing.
-use Prim.Native.Nat.{◌-◌}
 use Rattle.laws.proofs.LoopLaws.{each}
 use Rattle.leaves.specs.Arrays.{all_covered}
 use Rattle.leaves.proofs.rows.all_covered.Goals as goal

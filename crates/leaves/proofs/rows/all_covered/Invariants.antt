@@ -1,4 +1,3 @@
-use Prim.Native.Nat.{◌-◌, ◌≤◌}
 use mathlib.Core.Bool.{true}
 use mathlib.Core.Path.{◌≡◌}
 use lib.ListN.{get_or}
@@ -7,7 +6,4 @@ use Rattle.leaves.specs.Arrays.{covered}
 use Rattle.leaves.proofs.rows.all_covered.Given as goal
 
 abbrev pub invariant-loop-i : goal.invariant-loop-i
-invariant-loop-i l = (l.i ≤ 256) × (all (λ k. covered (get_or l.must k 0) (get_or l.may k 0)) l.i ≡ true)
-
-abbrev pub decreases-loop-i : goal.decreases-loop-i
-decreases-loop-i l = 256 - l.i
+invariant-loop-i l = all (λ k. covered (get_or l.must k 0) (get_or l.may k 0)) l.i ≡ true

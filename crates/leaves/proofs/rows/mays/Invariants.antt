@@ -1,11 +1,7 @@
-use Prim.Native.Nat.{◌*◌, ◌-◌, ◌≤◌}
 use Rattle.laws.specs.Bits.{Marks}
 use Rattle.leaves.specs.Arrays.{may_go}
 use Rattle.leaves.specs.Filled.{FilledTo}
 use Rattle.leaves.proofs.rows.mays.Given as goal
 
 abbrev pub invariant-loop-i : goal.invariant-loop-i
-invariant-loop-i l = (l.i ≤ l.n * 32) × FilledTo (λ k v. Marks (may_go l.targets l.types l.shut k) l.n v) 0 256 l.i l.r
-
-abbrev pub decreases-loop-i : goal.decreases-loop-i
-decreases-loop-i l = l.n * 32 - l.i
+invariant-loop-i l = FilledTo (λ k v. Marks (may_go l.targets l.types l.shut k) l.n v) 0 256 l.i l.r

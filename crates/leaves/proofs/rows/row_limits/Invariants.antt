@@ -1,4 +1,3 @@
-use Prim.Native.Nat.{◌*◌, ◌-◌, ◌≤◌}
 use mathlib.Core.Path.{◌≡◌}
 use lib.ListN.{get_or}
 use Rattle.leaves.specs.Arrays.{spot_of}
@@ -6,7 +5,4 @@ use Rattle.leaves.specs.Filled.{FilledTo}
 use Rattle.leaves.proofs.rows.row_limits.Given as goal
 
 abbrev pub invariant-loop-i : goal.invariant-loop-i
-invariant-loop-i l = (l.i ≤ l.n * 32) × FilledTo (λ k v. v ≡ get_or l.table (spot_of l.types k) 0) l.d 256 l.i l.r
-
-abbrev pub decreases-loop-i : goal.decreases-loop-i
-decreases-loop-i l = l.n * 32 - l.i
+invariant-loop-i l = FilledTo (λ k v. v ≡ get_or l.table (spot_of l.types k) 0) l.d 256 l.i l.r

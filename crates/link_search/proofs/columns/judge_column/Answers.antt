@@ -13,16 +13,16 @@ use Rattle.link_search.proofs.columns.judge_column.Goals as goal
 pub returns-then-l-h : goal.returns-then-l-h
 returns-then-l-h c =
     let a = c.args in
-    let x = a.j * 8 + c.wide.result in
-    let l = get_or a.low.now x 0 in
-    let h = get_or a.high.now x 0 in
-    column-free a.slot.now a.from.now a.low.now a.high.now a.must.now a.may.now a.j a.p
-    (ap (λ (q : ℕ). get_or a.low.now (a.j * 8 + q) 0) (sym c.wide.ensures.0) ∙ eqb-true l 0 (and_left (eqb l 0) (leb 8 h) c.if-l-h.true))
-    (subst (λ (q : ℕ). 8 ≤ get_or a.high.now (a.j * 8 + q) 0) c.wide.ensures.0 (leb-true 8 h (and_right (eqb l 0) (leb 8 h) c.if-l-h.true)))
+    let x = a.j * 8 + c.from.result in
+    let l = get_or a.columns.now.low x 0 in
+    let h = get_or a.columns.now.high x 0 in
+    column-free a.columns.now.slot a.columns.now.from a.columns.now.low a.columns.now.high a.must.now a.may.now a.j a.p
+    (ap (λ (q : ℕ). get_or a.columns.now.low (a.j * 8 + q) 0) (sym c.from.ensures) ∙ eqb-true l 0 (and_left (eqb l 0) (leb 8 h) c.if-l-h.true))
+    (subst (λ (q : ℕ). 8 ≤ get_or a.columns.now.high (a.j * 8 + q) 0) c.from.ensures (leb-true 8 h (and_right (eqb l 0) (leb 8 h) c.if-l-h.true)))
 
 pub returns : goal.returns
 returns c =
     let a = c.args in
-    column-said a.slot.now a.from.now a.low.now a.high.now a.must.now a.may.now a.j a.p c.sources.result c.sources-2.result c.judge.result c.requires.1 c.requires.2
+    column-said a.columns.now.slot a.columns.now.from a.columns.now.low a.columns.now.high a.must.now a.may.now a.j a.p c.sources.result c.sources-2.result c.judge.result c.requires.1 c.requires.2
     c.sources.ensures c.sources-2.ensures
-    (subst (λ (q : ℕ). BitsJudged c.sources.result c.sources-2.result (get_or a.low.now (a.j * 8 + q) 0) (get_or a.high.now (a.j * 8 + q) 0) c.judge.result) c.wide.ensures.0 c.judge.ensures)
+    (subst (λ (q : ℕ). BitsJudged c.sources.result c.sources-2.result (get_or a.columns.now.low (a.j * 8 + q) 0) (get_or a.columns.now.high (a.j * 8 + q) 0) c.judge.result) c.from.ensures c.judge.ensures)

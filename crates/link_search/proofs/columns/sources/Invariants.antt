@@ -1,4 +1,4 @@
-use Prim.Native.Nat.{ℕ, ◌+◌, ◌*◌, ◌≤◌, ◌-◌}
+use Prim.Native.Nat.{ℕ, ◌+◌, ◌*◌}
 use mathlib.Core.Bool.{Bool, ◌&&◌}
 use mathlib.Core.List.{List}
 use Rattle.laws.specs.Bits.{bit, Marks}
@@ -9,7 +9,4 @@ abbrev pub is_source : List ℕ → ℕ → ℕ → ℕ → ℕ → Bool
 is_source rows slot from p o = bit o from && net_of rows (o * 32 + slot) p
 
 abbrev pub invariant-loop-o : goal.invariant-loop-o
-invariant-loop-o l = (l.o ≤ 8) × Marks (is_source l.rows l.slot l.from l.p) l.o l.m
-
-abbrev pub decreases-loop-o : goal.decreases-loop-o
-decreases-loop-o l = 8 - l.o
+invariant-loop-o l = Marks (is_source l.rows l.slot l.from l.p) l.o l.m

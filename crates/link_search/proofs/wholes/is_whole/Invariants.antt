@@ -1,4 +1,3 @@
-use Prim.Native.Nat.{◌≤◌, ◌-◌}
 use mathlib.Core.Path.{◌≡◌}
 use mathlib.Core.Bool.{false}
 use Rattle.laws.specs.Bounded.{any}
@@ -7,7 +6,4 @@ use Rattle.link_search.specs.Families.{part}
 use Rattle.link_search.proofs.wholes.is_whole.Given as goal
 
 abbrev pub invariant-loop-j : goal.invariant-loop-j
-invariant-loop-j l = (l.j ≤ 16) × (any (part l.slot l.from l.to (net_of l.rows) l.p l.o) l.j ≡ false)
-
-abbrev pub decreases-loop-j : goal.decreases-loop-j
-decreases-loop-j l = 16 - l.j
+invariant-loop-j l = any (part l.wholes.slot l.wholes.from l.wholes.to (net_of l.rows) l.p l.o) l.j ≡ false

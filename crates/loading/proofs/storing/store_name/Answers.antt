@@ -17,5 +17,5 @@ pub shape_of-names : goal.shape_of-names
 shape_of-names c = c.names-1.given.1 ∙ simp length-set
 
 pub returns : goal.returns
-returns c = name-stored c.args.names.now c.args.w.now _ _ c.args.i _ _ c.requires.0 c.requires.1 refl c.narrow.ensures refl
+returns c = name-stored c.args.names.now c.args.w.now _ _ c.args.i _ _ c.requires.0 c.requires.1 refl refl refl
     c.copy-n.ensures.1

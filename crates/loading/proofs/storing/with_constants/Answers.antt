@@ -1,6 +1,5 @@
 use Rattle.loading.proofs.StoredLaws.{constants-begin, constants-next, constants-done, constant-short}
 use Rattle.layouts.proofs.NamesLaws.{past-begin, past_next}
-use Prim.Native.Nat.{◌-◌}
 use borrow.Author.Rules.{rules}
 use Rattle.loading.proofs.storing.with_constants.Goals as goal
 

@@ -14,4 +14,4 @@ pub returns : goal.returns
 returns c = let types : length c.args.a.types ≡ 32 = search rules in
     let lows : length c.args.a.lows ≡ 32 = search rules in
     let ups : length c.args.a.ups ≡ 32 = search rules in
-    end-stored c.args.a _ c.args.e c.args.c.now _ c.requires.0 types lows ups c.byte.ensures c.byte-2.ensures c.wide16.ensures c.past.ensures c.name_in.ensures refl refl refl refl refl refl (c.upper.ensures ∙ ap upper_of c.byte-3.ensures) c.store_name.ensures
+    end-stored c.args.a _ c.args.e c.args.c.now _ c.requires.0 types lows ups c.byte.ensures c.byte-2.ensures c.from.ensures c.past.ensures c.name_in.ensures refl refl refl refl refl refl (c.upper.ensures ∙ ap upper_of c.byte-3.ensures) c.store_name.ensures

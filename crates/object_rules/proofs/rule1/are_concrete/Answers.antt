@@ -1,15 +1,11 @@
-use Rattle.laws.proofs.LoopLaws.{each}
-use Prim.Native.Nat.{◌-◌}
+use borrow.Author.Rules.{rules}
+use borrow.Author.Tests.{tests}
+use mathlib.Core.Path.{refl}
+use Rattle.masks.proofs.RangeLaws.{all-range}
+use Rattle.object_rules.specs.TypesIn.{concrete_at}
 use Rattle.object_rules.proofs.rule1.are_concrete.Goals as goal
 
-pub loop-o-init : goal.loop-o-init
-loop-o-init c = search each
-
-pub returns-then-not-is_concrete : goal.returns-then-not-is_concrete
-returns-then-not-is_concrete c = search each
-
-pub loop-o-preserved : goal.loop-o-preserved
-loop-o-preserved c = search each
-
 pub returns : goal.returns
-returns c = search each
+returns c =
+    let a = c.args in
+    all-range (concrete_at a.types.now.kinds a.types.now.count a.m.now.types) _ c.all.ensures.ran refl (λ x b q k. search (rules, tests))

@@ -1,15 +1,11 @@
-use Rattle.laws.proofs.LoopLaws.{each}
-use Prim.Native.Nat.{◌-◌}
+use borrow.Author.Rules.{rules}
+use borrow.Author.Tests.{tests}
+use mathlib.Core.Path.{refl}
+use Rattle.masks.proofs.RangeLaws.{all-range}
+use Rattle.object_rules.specs.TypesIn.{single_at}
 use Rattle.object_rules.proofs.rule2.are_single.Goals as goal
 
-pub loop-i-init : goal.loop-i-init
-loop-i-init c = search each
-
-pub returns-then-not-is_single : goal.returns-then-not-is_single
-returns-then-not-is_single c = search each
-
-pub loop-i-preserved : goal.loop-i-preserved
-loop-i-preserved c = search each
-
 pub returns : goal.returns
-returns c = search each
+returns c =
+    let a = c.args in
+    all-range (single_at a.types.now.kinds a.m.now.types a.m.now.count) _ c.all.ensures.ran refl (λ x b q k. search (rules, tests))

@@ -1,15 +1,11 @@
-use Rattle.laws.proofs.LoopLaws.{each}
-use Prim.Native.Nat.{◌-◌}
+use borrow.Author.Rules.{rules}
+use borrow.Author.Tests.{tests}
+use mathlib.Core.Path.{refl}
+use Rattle.masks.proofs.RangeLaws.{all-range}
+use Rattle.object_rules.specs.ValuesIn.{due_for}
 use Rattle.object_rules.proofs.rule3.all_due.Goals as goal
 
-pub loop-o-init : goal.loop-o-init
-loop-o-init c = search each
-
-pub returns-then-not-are_due : goal.returns-then-not-are_due
-returns-then-not-are_due c = search each
-
-pub loop-o-preserved : goal.loop-o-preserved
-loop-o-preserved c = search each
-
 pub returns : goal.returns
-returns c = search each
+returns c =
+    let a = c.args in
+    all-range (due_for a.m.now.values a.attributes.now.owners a.t.now.masks a.t.now.slots a.attributes.now.count) _ c.all.ensures.ran refl (λ x b q k. search (rules, tests))

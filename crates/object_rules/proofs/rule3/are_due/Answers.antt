@@ -1,18 +1,12 @@
-use Rattle.object_rules.specs.ValuesIn.{due_for}
-use Rattle.laws.proofs.LoopLaws.{each}
-use Prim.Native.Nat.{◌-◌}
+use borrow.Author.Rules.{rules}
+use borrow.Author.Tests.{tests}
+use mathlib.Core.Path.{refl}
+use Rattle.masks.proofs.RangeLaws.{all-range}
+use Rattle.object_rules.specs.ValuesIn.{due_at, due_for}
 use Rattle.object_rules.proofs.rule3.are_due.Goals as goal
-
-pub loop-a-init : goal.loop-a-init
-loop-a-init c = search each
-
-pub returns-then-not-is_due : goal.returns-then-not-is_due
-unfolding due_for
-returns-then-not-is_due c = search each
-
-pub loop-a-preserved : goal.loop-a-preserved
-loop-a-preserved c = search each
 
 pub returns : goal.returns
 unfolding due_for
-returns c = search each
+returns c =
+    let a = c.args in
+    all-range (due_at a.m.now.values a.attributes.now.owners a.t.now.masks a.t.now.slots a.attributes.now.count a.o) _ c.all.ensures.ran refl (λ x b q k. search (rules, tests))

@@ -1,15 +1,11 @@
-use Rattle.laws.proofs.LoopLaws.{each}
-use Prim.Native.Nat.{◌-◌}
+use borrow.Author.Rules.{rules}
+use borrow.Author.Tests.{tests}
+use mathlib.Core.Path.{refl}
+use Rattle.masks.proofs.RangeLaws.{all-range}
+use Rattle.object_rules.specs.LinksIn.{link_fits}
 use Rattle.object_rules.proofs.rule5.links_fit.Goals as goal
 
-pub loop-x-init : goal.loop-x-init
-loop-x-init c = search each
-
-pub returns-then-not-link_fits : goal.returns-then-not-link_fits
-returns-then-not-link_fits c = search each
-
-pub loop-x-preserved : goal.loop-x-preserved
-loop-x-preserved c = search each
-
 pub returns : goal.returns
-returns c = search each
+returns c =
+    let a = c.args in
+    all-range (link_fits a.m.now.links a.associations.now.arrows a.associations.now.types a.t.now.masks a.t.now.slots a.associations.now.count) _ c.all.ensures.ran refl (λ x b q k. search (rules, tests))

@@ -1,4 +1,4 @@
-use Prim.Native.Nat.{◌*◌, ◌+◌, ◌-◌, ◌<◌, max, min, ℕ}
+use Prim.Native.Nat.{◌*◌, ◌+◌, ◌<◌, max, min, ℕ}
 use mathlib.Core.List.{List}
 use mathlib.Core.Path.{subst, sym}
 use Rattle.laws.specs.Bits.{bit}
@@ -10,7 +10,10 @@ use Rattle.sheets.proofs.places.limit_slot.Goals as goal
 use Rattle.sheets.proofs.places.limit_slot.Goals.{then-is_among, else-is_among}
 
 pub loop-t-init : goal.loop-t-init
-loop-t-init c = (search rules, stepped-begin _ _ _ _ c.requires.1, stepped-begin _ _ _ _ c.requires.2)
+loop-t-init c = (
+  stepped-begin _ _ _ _ c.requires.1,
+  stepped-begin _ _ _ _ c.requires.2,
+)
 
 pub bounds-lows-at : goal.bounds-lows-at
 bounds-lows-at c = let a = c.args in
@@ -35,23 +38,22 @@ bounds-highs-at-then-is_among c = let a = c.args in
 pub loop-t-preserved : goal.loop-t-preserved
 loop-t-preserved c = let a = c.args in
     let e = c.is_among.ensures in (
-      omega arith,
       elim c.if-is_among.branch [
         | then-is_among w ↦ subst (λ (r : List ℕ). Stepped (λ m. max m a.low) a.set a.s (c.loop-t.t + 1) a.lows.now r) (sym w.lows-is)
-            (stepped-hit (λ m. max m a.low) a.set a.s a.lows.now c.loop-t.t c.loop-t.lows (w.wide.result * 32 + w.wide-then-is_among.result) w.larger-m.result (omega arith) e w.if-is_among.true (cc) w.larger-m.ensures c.loop-t.invariant.1)
+            (stepped-hit (λ m. max m a.low) a.set a.s a.lows.now c.loop-t.t c.loop-t.lows (w.from.result * 32 + w.from-then-is_among.result) w.max-m.result (omega arith) e w.if-is_among.true (cc) (search rules) c.loop-t.invariant.0)
         | else-is_among w ↦ subst (λ (r : List ℕ). Stepped (λ m. max m a.low) a.set a.s (c.loop-t.t + 1) a.lows.now r) (sym w.lows-is)
-            (stepped-miss (λ m. max m a.low) a.set a.s a.lows.now c.loop-t.t c.loop-t.lows e w.if-is_among.false c.loop-t.invariant.1)
+            (stepped-miss (λ m. max m a.low) a.set a.s a.lows.now c.loop-t.t c.loop-t.lows e w.if-is_among.false c.loop-t.invariant.0)
       ],
       elim c.if-is_among.branch [
         | then-is_among w ↦ subst (λ (r : List ℕ). Stepped (λ m. min m a.high) a.set a.s (c.loop-t.t + 1) a.highs.now r) (sym w.highs-is)
-            (stepped-hit (λ m. min m a.high) a.set a.s a.highs.now c.loop-t.t c.loop-t.highs (w.wide.result * 32 + w.wide-then-is_among.result) w.smaller-n.result (omega arith) e w.if-is_among.true (cc) w.smaller-n.ensures c.loop-t.invariant.2)
+            (stepped-hit (λ m. min m a.high) a.set a.s a.highs.now c.loop-t.t c.loop-t.highs (w.from.result * 32 + w.from-then-is_among.result) w.min-n.result (omega arith) e w.if-is_among.true (cc) (search rules) c.loop-t.invariant.1)
         | else-is_among w ↦ subst (λ (r : List ℕ). Stepped (λ m. min m a.high) a.set a.s (c.loop-t.t + 1) a.highs.now r) (sym w.highs-is)
-            (stepped-miss (λ m. min m a.high) a.set a.s a.highs.now c.loop-t.t c.loop-t.highs e w.if-is_among.false c.loop-t.invariant.2)
+            (stepped-miss (λ m. min m a.high) a.set a.s a.highs.now c.loop-t.t c.loop-t.highs e w.if-is_among.false c.loop-t.invariant.1)
       ],
     )
 
 pub returns : goal.returns
 returns c = let a = c.args in (
-  stepped-done (λ m. max m a.low) a.set a.s a.lows.now a.k c.loop-t.t c.loop-t.lows c.loop-t.invariant.0 (search rules) c.loop-t.invariant.1,
-  stepped-done (λ m. min m a.high) a.set a.s a.highs.now a.k c.loop-t.t c.loop-t.highs c.loop-t.invariant.0 (search rules) c.loop-t.invariant.2,
+  stepped-done (λ m. max m a.low) a.set a.s a.lows.now a.k c.loop-t.t c.loop-t.lows c.loop-t.auto.t-end (search rules) c.loop-t.invariant.0,
+  stepped-done (λ m. min m a.high) a.set a.s a.highs.now a.k c.loop-t.t c.loop-t.highs c.loop-t.auto.t-end (search rules) c.loop-t.invariant.1,
 )

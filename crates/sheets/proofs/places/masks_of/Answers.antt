@@ -2,29 +2,31 @@ use lib.Bits.{bit_and, bit_or}
 use mathlib.Core.Path.{ap, refl}
 use Rattle.sheets.proofs.GatherLaws.{gathered-begin, gathered-done}
 use Rattle.sheets.proofs.PlaceLaws.{stepped-next}
-use Prim.Native.Nat.{◌-◌, ℕ}
+use Prim.Native.Nat.{ℕ}
 use lib.ListN.{get_or}
 use borrow.Author.Rules.{rules}
 use Rattle.sheets.proofs.places.masks_of.Goals as goal
 
 pub loop-e-init : goal.loop-e-init
-loop-e-init c = (search rules, search rules, λ x h. gathered-begin _ _ (get_or c.args.start x 0))
+loop-e-init c = (
+  search rules,
+  λ x h. gathered-begin _ _ (get_or c.args.start x 0),
+)
 
 pub mask_slot-requires : goal.mask_slot-requires
-mask_slot-requires c = let l = c.loop-e in (search rules, l.invariant.1)
+mask_slot-requires c = let l = c.loop-e in (search rules, l.invariant.0)
 
 pub loop-e-preserved : goal.loop-e-preserved
 loop-e-preserved c = let l = c.loop-e in
     let a = c.args in
     let s = c.source_at-set in
     let p = c.mask_slot.ensures in (
-      search rules,
       p.size,
-      stepped-next (λ e m. bit_and (bit_or m a.more) (get_or a.keeps.now e 0)) (λ x. get_or a.start x 0) a.sets.now a.arrows.now a.slots.now a.k l.e l.r c.mask_slot.new.masks (λ m. bit_and (bit_or m a.more) (get_or a.keeps.now c.wide-in-loop-e.result 0)) s.ensures c.wide.ensures.0 refl
-          (λ m. ap (λ (i : ℕ). bit_and (bit_or m a.more) (get_or a.keeps.now i 0)) c.wide-in-loop-e.ensures.0) l.invariant.2 p,
+      stepped-next (λ e m. bit_and (bit_or m a.more) (get_or a.keeps.now e 0)) (λ x. get_or a.start x 0) a.ends.now.sets a.asked.now.arrows a.ends.now.slots a.k l.e l.r c.mask_slot.new.masks (λ m. bit_and (bit_or m a.more) (get_or a.keeps.now c.from-in-loop-e.result 0)) s.ensures c.from.ensures refl
+          (λ m. ap (λ (i : ℕ). bit_and (bit_or m a.more) (get_or a.keeps.now i 0)) c.from-in-loop-e.ensures) l.invariant.1 p,
     )
 
 pub returns : goal.returns
 returns c = let l = c.loop-e in
     let a = c.args in
-    λ x h. gathered-done _ _ (get_or a.start x 0) a.n l.e l.invariant.0 (search rules) (l.invariant.2 x h)
+    λ x h. gathered-done _ _ (get_or a.start x 0) a.n l.e l.auto.e-end (search rules) (l.invariant.1 x h)

@@ -1,12 +1,8 @@
 use mathlib.Core.Path.{◌≡◌}
-use Prim.Native.Nat.{◌-◌, ◌<◌, ◌≤◌, ℕ}
+use Prim.Native.Nat.{◌<◌, ℕ}
 use lib.ListN.{get_or, length}
 use Rattle.sheets.specs.RowsBy.{leads_at, mask_at}
 use Rattle.sheets.proofs.places.masks_of.Given as goal
 
 abbrev pub invariant-loop-e : goal.invariant-loop-e
-invariant-loop-e l =
-    (l.e ≤ l.n) × (length l.r ≡ 768) × ((x : ℕ) → x < 768 → get_or l.r x 0 ≡ mask_at l.more l.keeps (get_or l.initial.r x 0) (leads_at l.sets l.arrows l.slots l.k x) l.e)
-
-abbrev pub decreases-loop-e : goal.decreases-loop-e
-decreases-loop-e l = l.n - l.e
+invariant-loop-e l = (length l.r ≡ 768) × ((x : ℕ) → x < 768 → get_or l.r x 0 ≡ mask_at l.more l.keeps (get_or l.initial.r x 0) (leads_at l.ends.sets l.asked.arrows l.ends.slots l.k x) l.e)

@@ -1,4 +1,3 @@
-use Prim.Native.Nat.{◌-◌}
 use Rattle.laws.proofs.LoopLaws.{each}
 use Rattle.sheets.proofs.type_sets.is_possible.Goals as goal
 
@@ -10,6 +9,3 @@ returns-then-not-is_fine c = search each
 
 pub loop-s-preserved : goal.loop-s-preserved
 loop-s-preserved c = search each
-
-pub returns : goal.returns
-returns c = search each

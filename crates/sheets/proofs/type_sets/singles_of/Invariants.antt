@@ -1,10 +1,6 @@
-use Prim.Native.Nat.{◌-◌, ◌≤◌}
 use Rattle.laws.specs.Bits.{Marks}
 use Rattle.sheets.specs.MasksBy.{single_in}
 use Rattle.sheets.proofs.type_sets.singles_of.Given as goal
 
 abbrev pub invariant-loop-t : goal.invariant-loop-t
-invariant-loop-t l = (l.t ≤ l.n) × Marks (single_in l.kinds) l.t l.mask
-
-abbrev pub decreases-loop-t : goal.decreases-loop-t
-decreases-loop-t l = l.n - l.t
+invariant-loop-t l = Marks (single_in l.kinds) l.t l.mask

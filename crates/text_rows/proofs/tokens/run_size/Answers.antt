@@ -1,16 +1,13 @@
-use Prim.Native.Nat.{◌-◌}
-use Rattle.text_rows.proofs.BlankLaws.{run-begin, run_end, run-next, run-stop}
-use borrow.Author.Rules.{rules}
+use Rattle.std.proofs.Common.{◌∙◌, ◌≡◌, false, length, refl, rules, sym, true}
+use Rattle.std.proofs.lemmas.Iterator.{IsFirst-from_position, YieldsList-from_slice, index_from_first}
+use Rattle.files.specs.Name.{name_byte}
+use Rattle.texts.specs.Token.{run}
+use Rattle.text_rows.proofs.BlankLaws.{run-more, run-stop}
 use Rattle.text_rows.proofs.tokens.run_size.Goals as goal
 
-pub loop-i-init : goal.loop-i-init
-loop-i-init c = search (rules, run-begin)
-
-pub loop-i-preserved : goal.loop-i-preserved
-loop-i-preserved c = search (rules, run-next)
-
-pub returns-else-is_name_byte : goal.returns-else-is_name_byte
-returns-else-is_name_byte c = search (rules, run-stop)
-
 pub returns : goal.returns
-returns c = search (rules, run_end)
+unfolding run
+returns c =
+    let s = c.args.s.now in
+    let first = IsFirst-from_position _ _ _ (λ b. name_byte b ≡ false) (λ b. name_byte b ≡ true) c.position.ensures.ran (YieldsList-from_slice s cc) (λ x q k. search rules) (λ x q k. search rules) in
+    c.unwrap_or.ensures ∙ sym (index_from_first (λ t. length (run t)) (λ b. name_byte b ≡ false) (λ b. name_byte b ≡ true) refl run-stop run-more s _ first)

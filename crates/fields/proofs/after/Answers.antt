@@ -1,4 +1,0 @@
-use Rattle.fields.proofs.after.Goals as goal
-
-pub returns : goal.returns
-returns c = cc

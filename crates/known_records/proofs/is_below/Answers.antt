@@ -1,4 +1,0 @@
-use Rattle.known_records.proofs.is_below.Goals as goal
-
-pub returns : goal.returns
-returns c = cc

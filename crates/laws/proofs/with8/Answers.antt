@@ -1,7 +1,0 @@
--- `laws::with8` meets its contract: a shifted one or-ed in sets bit k and no other.
--- Assumes nothing.
-use Rattle.laws.proofs.BitLaws.{bit-with}
-use Rattle.laws.proofs.with8.Goals as goal
-
-pub returns : goal.returns
-returns c = bit-with 8 c.args.k c.args.m c.requires

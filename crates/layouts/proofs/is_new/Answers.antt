@@ -1,4 +1,0 @@
-use Rattle.layouts.proofs.is_new.Goals as goal
-
-pub returns : goal.returns
-returns c = cc

@@ -1,0 +1,23 @@
+use Rattle.refusing.specs.Numbers.{association_no}
+use Rattle.refusing.proofs.NumberLaws.{numbers}
+use Rattle.refusing.proofs.check_association.Goals as goal
+
+pub returns-then-n-ge16 : goal.returns-then-n-ge16
+unfolding association_no
+returns-then-n-ge16 c = search numbers depth 14 fits 20000
+
+pub returns-then-not-association_laid : goal.returns-then-not-association_laid
+unfolding association_no
+returns-then-not-association_laid c = search numbers depth 14 fits 20000
+
+pub returns-then-not-ends_known : goal.returns-then-not-ends_known
+unfolding association_no
+returns-then-not-ends_known c = search numbers depth 14 fits 20000
+
+pub returns-then-whole_right : goal.returns-then-whole_right
+unfolding association_no
+returns-then-whole_right c = search numbers depth 14 fits 20000
+
+pub returns : goal.returns
+unfolding association_no
+returns c = search numbers depth 14 fits 20000

@@ -1,4 +1,0 @@
-use Rattle.resolving.proofs.is_named.Goals as goal
-
-pub returns : goal.returns
-returns c = cc

@@ -1,4 +1,0 @@
-use Rattle.weights.proofs.at32.Goals as goal
-
-pub returns : goal.returns
-returns c = cc
