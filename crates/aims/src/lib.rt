@@ -2,7 +2,7 @@
 #![tactic(auto)]
 
 ghost use Rattle.std.specs.Prelude.{◌≡◌, false, ◌<◌, ◌≤◌, is_some};
-ghost use Rattle.worlds.specs.Kept.{KeepsOthers, Coherent, sheet_of};
+ghost use Rattle.worlds.specs.Kept.{KeepsOthers, sheet_of};
 ghost use Rattle.worlds.specs.Asked.{Breaks, world_built};
 ghost use Rattle.aims.specs.Lines.{LinesKept};
 
@@ -17,7 +17,7 @@ mod wholes;
 
 // Any world, where a singleton class is missing.
 fn find_any(tables: &Tables, missing: bool, n: u8) -> Option<Site>
-    requires { Coherent tables.now × (n ≤ 8) }
+    requires { n ≤ 8 }
     ensures { Breaks (sheet_of tables.now) (λ _. missing ≡ false) n (is_some result) (world_built n result) }
 {
     if missing {
@@ -28,7 +28,7 @@ fn find_any(tables: &Tables, missing: bool, n: u8) -> Option<Site>
 
 // Links that the other diagram does not allow.
 fn find_lines(tables: &Tables, others: &Lines, n: u8) -> Option<Site>
-    requires { Coherent tables.now × (n ≤ 8) }
+    requires { n ≤ 8 }
     ensures { Breaks (sheet_of tables.now) (LinesKept others.now) n (is_some result) (world_built n result) }
 {
     if let Some(site) = columns::find_columns(tables, others, n) {
@@ -42,7 +42,7 @@ fn find_lines(tables: &Tables, others: &Lines, n: u8) -> Option<Site>
 
 // A world that does not keep what the other diagram asks.
 pub fn find_break(tables: &Tables, others: &Others, n: u8) -> Option<Site>
-    requires { Coherent tables.now × (n ≤ 8) }
+    requires { n ≤ 8 }
     ensures { Breaks (sheet_of tables.now) (KeepsOthers others.now) n (is_some result) (world_built n result) }
 {
     if let Some(site) = find_any(tables, others.missing, n) {

@@ -1,7 +1,7 @@
 // Rows: the links of each object go to types of the other diagram's masks, and their number lies within its limits.
 ghost use Rattle.std.specs.Prelude.{◌≡◌, false, ℕ, ◌%◌, ◌/◌, ◌<◌, ◌≤◌, eqb, is_some};
 ghost use Rattle.laws.specs.Bits.{bit};
-ghost use Rattle.worlds.specs.Kept.{Coherent, RowsKept, sheet_of};
+ghost use Rattle.worlds.specs.Kept.{RowsKept, sheet_of};
 ghost use Rattle.worlds.specs.Asked.{Breaks, world_built};
 ghost use Rattle.aims.specs.Rows.{AllLinksAvoided, HighsKept, LowsKept, RowKept, RowWithin, RowTargetsKept};
 
@@ -25,7 +25,7 @@ fn slot_at(i: usize) -> u8
 
 // A link in slot s from an object of the types a to one of the types b.
 pub fn find_links(tables: &Tables, s: u8, a: u32, b: u32, n: u8) -> Option<Site>
-    requires { Coherent tables.now × (n ≤ 8) × (s < 32) }
+    requires { (n ≤ 8) × (s < 32) }
     ensures { Breaks (sheet_of tables.now) (AllLinksAvoided s a b) n (is_some result) (world_built n result) }
 {
     if let Some(site) = ask_links(tables, s, a, b, n) {
@@ -36,7 +36,7 @@ pub fn find_links(tables: &Tables, s: u8, a: u32, b: u32, n: u8) -> Option<Site>
 
 // A link that row i of the other diagram does not allow.
 fn find_target(tables: &Tables, i: usize, others: &Others, n: u8) -> Option<Site>
-    requires { Coherent tables.now × (n ≤ 8) × (i < 768) }
+    requires { (n ≤ 8) × (i < 768) }
     ensures { Breaks (sheet_of tables.now) (RowTargetsKept others.now.targets i) n (is_some result) (world_built n result) }
 {
     let b = type_tables::without(tables.targets[i], others.targets[i]);
@@ -48,7 +48,7 @@ fn find_target(tables: &Tables, i: usize, others: &Others, n: u8) -> Option<Site
 
 // Fewer links than row i of the other diagram asks for.
 fn find_low(tables: &Tables, i: usize, others: &Others, n: u8) -> Option<Site>
-    requires { Coherent tables.now × (n ≤ 8) × (i < 768) }
+    requires { (n ≤ 8) × (i < 768) }
     ensures { Breaks (sheet_of tables.now) (LowsKept others.now.lows i) n (is_some result) (world_built n result) }
 {
     let low = others.lows[i];
@@ -60,7 +60,7 @@ fn find_low(tables: &Tables, i: usize, others: &Others, n: u8) -> Option<Site>
 
 // More links than row i of the other diagram allows.
 fn find_high(tables: &Tables, i: usize, others: &Others, n: u8) -> Option<Site>
-    requires { Coherent tables.now × (n ≤ 8) × (i < 768) }
+    requires { (n ≤ 8) × (i < 768) }
     ensures { Breaks (sheet_of tables.now) (HighsKept others.now.highs i) n (is_some result) (world_built n result) }
 {
     let high = others.highs[i];
@@ -75,7 +75,7 @@ fn find_high(tables: &Tables, i: usize, others: &Others, n: u8) -> Option<Site>
 
 // Links that row i of the other diagram does not allow.
 fn find_row(tables: &Tables, i: usize, others: &Others, n: u8) -> Option<Site>
-    requires { Coherent tables.now × (n ≤ 8) × (i < 768) }
+    requires { (n ≤ 8) × (i < 768) }
     ensures { Breaks (sheet_of tables.now) (RowKept others.now.targets others.now.lows others.now.highs i) n (is_some result) (world_built n result) }
 {
     if let Some(site) = find_target(tables, i, others, n) {
@@ -100,7 +100,7 @@ fn is_new_row(tables: &Tables, others: &Others, i: usize) -> bool
 
 // Links that the other diagram does not allow: rows that ask for nothing more need no search.
 pub fn find_rows(tables: &Tables, others: &Others, n: u8) -> Option<Site>
-    requires { Coherent tables.now × (n ≤ 8) }
+    requires { n ≤ 8 }
     ensures { Breaks (sheet_of tables.now) (RowsKept others.now.targets others.now.lows others.now.highs) n (is_some result) (world_built n result) }
 {
     for i in 0..768 {

@@ -1,6 +1,6 @@
 // Wholes: each object is a part of at most one. A slot past the last has no links.
 ghost use Rattle.std.specs.Prelude.{◌≡◌, false, ◌<◌, ◌≤◌, is_some};
-ghost use Rattle.worlds.specs.Kept.{Coherent, WholesKept, sheet_of};
+ghost use Rattle.worlds.specs.Kept.{WholesKept, sheet_of};
 ghost use Rattle.worlds.specs.Asked.{Breaks, world_built};
 ghost use Rattle.aims.specs.Wholes.{AllPartsAvoided, PairApart, PairEmpty};
 
@@ -9,7 +9,7 @@ use worlds::{Lines, Site, Tables};
 
 // An object of the types a that is a target of two, of the types b in slot s and of the types c in slot u. One of them may be itself.
 fn find_parts(tables: &Tables, s: u8, u: u8, a: u32, b: u32, c: u32, n: u8) -> Option<Site>
-    requires { Coherent tables.now × (n ≤ 8) × (s < 32) × (u < 32) }
+    requires { (n ≤ 8) × (s < 32) × (u < 32) }
     ensures { Breaks (sheet_of tables.now) (AllPartsAvoided s u a b c) n (is_some result) (world_built n result) }
 {
     if let Some(site) = ask_parts(tables, s, u, a, b, c, n) {
@@ -23,7 +23,7 @@ fn find_parts(tables: &Tables, s: u8, u: u8, a: u32, b: u32, c: u32, n: u8) -> O
 
 // An object that is a part of two, by the pair i of the other diagram's compositions.
 fn find_pair(tables: &Tables, i: usize, others: &Lines, n: u8) -> Option<Site>
-    requires { Coherent tables.now × (n ≤ 8) × (i < 256) }
+    requires { (n ≤ 8) × (i < 256) }
     ensures { Breaks (sheet_of tables.now) (PairApart others.now i) n (is_some result) (world_built n result) }
 {
     let j = i / 16;
@@ -64,7 +64,7 @@ fn is_pair(others: &Lines, i: usize) -> bool
 
 // An object that is a part of two: pairs that ask for nothing need no search.
 pub fn find_wholes(tables: &Tables, others: &Lines, n: u8) -> Option<Site>
-    requires { Coherent tables.now × (n ≤ 8) }
+    requires { n ≤ 8 }
     ensures { Breaks (sheet_of tables.now) (WholesKept others.now) n (is_some result) (world_built n result) }
 {
     for i in 0..256 {

@@ -15,7 +15,8 @@ use Rattle.growing.specs.World.{World}
 use Rattle.growing.proofs.SplitLaws.{from-split}
 use Rattle.link_search.specs.Nets.{net_of}
 use Rattle.worlds.specs.declared.Lines.{Lines}
-use Rattle.worlds.specs.Kept.{Slotted, WholesKept, whole_of}
+use Rattle.worlds.specs.Coherent.{Slotted}
+use Rattle.worlds.specs.Kept.{WholesKept, whole_of}
 use Rattle.clashes.specs.Refuted.{Begun, BitsKept, Refuted, must_whole, must_whole_by}
 use Rattle.clashes.proofs.ClashLaws.{whole-by}
 

@@ -7,7 +7,8 @@ use Rattle.growing.specs.World.{World}
 use Rattle.growing.specs.Growth.{Extends, Nowhere}
 use Rattle.worlds.specs.declared.Query.{Query}
 use Rattle.worlds.specs.Asked.{Solution}
-use Rattle.worlds.specs.Kept.{Sheet, SourceTable}
+use Rattle.worlds.specs.Coherent.{SourceTable}
+use Rattle.worlds.specs.Kept.{Sheet}
 use Rattle.clashes.specs.Sources.{SourcesKept}
 use Rattle.clashes.specs.Refuted.{Begun, BitsKept, Refuted}
 use Rattle.clashes.specs.Clashes.{FirstColumn}

@@ -2,7 +2,7 @@
 ghost use Rattle.std.specs.Prelude.{◌≡◌, true, List, ℕ, ◌*◌, ◌<◌, get_or};
 ghost use Rattle.growing.specs.World.{target_count};
 ghost use Rattle.link_search.specs.Nets.{InLimits};
-ghost use Rattle.worlds.specs.Kept.{ColumnsKept, MirrorsKept, RowsKept, Slotted};
+ghost use Rattle.worlds.specs.Kept.{ColumnsKept, MirrorsKept, RowsKept};
 ghost use Rattle.clashes.specs.Clashes.{FirstTargets, LinkedBack, Never};
 ghost use Rattle.clashes.specs.Sources.{SourcesKept};
 ghost use Rattle.clashes.specs.Refuted.{Refuted};
@@ -48,7 +48,7 @@ fn is_apart_from_back(
 
 // Whether a column excludes the limits of a row of the first object by a mirror.
 pub fn is_bad_first_back(tables: &Tables, types: &[u8; 8], row: u8, low: u8, high: u8) -> bool
-    requires { Slotted tables.now.lines × (row < 32) × ((o : ℕ) → get_or types.now o 0 < 24) }
+    requires { (row < 32) × ((o : ℕ) → get_or types.now o 0 < 24) }
     ensures { result ≡ true → (lows highs : List ℕ) (seeds : ℕ) → 0 < seeds → Refuted (λ w. (RowsKept tables.now.targets lows highs w × InLimits low high (target_count w row 0)) × (SourcesKept tables.now.sources w × ColumnsKept tables.now.lines w × MirrorsKept tables.now.lines w)) types.now seeds }
 {
     if (low == 0) & (8 <= high) {

@@ -1,6 +1,6 @@
 // The number of sources of the first object that a query asks for, against other limits.
 ghost use Rattle.std.specs.Prelude.{◌≡◌, true, ℕ, ◌*◌, ◌<◌, get_or};
-ghost use Rattle.worlds.specs.Kept.{ColumnsKept, MirrorsKept, RowsKept, Slotted, WholesKept};
+ghost use Rattle.worlds.specs.Kept.{ColumnsKept, MirrorsKept, RowsKept, WholesKept};
 ghost use Rattle.clashes.specs.Refuted.{Refuted};
 ghost use Rattle.clashes.specs.Clashes.{FirstColumn, FirstSources, LinkedBack, Never, OtherSources, TurnedSources};
 
@@ -117,7 +117,7 @@ fn is_apart_from_row(tables: &Tables, x: usize, asked: Asked, there: u32, back: 
 
 // Whether a row excludes them by a mirror.
 fn is_apart_from_mirrors(tables: &Tables, x: usize, asked: Asked) -> bool
-    requires { Slotted tables.now.lines × (asked.first < 24) × (x ≡ asked.first * 32) }
+    requires { (asked.first < 24) × (x ≡ asked.first * 32) }
     ensures { result ≡ true → Never (λ w. FirstSources asked.first asked.here asked.slot asked.mask asked.least asked.most w × RowsKept tables.now.targets tables.now.lows tables.now.highs w × MirrorsKept tables.now.lines w) }
 {
     let lines = &tables.lines;
@@ -149,7 +149,7 @@ pub fn is_bad_first_column(
     least: u8,
     most: u8,
 ) -> bool
-    requires { Slotted tables.now.lines × (slot < 32) × ((o : ℕ) → get_or types.now o 0 < 24) }
+    requires { (slot < 32) × ((o : ℕ) → get_or types.now o 0 < 24) }
     ensures { result ≡ true → (seeds : ℕ) → 0 < seeds → Refuted (FirstColumn tables.now.targets tables.now.sources tables.now.lows tables.now.highs tables.now.lines slot mask least most) types.now seeds }
 {
     let x = crate::rows_at(types, 0);

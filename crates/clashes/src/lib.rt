@@ -3,7 +3,7 @@
 
 ghost use Rattle.std.specs.Prelude.{◌≡◌, true, ℕ, ◌*◌, ◌<◌, ◌≤◌, get_or};
 ghost use Rattle.growing.specs.Growth.{Nowhere};
-ghost use Rattle.worlds.specs.Kept.{Coherent, sheet_of};
+ghost use Rattle.worlds.specs.Kept.{sheet_of};
 ghost use Rattle.worlds.specs.Asked.{Sane, Solution};
 
 use worlds::{Query, Tables};
@@ -34,7 +34,7 @@ pub fn rows_at(types: &[u8; 8], o: u8) -> usize
 
 // Whether the query contradicts the tables, where its seeds have the given types.
 pub fn is_implied(tables: &Tables, q: Query, types: [u8; 8], n: u8) -> bool
-    requires { Coherent tables.now × Sane q × (n ≤ 8) × ((o : ℕ) → get_or types o 0 < 24) }
+    requires { Sane q × (n ≤ 8) × ((o : ℕ) → get_or types o 0 < 24) }
     ensures { result ≡ true → Nowhere (Solution (sheet_of tables.now) q n) types q.seeds q.never n }
 {
     let seeds = q.seeds;

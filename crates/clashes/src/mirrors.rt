@@ -1,6 +1,7 @@
 // Links that a query asks for, against mirrors.
 ghost use Rattle.std.specs.Prelude.{◌≡◌, true, ℕ, ◌<◌, ◌≤◌, get_or};
-ghost use Rattle.worlds.specs.Kept.{MirrorsKept, Slotted};
+ghost use Rattle.worlds.specs.Coherent.{Slotted};
+ghost use Rattle.worlds.specs.Kept.{MirrorsKept};
 ghost use Rattle.clashes.specs.Clashes.{Never};
 ghost use Rattle.clashes.specs.Refuted.{BitsKept, MirroredBetween, Refuted};
 

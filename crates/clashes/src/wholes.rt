@@ -1,7 +1,8 @@
 // Links that a query asks for, against wholes.
 ghost use Rattle.std.specs.Prelude.{◌≡◌, true, List, ℕ, ◌<◌, ◌≤◌, get_or};
 ghost use Rattle.laws.specs.Bounded.{tally};
-ghost use Rattle.worlds.specs.Kept.{Slotted, WholesKept};
+ghost use Rattle.worlds.specs.Coherent.{Slotted};
+ghost use Rattle.worlds.specs.Kept.{WholesKept};
 ghost use Rattle.clashes.specs.Refuted.{BitsKept, Refuted, must_whole};
 
 use laws::Mask;

@@ -4,9 +4,12 @@ use Prim.Native.Nat.{ℕ, ◌*◌, ◌+◌, ◌<◌, ◌≤◌}
 use mathlib.Core.Bool.{Bool, ◌&&◌, false, true}
 use lib.Dec.{leb, ltb}
 use native.Mathlib.Omega.{arith}
-use mathlib.Core.List.{List, map}
-use mathlib.Core.Path.{◌∙◌, ◌≡◌, ap, sym}
+use mathlib.Core.List.{List, [], ◌∷◌}
+use mathlib.Core.Path.{◌∙◌, ◌≡◌, ap, refl, subst, sym}
 use lib.ListN.{get_or-eq_default, get_or-map, get_or, length}
+use borrow.Author.Tests.{ltb-true}
+use Rattle.laws.specs.Bounded.{all}
+use Rattle.laws.proofs.BoundedLaws.{all-at}
 use Rattle.coding.specs.CallBytes.{Shape, code_byte, codes, length_at, next_by, next_of, no_call, row_at}
 use Rattle.coding.specs.Operands.{IsRow}
 use Rattle.std.specs.Prelude.{Option, Some}
@@ -25,21 +28,34 @@ row-beyond code h =
       few-buffers = omega arith;
     }
 
--- a column of the table
-abbrev column : (Shape → ℕ) → List ℕ
-column f = map f codes
+-- the code's table
+abbrev table_row : ℕ → ℕ → ℕ → Row
+table_row bytes files buffers = record { bytes = bytes; files = files; buffers = buffers }
 
-pub row_of : {code at bytes files buffers : ℕ} → at ≡ code → bytes ≡ get_or (column (λ x. x.bytes)) at 0 → files ≡ get_or (column (λ x. x.files)) at 0
-    → buffers ≡ get_or (column (λ x. x.buffers)) at 0 → bytes < 256 → files < 256 → buffers < 256
-    → IsRow (row_at code) (record { bytes = bytes; files = files; buffers = buffers })
-row_of {code} e eb ef el lb lf ll = record {
-  bytes = eb ∙ ap (λ (i : ℕ). get_or (column (λ x. x.bytes)) i 0) e ∙ get_or-map (λ x. x.bytes) codes code _;
-  files = ef ∙ ap (λ (i : ℕ). get_or (column (λ x. x.files)) i 0) e ∙ get_or-map (λ x. x.files) codes code _;
-  buffers = el ∙ ap (λ (i : ℕ). get_or (column (λ x. x.buffers)) i 0) e ∙ get_or-map (λ x. x.buffers) codes code _;
-  few_bytes = lb;
-  few-files = lf;
-  few-buffers = ll;
+abbrev table : List Row
+table =
+    table_row 0 0 0 ∷ table_row 1 1 0 ∷ table_row 1 0 0 ∷ table_row 1 1 0 ∷ table_row 1 0 0 ∷ table_row 1 1 0 ∷ table_row 1 0 0 ∷ table_row 0 0 1 ∷
+    table_row 1 1 0 ∷ []
+
+abbrev at_row : ℕ → Row
+at_row code = get_or table code (table_row 0 0 0)
+
+few : (f : Row → ℕ) → all (λ k. ltb (f (at_row k)) 256) 9 ≡ true → (code : ℕ) → code < 9 → f (at_row code) < 256
+few f q code l = ltb-true _ _ (all-at (λ k. ltb (f (at_row k)) 256) 9 q code l)
+
+row-within : (code : ℕ) → code < 9 → IsRow (row_at code) (at_row code)
+unfolding all
+row-within code l = record {
+  bytes = sym (get_or-map (λ (x : Row). x.bytes) table code _) ∙ get_or-map (λ (x : Shape). x.bytes) codes code _;
+  files = sym (get_or-map (λ (x : Row). x.files) table code _) ∙ get_or-map (λ (x : Shape). x.files) codes code _;
+  buffers = sym (get_or-map (λ (x : Row). x.buffers) table code _) ∙ get_or-map (λ (x : Shape). x.buffers) codes code _;
+  few_bytes = few (λ x. x.bytes) refl code l;
+  few-files = few (λ x. x.files) refl code l;
+  few-buffers = few (λ x. x.buffers) refl code l;
 }
+
+pub row_of : {code at : ℕ} {r : Row} → at ≡ code → code < 9 → r ≡ at_row at → IsRow (row_at code) r
+row_of {code} e l q = subst (IsRow (row_at code)) (sym (q ∙ ap at_row e)) (row-within code l)
 
 -- ---- the next call, from what the code has read
 

@@ -12,11 +12,10 @@ use Rattle.coding.specs.ReplyBytes.{four, head_bytes, parts_of, reply_bytes}
 
 -- ---- what is put
 
-pub says-head : {out after : List ℕ} {m : Option ℕ} (r : steps.Reply) {st n h₃ h₂ h₁ h₀ : ℕ} → st ≡ (parts_of r).status → n ≡ (parts_of r).length
-    → h₃ ≡ n / 16777216 % 256 → h₂ ≡ n / 65536 % 256 → h₁ ≡ n / 256 % 256 → h₀ ≡ n % 256
-    → Puts (st ∷ h₃ ∷ h₂ ∷ h₁ ∷ h₀ ∷ []) out m after → Puts (head_bytes r) out m after
+pub says-head : {out after bytes : List ℕ} {m : Option ℕ} (r : steps.Reply) {st n : ℕ} → st ≡ (parts_of r).status → n ≡ (parts_of r).length
+    → bytes ≡ n / 16777216 % 256 ∷ n / 65536 % 256 ∷ n / 256 % 256 ∷ n % 256 ∷ [] → Puts (st ∷ bytes) out m after → Puts (head_bytes r) out m after
 unfolding head_bytes four
-says-head r es en e₃ e₂ e₁ e₀ p = rw (← es, ← en, ← e₃, ← e₂, ← e₁, ← e₀) p
+says-head r es en e p = rw (← es, ← en, ← e) p
 
 -- ---- lengths
 

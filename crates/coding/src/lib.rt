@@ -32,29 +32,41 @@ struct Row {
     buffers: usize,
 }
 
-// By code: 1 for each operand that the call has. No call has the code 0.
-const BYTES: [u8; 9] = [0, 1, 1, 1, 1, 1, 1, 0, 1];
+// A call with a byte and a file, with a byte alone, with a buffer to lend, and none.
+const FILE: Row = Row {
+    bytes: 1,
+    files: 1,
+    buffers: 0,
+};
 
-const FILES: [u8; 9] = [0, 1, 0, 1, 0, 1, 0, 0, 1];
+const BYTE: Row = Row {
+    bytes: 1,
+    files: 0,
+    buffers: 0,
+};
 
-const BUFFERS: [u8; 9] = [0, 0, 0, 0, 0, 0, 0, 1, 0];
+const BUFFER: Row = Row {
+    bytes: 0,
+    files: 0,
+    buffers: 1,
+};
+
+const NONE: Row = Row {
+    bytes: 0,
+    files: 0,
+    buffers: 0,
+};
+
+// By code. No call has the code 0.
+const ROWS: [Row; 9] = [NONE, FILE, BYTE, FILE, BYTE, FILE, BYTE, BUFFER, FILE];
 
 fn row_at(code: u8) -> Row
     ensures { IsRow (row_at code) result }
 {
     if 9 <= code {
-        return Row {
-            bytes: 0,
-            files: 0,
-            buffers: 0,
-        };
+        return NONE;
     }
-    let at = usize::from(code);
-    Row {
-        bytes: usize::from(BYTES[at]),
-        files: usize::from(FILES[at]),
-        buffers: usize::from(BUFFERS[at]),
-    }
+    ROWS[usize::from(code)]
 }
 
 // A number of four bytes, high byte first.
@@ -154,12 +166,6 @@ pub fn head(out: &mut [u8], r: Reply) -> Option<usize>
     ensures { Puts (head_bytes (reply_of r [])) out.old result out.new }
 {
     let (status, n) = told(r);
-    let a = [
-        status,
-        fields::low(n / 16777216),
-        fields::low(n / 65536),
-        fields::low(n / 256),
-        fields::low(n),
-    ];
-    put(out, &a, &[])
+    let length = n.to_be_bytes();
+    put(out, &[status], &length[4..])
 }

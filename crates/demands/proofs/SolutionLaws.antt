@@ -6,7 +6,8 @@ use mathlib.Core.List.{List}
 use Rattle.growing.specs.World.{World}
 use Rattle.worlds.specs.declared.Query.{Query}
 use Rattle.worlds.specs.Asked.{Satisfies, Solution}
-use Rattle.worlds.specs.Kept.{Allowed, ColumnsKept, Sheet, SinglesKept, SourceTable, WholesKept, sheet}
+use Rattle.worlds.specs.Coherent.{SourceTable}
+use Rattle.worlds.specs.Kept.{Allowed, ColumnsKept, Sheet, SinglesKept, WholesKept, sheet}
 use Rattle.demands.specs.declared.Start.{Start}
 use Rattle.demands.specs.Wishes.{Sharpens}
 use Rattle.clashes.specs.Sources.{SourcesKept}

@@ -2,7 +2,7 @@
 ghost use Rattle.std.specs.Prelude.{◌<◌, Some};
 ghost use Rattle.growing.specs.World.{source_count};
 ghost use Rattle.link_search.specs.Nets.{InLimits};
-ghost use Rattle.worlds.specs.Kept.{ColumnsKept, Slotted};
+ghost use Rattle.worlds.specs.Kept.{ColumnsKept};
 ghost use Rattle.demands.specs.Wishes.{Known, Sharpens};
 ghost use Rattle.clashes.specs.Sources.{SourcesKept};
 ghost use Rattle.demands.specs.Families.{SourcesWithin};
@@ -53,7 +53,7 @@ fn with_column(
 
 // All columns.
 pub fn with_columns(mut best: u32, s: Start, tables: &Tables) -> Option<u32>
-    requires { Known s × Slotted tables.now.lines }
+    requires { Known s }
     ensures { Sharpens (λ w. SourcesKept tables.now.sources w × ColumnsKept tables.now.lines w) s (Some best) result }
 {
     let lines = &tables.lines;

@@ -3,7 +3,7 @@
 
 ghost use Rattle.std.specs.Prelude.{ℕ, ◌<◌, ◌≤◌, get_or, is_none, ltb, unwrap_or};
 ghost use Rattle.growing.specs.Growth.{Demanded};
-ghost use Rattle.worlds.specs.Kept.{Coherent, sheet_of};
+ghost use Rattle.worlds.specs.Kept.{sheet_of};
 ghost use Rattle.worlds.specs.Asked.{Sane, Solution};
 
 use worlds::{Query, Tables};
@@ -29,7 +29,7 @@ struct Start {
 // What the first k objects, whose types are given, demand of one more object in a world of n objects: a type of the mask. None: no world
 // that is looked for starts with these.
 pub fn demand(tables: &Tables, q: Query, types: [u8; 8], k: u8, forb: u32, n: u8) -> Option<u32>
-    requires { Coherent tables.now × Sane q × (q.seeds ≤ k) × (k ≤ n) × (n ≤ 8) × ((o : ℕ) → get_or types o 0 < 24) }
+    requires { Sane q × (q.seeds ≤ k) × (k ≤ n) × (n ≤ 8) × ((o : ℕ) → get_or types o 0 < 24) }
     ensures { Demanded (Solution (sheet_of tables.now) q n) 24 types k forb n (is_none result) (ltb k n) (unwrap_or result 0) }
 {
     let here = sets::types_present(&types, k);

@@ -2,7 +2,7 @@
 ghost use Rattle.std.specs.Prelude.{ℕ, ◌<◌, ◌≤◌, Some};
 ghost use Rattle.growing.specs.Demand.{extras};
 ghost use Rattle.worlds.specs.Asked.{Satisfies, Sane};
-ghost use Rattle.worlds.specs.Kept.{Allowed, Coherent, sheet};
+ghost use Rattle.worlds.specs.Kept.{Allowed, sheet};
 ghost use Rattle.demands.specs.Wishes.{Known, Sharpens};
 
 use crate::Start;
@@ -34,7 +34,7 @@ fn with_shortage(best: u32, s: Start, short: Shortage) -> Option<u32>
 
 // One way of counting, by each line of which a type of the mask `here` asks for links: by all where it has the types of the first objects.
 fn with_way(mut best: u32, s: Start, here: u32, tables: &Tables, q: Query, way: Way) -> Option<u32>
-    requires { Known s × Coherent tables.now × Sane q × (q.seeds ≤ s.k) }
+    requires { Known s × Sane q × (q.seeds ≤ s.k) }
     ensures { (usable singles : ℕ) → Sharpens (λ w. Allowed (sheet usable singles tables.now.targets tables.now.lows tables.now.highs tables.now.lines) w × Satisfies q w) s (Some best) result }
 {
     for j in 0..16 {
@@ -48,7 +48,7 @@ fn with_way(mut best: u32, s: Start, here: u32, tables: &Tables, q: Query, way: 
 
 // All ways of counting.
 pub fn with_weights(best: u32, s: Start, here: u32, tables: &Tables, q: Query) -> Option<u32>
-    requires { Known s × Coherent tables.now × Sane q × (q.seeds ≤ s.k) }
+    requires { Known s × Sane q × (q.seeds ≤ s.k) }
     ensures { (usable singles : ℕ) → Sharpens (λ w. Allowed (sheet usable singles tables.now.targets tables.now.lows tables.now.highs tables.now.lines) w × Satisfies q w) s (Some best) result }
 {
     let rows = with_way(best, s, here, tables, q, Way::Rows)?;

@@ -5,7 +5,7 @@
 ghost use Rattle.std.specs.Prelude.{◌≡◌, ℕ, ◌<◌, ◌≤◌, get_or, is_some, set};
 ghost use Rattle.growing.specs.Growth.{Grown};
 ghost use Rattle.worlds.specs.Asked.{Answers, Sane, Solution, world_built};
-ghost use Rattle.worlds.specs.Kept.{Coherent, sheet_of};
+ghost use Rattle.worlds.specs.Kept.{sheet_of};
 
 use laws::Mask;
 use worlds::{Query, Site, Tables};
@@ -22,7 +22,7 @@ fn put(types: [u8; 8], k: u8, t: u8) -> [u8; 8]
 
 // A world of n objects whose first k have the given types, and the others none of the types forb.
 fn grow(tables: &Tables, q: Query, types: [u8; 8], k: u8, forb: u32, n: u8) -> Option<Site>
-    requires { Coherent tables.now × Sane q × (q.seeds ≤ k) × (k ≤ n) × (n ≤ 8) × ((o : ℕ) → get_or types o 0 < 24) }
+    requires { Sane q × (q.seeds ≤ k) × (k ≤ n) × (n ≤ 8) × ((o : ℕ) → get_or types o 0 < 24) }
     ensures { Grown (Solution (sheet_of tables.now) q n) types k forb n (is_some result) (world_built n result) }
 {
     let g = demands::demand(tables, q, types, k, forb, n)?;
@@ -53,7 +53,7 @@ fn grow(tables: &Tables, q: Query, types: [u8; 8], k: u8, forb: u32, n: u8) -> O
 
 // The same where the first k objects are seeds: the types of the other seeds are tried first.
 fn seed(tables: &Tables, q: Query, types: [u8; 8], k: u8, n: u8) -> Option<Site>
-    requires { Coherent tables.now × Sane q × (k ≤ q.seeds) × (q.seeds ≤ n) × (n ≤ 8) × ((o : ℕ) → get_or types o 0 < 24) }
+    requires { Sane q × (k ≤ q.seeds) × (q.seeds ≤ n) × (n ≤ 8) × ((o : ℕ) → get_or types o 0 < 24) }
     ensures { Grown (Solution (sheet_of tables.now) q n) types k 0 n (is_some result) (world_built n result) }
 {
     if k == q.seeds {
@@ -75,7 +75,7 @@ fn seed(tables: &Tables, q: Query, types: [u8; 8], k: u8, n: u8) -> Option<Site>
 
 // A world of n objects that the tables allow and the query asks for.
 pub fn find(tables: &Tables, q: Query, n: u8) -> Option<Site>
-    requires { Coherent tables.now × Sane q × (n ≤ 8) }
+    requires { Sane q × (n ≤ 8) }
     ensures { Answers (Solution (sheet_of tables.now) q n) (is_some result) (world_built n result) }
 {
     if n < q.seeds {

@@ -15,7 +15,8 @@ use Rattle.link_search.specs.Nets.{Net, InLimits}
 use Rattle.link_search.specs.Families.{Columns, Slots, source}
 use Rattle.worlds.specs.declared.Lines.{Lines}
 use Rattle.worlds.specs.declared.Query.{Query}
-use Rattle.worlds.specs.Kept.{ColumnsKept, Slotted, source_by}
+use Rattle.worlds.specs.Coherent.{Slotted}
+use Rattle.worlds.specs.Kept.{ColumnsKept, source_by}
 use Rattle.worlds.specs.Asked.{source_asked}
 use Rattle.link_search.specs.declared.ColumnArrays.{ColumnArrays}
 use Rattle.leaves.specs.Fitting.{typed}

@@ -11,7 +11,8 @@ use Rattle.link_search.specs.Families.{NetFits}
 use Rattle.link_search.specs.Answers.{NetAnswer}
 use Rattle.worlds.specs.declared.Lines.{Lines}
 use Rattle.worlds.specs.declared.Query.{Query}
-use Rattle.worlds.specs.Kept.{Slotted, sheet, world_in}
+use Rattle.worlds.specs.Coherent.{Slotted}
+use Rattle.worlds.specs.Kept.{sheet, world_in}
 use Rattle.std.specs.Bool.{then_some}
 use Rattle.std.specs.Prelude.{is_some}
 use Rattle.worlds.specs.declared.Site.{Site}

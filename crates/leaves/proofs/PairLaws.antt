@@ -13,7 +13,8 @@ use Rattle.laws.proofs.ConnectiveLaws.{and_both, and_left, and_right}
 use Rattle.link_search.specs.Nets.{Net}
 use Rattle.link_search.specs.Families.{Mirrors, Wholes, whole}
 use Rattle.worlds.specs.declared.Lines.{Lines}
-use Rattle.worlds.specs.Kept.{MirrorsKept, Slotted, WholesKept, whole_of}
+use Rattle.worlds.specs.Coherent.{Slotted}
+use Rattle.worlds.specs.Kept.{MirrorsKept, WholesKept, whole_of}
 use Rattle.leaves.specs.Fitting.{typed}
 use Rattle.leaves.specs.Arrays.{Objects}
 use Rattle.leaves.proofs.NetCountLaws.{Agree, no-wholes, whole-count}

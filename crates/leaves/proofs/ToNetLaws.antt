@@ -12,7 +12,8 @@ use Rattle.link_search.specs.Nets.{Between, Net, net_of}
 use Rattle.link_search.specs.Families.{NetFits}
 use Rattle.worlds.specs.declared.Lines.{Lines}
 use Rattle.worlds.specs.declared.Query.{Query}
-use Rattle.worlds.specs.Kept.{Slotted, sheet}
+use Rattle.worlds.specs.Coherent.{Slotted}
+use Rattle.worlds.specs.Kept.{sheet}
 use Rattle.worlds.specs.Asked.{Sane, Solution}
 use Rattle.link_search.specs.declared.ColumnArrays.{ColumnArrays}
 use Rattle.link_search.specs.declared.RowArrays.{RowArrays}

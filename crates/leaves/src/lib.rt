@@ -5,7 +5,8 @@
 ghost use Rattle.std.specs.Prelude.{◌≡◌, cond, false, ℕ, ◌<◌, ◌≤◌, get_or, is_some};
 ghost use Rattle.laws.specs.Bits.{Marks};
 ghost use Rattle.growing.specs.Growth.{Ended};
-ghost use Rattle.worlds.specs.Kept.{Slotted, sheet};
+ghost use Rattle.worlds.specs.Coherent.{Slotted};
+ghost use Rattle.worlds.specs.Kept.{sheet};
 ghost use Rattle.worlds.specs.Asked.{Sane, Solution, world_built};
 ghost use Rattle.leaves.specs.Fitting.{typed};
 

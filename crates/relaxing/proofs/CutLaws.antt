@@ -20,7 +20,8 @@ use Rattle.growing.specs.World.{World}
 use Rattle.growing.specs.Growth.{Ended, Nowhere}
 use Rattle.growing.proofs.SplitLaws.{from-split}
 use Rattle.worlds.specs.Asked.{Satisfies, Sane, Solution}
-use Rattle.worlds.specs.Kept.{Allowed, Sheet, Slotted, whole_by, whole_of}
+use Rattle.worlds.specs.Coherent.{Slotted}
+use Rattle.worlds.specs.Kept.{Allowed, Sheet, whole_by, whole_of}
 use Rattle.worlds.specs.declared.Lines.{Lines}
 use Rattle.worlds.specs.declared.Query.{Query}
 use Rattle.relaxing.specs.Relaxed.{cut, freed, relaxed, unforced}

@@ -4,7 +4,7 @@
 
 ghost use Rattle.std.specs.Prelude.{◌≡◌, true, List, ℕ, ◌<◌, get_or};
 ghost use Rattle.growing.specs.Growth.{Nowhere};
-ghost use Rattle.worlds.specs.Kept.{Slotted, sheet};
+ghost use Rattle.worlds.specs.Kept.{sheet};
 ghost use Rattle.worlds.specs.Asked.{Sane, Solution};
 ghost use Rattle.relaxing.specs.Relaxed.{freed, unforced};
 
@@ -33,7 +33,7 @@ fn without_least(q: Query) -> Query
 
 // Whether the seeds, of the given types, cannot stand together.
 pub fn is_stuck(tables: &Tables, q: Query, types: [u8; 8]) -> bool
-    requires { Slotted tables.now.lines × Sane q × ((o : ℕ) → get_or types o 0 < 24) }
+    requires { Sane q × ((o : ℕ) → get_or types o 0 < 24) }
     ensures { result ≡ true → (singles n : ℕ) (lows : List ℕ) → Nowhere (Solution (sheet tables.now.usable singles tables.now.targets lows tables.now.highs tables.now.lines) q n) types q.seeds q.never n }
 {
     leaves::ends(

@@ -23,14 +23,12 @@ pub struct Turn {
 fn finish(d: Replied, list: &[u8], used: usize, out: &mut [u8]) -> Option<Turn>
     ensures { Wrote d.bench used (reply_bytes (reply_of d.reply list.now)) out.old result out.new }
 {
-    match coding::say(out, d.reply, list) {
-        Some(wrote) => Some(Turn {
-            bench: d.bench,
-            used,
-            wrote,
-        }),
-        None => None,
-    }
+    let wrote = coding::say(out, d.reply, list)?;
+    Some(Turn {
+        bench: d.bench,
+        used,
+        wrote,
+    })
 }
 
 // Runs the call of a code, one that is lent no buffer and gives no list.

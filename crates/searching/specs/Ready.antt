@@ -3,7 +3,7 @@
 use Rattle.std.specs.Prelude.{ℕ, List}
 use Rattle.files.specs.Diagram.{Diagram}
 use Rattle.type_tables.specs.TypeTables.{Dues}
-use Rattle.worlds.specs.Kept.{SourceTable, sheet}
+use Rattle.worlds.specs.Kept.{sheet}
 use Rattle.worlds.specs.Tables.{SheetOf}
 use Rattle.worlds.specs.declared.Others.{Others}
 use Rattle.worlds.specs.declared.Tables.{Tables}
@@ -16,5 +16,4 @@ pub record Ready (old new : Diagram) (dues : List ℕ) (t : Tables) (o : Others)
   pub own : List ℕ
   pub sheet-is : SheetOf old (sheet t.usable t.singles own t.lows t.highs t.lines)
   pub narrow-is : Narrows (sheet t.usable t.singles own t.lows t.highs t.lines) t.targets
-  pub sources-are : SourceTable t.targets t.sources
   pub others-are : TablesOf old new o.bad o.singles o.missing o.targets o.lows o.highs o.lines

@@ -22,7 +22,8 @@ use Rattle.records.proofs.SlotLaws.{role-known}
 use Rattle.rules.specs.Arrow.{counted_right}
 use Rattle.views.specs.Views.{column_slot, counted_end, is_composed, is_counted, is_mirror, mirror_left, mirror_right, slot_by, whole_slot}
 use Rattle.worlds.specs.declared.Lines.{Lines}
-use Rattle.worlds.specs.Kept.{Slotted, sheet}
+use Rattle.worlds.specs.Coherent.{Slotted}
+use Rattle.worlds.specs.Kept.{sheet}
 use Rattle.worlds.specs.Tables.{LinesOf, RowTables, SheetOf, SingleTypes, UsableTypes}
 
 module _ (d : Diagram) (few : role_count d ≤ 32) where

@@ -15,7 +15,7 @@ use Rattle.laws.proofs.BitLaws.{bit-zero, bit-only}
 use Rattle.laws.proofs.ConnectiveLaws.{both_left, or_right}
 use Rattle.laws.proofs.ListLaws.{zeros}
 use Rattle.laws.proofs.BoundedLaws.{ltb-skip}
-use Rattle.worlds.specs.Kept.{SourceTable}
+use Rattle.worlds.specs.Coherent.{SourceTable}
 use Rattle.sheets.specs.RowsBy.{Stepped, is_place}
 use Rattle.sheets.proofs.MaskRowLaws.{all_types, mask_step}
 

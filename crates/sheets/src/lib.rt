@@ -8,7 +8,7 @@ ghost use Rattle.diagrams.specs.View.{diagram_of};
 ghost use Rattle.diagrams.specs.Held.{Held};
 ghost use Rattle.type_tables.specs.RowsIn.{is_subtype, set_of};
 ghost use Rattle.worlds.specs.Tables.{LinesOf, MissingLinks, RowTables, SingleTypes, UsableTypes, single_missing};
-ghost use Rattle.worlds.specs.Kept.{SourceTable};
+ghost use Rattle.worlds.specs.Coherent.{SourceTable};
 ghost use Rattle.type_tables.specs.TypeTables.{Dues};
 ghost use Rattle.sheets.specs.Named.{EndsBy, Images, SlotsBy, SubtypesBy};
 ghost use Rattle.sheets.specs.NamedIn.{is_image};

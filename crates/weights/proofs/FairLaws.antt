@@ -20,7 +20,8 @@ use Rattle.growing.specs.World.{World, source_count, target_count}
 use Rattle.worlds.specs.declared.Lines.{Lines}
 use Rattle.worlds.specs.declared.Query.{Query}
 use Rattle.worlds.specs.Asked.{Satisfies}
-use Rattle.worlds.specs.Kept.{Allowed, Slotted, SourceTable, sheet, whole_by, whole_of}
+use Rattle.worlds.specs.Coherent.{Slotted, SourceTable}
+use Rattle.worlds.specs.Kept.{Allowed, sheet, whole_by, whole_of}
 use Rattle.weights.specs.declared.Count.TheVariants.{Flat, High, Low, Parts}
 use Rattle.weights.specs.Numbers.{in_mask, line_number, number_at, whole_low, whole_row}
 use Rattle.weights.specs.Scales.{column_least, column_most, columns_scale, mirror_scale, own_of, row_least, row_most, rows_scale, together, whole_scale}

@@ -11,7 +11,8 @@ use Rattle.growing.specs.World.{World}
 use Rattle.worlds.specs.declared.Lines.{Lines}
 use Rattle.worlds.specs.declared.Query.{Query}
 use Rattle.worlds.specs.Asked.{Satisfies}
-use Rattle.worlds.specs.Kept.{Allowed, Slotted, SourceTable, sheet}
+use Rattle.worlds.specs.Coherent.{Slotted, SourceTable}
+use Rattle.worlds.specs.Kept.{Allowed, sheet}
 use Rattle.weights.specs.declared.Own.{Own}
 use Rattle.weights.specs.declared.Scale.{Scale}
 use Rattle.weights.specs.declared.Shortage.{Shortage}

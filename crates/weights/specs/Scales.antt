@@ -6,7 +6,8 @@ use Rattle.growing.specs.World.{World}
 use Rattle.worlds.specs.declared.Lines.{Lines}
 use Rattle.worlds.specs.declared.Query.{Query}
 use Rattle.worlds.specs.Asked.{Satisfies}
-use Rattle.worlds.specs.Kept.{Allowed, SourceTable, sheet}
+use Rattle.worlds.specs.Coherent.{SourceTable}
+use Rattle.worlds.specs.Kept.{Allowed, sheet}
 use Rattle.weights.specs.declared.Count.TheVariants.{Flat, High, Low, Parts}
 use Rattle.weights.specs.declared.Own.{Own}
 use Rattle.weights.specs.declared.Scale.{Scale}

@@ -2,10 +2,9 @@
 // site ask for more than they have room for, further objects must have room for the rest.
 #![tactic(auto)]
 
-ghost use Rattle.std.specs.Prelude.{◌≡◌, cond, true, ℕ, ◌<◌, ◌≤◌, ◌+◌, ◌*◌, get_or};
+ghost use Rattle.std.specs.Prelude.{◌≡◌, true, ℕ, ◌<◌, ◌≤◌, ◌+◌, ◌*◌, get_or};
 ghost use Rattle.laws.specs.Bits.{bit};
 ghost use Rattle.worlds.specs.Asked.{Sane};
-ghost use Rattle.worlds.specs.Kept.{Coherent, Slotted};
 ghost use Rattle.weights.specs.Numbers.{in_mask, limit_at, line_number, number_at, number_by, whole_low, whole_row};
 ghost use Rattle.weights.specs.Scales.{Fair, column_least, column_most, columns_scale, mirror_scale, row_least, row_most, rows_scale, whole_scale};
 ghost use Rattle.weights.specs.Sums.{sum};
@@ -121,7 +120,7 @@ fn line_number(from: u32, to: u32, target: u32, low: u8, own: bool, limit: u8, t
 
 // How many links to parts an object of type t has at least by line j.
 fn whole_row(tables: &Tables, slot: u8, limit: u8, t: u8, j: u8) -> u8
-    requires { (t < 24) × (j < 16) × Slotted tables.now.lines }
+    requires { (t < 24) × (j < 16) }
     ensures { result ≡ whole_row tables.now.targets tables.now.lows tables.now.lines.wholeslot tables.now.lines.wholefrom tables.now.lines.wholeto slot limit t j }
 {
     let i = usize::from(j);
@@ -141,7 +140,7 @@ fn whole_row(tables: &Tables, slot: u8, limit: u8, t: u8, j: u8) -> u8
 
 // The largest of these.
 fn whole_low(tables: &Tables, slot: u8, limit: u8, t: u8) -> u8
-    requires { (t < 24) × Slotted tables.now.lines }
+    requires { t < 24 }
     ensures { result ≡ whole_low tables.now.targets tables.now.lows tables.now.lines.wholeslot tables.now.lines.wholefrom tables.now.lines.wholeto slot limit t 16 }
 {
     let mut n: u8 = 0;
@@ -153,7 +152,7 @@ fn whole_low(tables: &Tables, slot: u8, limit: u8, t: u8) -> u8
 
 // The number of type t.
 fn number_of(tables: &Tables, w: Weight, limit: u8, t: u8) -> u8
-    requires { (t < 24) × (w.slot < 32) × Slotted tables.now.lines }
+    requires { (t < 24) × (w.slot < 32) }
     ensures { result ≡ number_by tables.now.targets tables.now.lows tables.now.highs tables.now.lines.wholeslot tables.now.lines.wholefrom tables.now.lines.wholeto w limit t }
 {
     if !w.mask.has(t as u32) {
@@ -181,7 +180,7 @@ fn limit_at(w: Weight, o: u8) -> u8
 
 // The numbers of the first k objects together.
 fn total(tables: &Tables, w: Weight, types: [u8; 8], k: u8) -> u16
-    requires { (k ≤ 8) × (w.slot < 32) × Slotted tables.now.lines × ((o : ℕ) → get_or types o 0 < 24) }
+    requires { (k ≤ 8) × (w.slot < 32) × ((o : ℕ) → get_or types o 0 < 24) }
     ensures { (result ≡ sum (λ o. number_at tables.now.targets tables.now.lows tables.now.highs tables.now.lines.wholeslot tables.now.lines.wholefrom tables.now.lines.wholeto w o (get_or types o 0)) k) × (result ≤ 2040) }
 {
     let mut n: u16 = 0;
@@ -210,7 +209,7 @@ fn added(gain: Gain, t: u8, x: u8, y: u8) -> Gain
 
 // The types of the mask `free` for which b's number is above a's, and by how much at most.
 fn gains(tables: &Tables, x: Scale, free: u32) -> Gain
-    requires { (x.a.slot < 32) × (x.b.slot < 32) × Slotted tables.now.lines }
+    requires { (x.a.slot < 32) × (x.b.slot < 32) }
     ensures { Gains (number_by tables.now.targets tables.now.lows tables.now.highs tables.now.lines.wholeslot tables.now.lines.wholefrom tables.now.lines.wholeto x.a x.a.limit) (number_by tables.now.targets tables.now.lows tables.now.highs tables.now.lines.wholeslot tables.now.lines.wholefrom tables.now.lines.wholeto x.b x.b.limit) free 24 result }
 {
     let a = x.a;
@@ -243,7 +242,7 @@ fn times(x: u16, y: u16, most: u8) -> u8
 
 // What is lacking where the numbers a of all objects are together not above the numbers b.
 fn lacking(tables: &Tables, x: Scale, types: [u8; 8], k: u8, free: u32) -> Shortage
-    requires { (0 < k) × (k ≤ 8) × (x.a.slot < 32) × (x.b.slot < 32) × Slotted tables.now.lines × ((o : ℕ) → get_or types o 0 < 24) }
+    requires { (0 < k) × (k ≤ 8) × (x.a.slot < 32) × (x.b.slot < 32) × ((o : ℕ) → get_or types o 0 < 24) }
     ensures { Lacks (number_at tables.now.targets tables.now.lows tables.now.highs tables.now.lines.wholeslot tables.now.lines.wholefrom tables.now.lines.wholeto x.a) (number_at tables.now.targets tables.now.lows tables.now.highs tables.now.lines.wholeslot tables.now.lines.wholefrom tables.now.lines.wholeto x.b) types k free result }
 {
     let a = x.a;
@@ -409,7 +408,7 @@ fn joined(masks: &[u32; 16]) -> u32
 
 // The pair of one way, by line j, where the first object has type t.
 fn scale_of(tables: &Tables, own: Own, t: u8, way: Way, j: usize) -> Scale
-    requires { Slotted tables.now.lines × (own.row < 32) × (t < 24) × (j < 16) }
+    requires { (own.row < 32) × (t < 24) × (j < 16) }
     ensures { Fair tables.now.sources tables.now.lines own t result }
 {
     let lines = &tables.lines;
@@ -476,7 +475,7 @@ pub fn weigh(
     way: Way,
     j: usize,
 ) -> Shortage
-    requires { Coherent tables.now × Sane q × (q.seeds ≤ k) × (k ≤ 8) × ((o : ℕ) → get_or types o 0 < 24) }
+    requires { Sane q × (q.seeds ≤ k) × (k ≤ 8) × ((o : ℕ) → get_or types o 0 < 24) }
     ensures { Short tables.now.targets tables.now.lows tables.now.highs tables.now.lines q types k free result }
 {
     if k == 0 {

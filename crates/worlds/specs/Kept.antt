@@ -99,20 +99,3 @@ pub record AllKept (bad singles : ℕ) (missing : Bool) (targets lows highs : Li
 
 abbrev pub KeepsOthers : Others → World → Type 0
 KeepsOthers o w = AllKept o.bad o.singles o.missing o.targets o.lows o.highs o.lines w
-
--- ---- what code asks of tables
-
--- the slots of lines are role slots
-pub record Slotted (x : Lines) : Type 0 where
-  pub column : (j : ℕ) → j < 16 → get_or x.columnslot j 0 < 32
-  pub right : (j : ℕ) → j < 16 → get_or x.mirrorright j 0 < 32
-  pub left : (j : ℕ) → j < 16 → get_or x.mirrorleft j 0 < 32
-  pub whole : (j : ℕ) → j < 16 → get_or x.wholeslot j 0 < 32
-
--- the table of sources is the table of targets, turned: t may have u as a target in slot s
-pub record SourceTable (targets sources : List ℕ) : Type 0 where
-  pub at : (t s u : ℕ) → t < 24 → s < 32 → u < 24 → bit t (get_or sources (u * 32 + s) 0) ≡ bit u (get_or targets (t * 32 + s) 0)
-
-pub record Coherent (t : Tables) : Type 0 where
-  pub slotted : Slotted t.lines
-  pub turned : SourceTable t.targets t.sources

@@ -1,3 +1,4 @@
+pub mod Coherent
 pub mod Kept
 pub mod Asked
 pub mod Tables

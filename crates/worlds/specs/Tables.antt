@@ -10,7 +10,8 @@ use Rattle.type_tables.specs.Due.{due}
 use Rattle.type_tables.specs.Rows.{carried_to, end_at, opposite}
 use Rattle.views.specs.Views.{column_from, column_high, column_low, column_slot, column_to, counts_as, high_by, low_by, may_target_by, mirror_from, mirror_left, mirror_right, mirror_to, slot_by, whole_from, whole_slot, whole_to}
 use Rattle.worlds.specs.declared.Lines.{Lines}
-use Rattle.worlds.specs.Kept.{Sheet, Slotted}
+use Rattle.worlds.specs.Coherent.{Slotted}
+use Rattle.worlds.specs.Kept.{Sheet}
 
 -- ---- types
 

@@ -1,6 +1,8 @@
 // What the search by types works on: a query, tables by types, and what it finds.
 #![tactic(auto)]
 
+ghost use Rattle.worlds.specs.Coherent.{Slotted, SourceTable};
+
 // A question about the sites that one diagram allows. Its seeds are the first objects.
 #[derive(Clone, Copy)]
 pub struct Query {
@@ -56,6 +58,9 @@ pub struct Tables {
     // The types that an object can have, and those that exactly one object has.
     pub usable: u32,
     pub singles: u32,
+    // The slots of the lines are role slots, and the sources are the targets, turned.
+    ghost slotted: { Slotted lines },
+    ghost turned: { SourceTable targets sources },
 }
 
 // What another diagram says of these sites, by the same types and role slots.

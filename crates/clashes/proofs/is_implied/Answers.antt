@@ -50,7 +50,7 @@ returns-then-is_bad_first_part c =
     (c.is_bad_first_part.ensures c.if-is_bad_first_part.true a.tables.now.lows a.tables.now.highs a.q.high a.q.seeds seeded)
 
 pub is_bad_first_back-requires : goal.is_bad_first_back-requires
-is_bad_first_back-requires c = (c.requires.0.slotted, c.requires.1.row, c.requires.3)
+is_bad_first_back-requires c = (c.requires.0.row, c.requires.2)
 
 pub returns-then-is_bad_first_back : goal.returns-then-is_bad_first_back
 returns-then-is_bad_first_back c =
@@ -60,11 +60,11 @@ returns-then-is_bad_first_back c =
     let seeded : 0 < a.q.seeds = (let z : a.q.seeds ≡ 0 → ⊥ = c.if-seeds-eq0.false in omega arith) in
     λ _. nowhere-by x a.q a.n a.types a.q.never
     (λ w. (RowsKept a.tables.now.targets a.tables.now.lows a.tables.now.highs w × InLimits a.q.low a.q.high (target_count w a.q.row 0)) × (SourcesKept a.tables.now.sources w × ColumnsKept a.tables.now.lines w × MirrorsKept a.tables.now.lines w))
-    (λ w s. ((s.allowed.rows, s.asked.row seeded), (sources-kept x a.q a.n a.tables.now.sources c.requires.0.turned w s, s.allowed.columns, s.allowed.mirrors)))
+    (λ w s. ((s.allowed.rows, s.asked.row seeded), (sources-kept x a.q a.n a.tables.now.sources c.args.tables.now.turned w s, s.allowed.columns, s.allowed.mirrors)))
     (c.is_bad_first_back.ensures c.if-is_bad_first_back.true a.tables.now.lows a.tables.now.highs a.q.seeds seeded)
 
 pub is_bad_first_row-requires : goal.is_bad_first_row-requires
-is_bad_first_row-requires c = (c.requires.1.row, c.requires.3)
+is_bad_first_row-requires c = (c.requires.0.row, c.requires.2)
 
 pub returns-then-is_bad_first_row : goal.returns-then-is_bad_first_row
 returns-then-is_bad_first_row c =
@@ -76,7 +76,7 @@ returns-then-is_bad_first_row c =
     (λ w s. (s.allowed.rows, s.asked.row seeded)) (c.is_bad_first_row.ensures c.if-is_bad_first_row.true a.tables.now.targets a.q.seeds seeded)
 
 pub is_bad_first_column-requires : goal.is_bad_first_column-requires
-is_bad_first_column-requires c = (c.requires.0.slotted, c.requires.1.column, c.requires.3)
+is_bad_first_column-requires c = (c.requires.0.column, c.requires.2)
 
 pub returns : goal.returns
 returns c =
@@ -85,4 +85,4 @@ returns c =
     -- there is a first seed
     let seeded : 0 < a.q.seeds = (let z : a.q.seeds ≡ 0 → ⊥ = c.if-seeds-eq0.false in omega arith) in
     λ t. nowhere-by x a.q a.n a.types a.q.never (FirstColumn a.tables.now.targets a.tables.now.sources a.tables.now.lows a.tables.now.highs a.tables.now.lines a.q.column a.q.from a.q.least a.q.most)
-    (first-column x a.q a.n a.tables.now.sources c.requires.0.turned seeded) (c.is_bad_first_column.ensures t a.q.seeds seeded)
+    (first-column x a.q a.n a.tables.now.sources c.args.tables.now.turned seeded) (c.is_bad_first_column.ensures t a.q.seeds seeded)

@@ -1,9 +1,10 @@
 use Rattle.coding.proofs.OperandLaws.{row-beyond, row_of}
-use borrow.Author.Rules.{rules}
+use native.Mathlib.Omega.{arith}
+use mathlib.Core.Path.{refl}
 use Rattle.coding.proofs.row_at.Goals as goal
 
 pub returns-then-code-ge9 : goal.returns-then-code-ge9
 returns-then-code-ge9 c = row-beyond _ c.if-code-ge9.true
 
 pub returns : goal.returns
-returns c = search (row_of, rules)
+returns c = row_of c.from.ensures (omega arith) refl

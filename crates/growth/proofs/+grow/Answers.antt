@@ -29,13 +29,13 @@ loop-t-preserved t c =
     let small : u < 24 = search rules in
     let sized : length a.types ≡ 8 = search rules in
     -- a place is spare
-    let spare : a.k < a.n = omega (arith, c.requires.3, c.if-k-n.false) in
-    let room : a.k < length a.types = omega (arith, sized, spare, c.requires.4) in
+    let spare : a.k < a.n = omega (arith, c.requires.2, c.if-k-n.false) in
+    let room : a.k < length a.types = omega (arith, sized, spare, c.requires.3) in
     let fresh = ap₂ (λ (x y : Bool). x && not y) c.has.ensures c.has-in-loop-t.ensures in
     elim c.if-has.branch [
       | then-has+in_default w ↦ subst (Tried S 24 a.types a.k a.forb a.n g (u + 1)) (sym w.f-is)
           (tried-call S 24 a.types a.k a.forb a.n g u f w.with-f.result small room
-          (blind-later S a.q.seeds a.k c.requires.2 (blind-solution _ a.q a.n c.requires.1))
+          (blind-later S a.q.seeds a.k c.requires.1 (blind-solution _ a.q a.n c.requires.0))
           (and_left (bit u g) (not (bit u f)) (sym fresh ∙ w.if-has.true)) c.loop-t.invariant
           ((rw w.put.ensures at w.in_default.ensures).complete refl) w.with-f.ensures)
       | else-has w ↦ subst (Tried S 24 a.types a.k a.forb a.n g (u + 1)) (sym w.f-is)

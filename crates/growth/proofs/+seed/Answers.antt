@@ -16,6 +16,6 @@ returns-in-Some t c =
     let a = c.args in
     let sized : length a.types ≡ 8 = search rules in
     -- object k is a seed
-    let among : a.k < a.q.seeds = omega (arith, c.requires.2, c.if-k-q.false) in
-    let room : a.k < length a.types = omega (arith, sized, among, c.requires.3, c.requires.4) in
+    let among : a.k < a.q.seeds = omega (arith, c.requires.1, c.if-k-q.false) in
+    let room : a.k < length a.types = omega (arith, sized, among, c.requires.2, c.requires.3) in
     grown-chosen _ _ _ _ _ c.loop-t.t _ _ room (rw c.put.ensures at c.in-Some.ensures) refl

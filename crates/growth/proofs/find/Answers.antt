@@ -12,7 +12,7 @@ returns-then-n-q c = answers-few _ _ _ _ _ c.if-n-q.true refl
 pub seed-requires : goal.seed-requires
 seed-requires c =
     let p = c.requires in
-    (p.0, p.1, omega arith, c.if-n-q.false, p.2, small-zeros 8)
+    (p.0, omega arith, c.if-n-q.false, p.1, small-zeros 8)
 
 pub returns : goal.returns
 returns c = answers-grown _ _ _ _ _ _ c.seed.ensures

@@ -6,7 +6,8 @@ use lib.ListN.{replicate}
 use Rattle.std.specs.Prelude.{is_some}
 use Rattle.growing.specs.Growth.{Ended}
 use Rattle.worlds.specs.Asked.{Sane, Solution, world_built}
-use Rattle.worlds.specs.Kept.{Slotted, sheet}
+use Rattle.worlds.specs.Coherent.{Slotted}
+use Rattle.worlds.specs.Kept.{sheet}
 use Rattle.worlds.specs.declared.Lines.{Lines}
 use Rattle.worlds.specs.declared.Query.{Query}
 use Rattle.relaxing.specs.Relaxed.{freed}
@@ -15,10 +16,10 @@ use Rattle.relaxing.proofs.is_stuck.Goals as goal
 
 pub ends-requires : goal.ends-requires
 ends-requires c = (
-  subst Slotted (sym c.without_lows.ensures) (slotted-unforced c.args.tables.now.lines c.requires.0),
-  subst Sane (sym c.without_least.ensures) (sane-freed c.args.q c.requires.1),
-  c.requires.1.few,
-  c.requires.2,
+  subst Slotted (sym c.without_lows.ensures) (slotted-unforced c.args.tables.now.lines c.args.tables.now.slotted),
+  subst Sane (sym c.without_least.ensures) (sane-freed c.args.q c.requires.0),
+  c.requires.0.few,
+  c.requires.1,
 )
 
 pub returns : goal.returns
@@ -26,7 +27,7 @@ returns c =
     let a = c.args in
     let m = world_built a.q.seeds c.ends.result in
     let ok = is_some c.ends.result in
-    λ t singles n lows. stuck (sheet a.tables.now.usable singles a.tables.now.targets lows a.tables.now.highs a.tables.now.lines) a.q a.types m c.requires.1
+    λ t singles n lows. stuck (sheet a.tables.now.usable singles a.tables.now.targets lows a.tables.now.highs a.tables.now.lines) a.q a.types m c.requires.0
     (subst (λ (y : Lines). Ended (Solution (sheet a.tables.now.usable 0 a.tables.now.targets (replicate 768 0) a.tables.now.highs y) (freed a.q) a.q.seeds) a.types a.q.seeds false ok m) c.without_lows.ensures
     (subst (λ (y : Query). Ended (Solution (sheet a.tables.now.usable 0 a.tables.now.targets (replicate 768 0) a.tables.now.highs c.without_lows.result) y a.q.seeds) a.types a.q.seeds false ok m) c.without_least.ensures c.ends.ensures))
     (c.is_none.ensures ∙ ap not t) n

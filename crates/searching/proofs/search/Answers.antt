@@ -5,9 +5,6 @@ use Rattle.diagrams.proofs.ViewLaws.{type-count}
 use Rattle.searching.proofs.LevelLaws.{level-found, level-none, site-known}
 use Rattle.searching.proofs.search.Goals as goal
 
-pub find_break-requires : goal.find_break-requires
-find_break-requires c = let r = c.requires.2 in (record { slotted = r.sheet-is.slotted; turned = r.sources-are }, c.requires.3)
-
 pub returns-in_err-site : goal.returns-in_err-site
 returns-in_err-site c =
     let p = c.requires in

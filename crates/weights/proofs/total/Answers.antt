@@ -9,7 +9,7 @@ loop-o-init c = (
 )
 
 pub number_of-requires : goal.number_of-requires
-number_of-requires c = (c.requires.3 c.from.result, search rules, search rules)
+number_of-requires c = (c.requires.2 c.from.result, search rules)
 
 pub loop-o-preserved : goal.loop-o-preserved
 loop-o-preserved c = let l = c.loop-o in (

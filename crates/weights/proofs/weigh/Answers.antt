@@ -5,7 +5,7 @@ use native.Mathlib.Omega.{arith}
 use Rattle.weights.proofs.weigh.Goals as goal
 
 pub scale_of-x-requires : goal.scale_of-x-requires
-scale_of-x-requires c = (c.requires.0.slotted, c.requires.1.row, c.requires.4 0, omega arith)
+scale_of-x-requires c = (c.requires.0.row, c.requires.3 0, omega arith)
 
 pub returns : goal.returns
-returns c = short-of _ _ _ _ _ _ _ _ _ _ _ _ (search rules) c.requires.0.turned refl c.scale_of-x.ensures c.lacking.ensures
+returns c = short-of _ _ _ _ _ _ _ _ _ _ _ _ (search rules) c.args.tables.now.turned refl c.scale_of-x.ensures c.lacking.ensures

@@ -12,7 +12,7 @@ use Rattle.aims.proofs.asks.ask_absent.Goals as goal
 pub find-requires : goal.find-requires
 find-requires c =
     let s = c.args in
-    let p = c.requires in (p.0, sane-of (c.with_never-q.ensures ∙ ap (λ (y : Query). avoiding y s.a) c.with_seeds.ensures) (fit-avoiding 0 (seeded 0 0 0 0) s.a (fit-seeded 0 0 0 0 (omega arith))), p.1)
+    let p = c.requires in (sane-of (c.with_never-q.ensures ∙ ap (λ (y : Query). avoiding y s.a) c.with_seeds.ensures) (fit-avoiding 0 (seeded 0 0 0 0) s.a (fit-seeded 0 0 0 0 (omega arith))), p)
 
 pub returns : goal.returns
 returns c =

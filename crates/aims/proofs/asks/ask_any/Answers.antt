@@ -9,7 +9,7 @@ use Rattle.aims.proofs.asks.ask_any.Goals as goal
 pub find-requires : goal.find-requires
 find-requires c =
     let s = c.args in
-    let p = c.requires in (p.0, sane-of c.with_seeds-q.ensures (fit-seeded 0 0 0 0 (omega arith)), p.1)
+    let p = c.requires in (sane-of c.with_seeds-q.ensures (fit-seeded 0 0 0 0 (omega arith)), p)
 
 pub returns : goal.returns
 returns c = any-said _ _ _ _ _ c.with_seeds-q.ensures c.find.ensures

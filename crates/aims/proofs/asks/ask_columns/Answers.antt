@@ -19,10 +19,10 @@ returns-then-not-meets c = breaks-none _ _ _ _ _ refl (skip-columns _ _ (c.meets
 pub find-requires : goal.find-requires
 find-requires c =
     let s = c.args in
-    let p = c.requires in (p.0, sane-of (c.with_column-q.ensures ∙ ap (λ (y : Query). columned y s.s s.from s.low s.high) c.with_seeds.ensures) (fit-columned 1 (seeded 1 s.a 0 0) s.s (fit-seeded 1 s.a 0 0 (omega arith)) p.2 s.from s.low s.high), p.1)
+    let p = c.requires in (sane-of (c.with_column-q.ensures ∙ ap (λ (y : Query). columned y s.s s.from s.low s.high) c.with_seeds.ensures) (fit-columned 1 (seeded 1 s.a 0 0) s.s (fit-seeded 1 s.a 0 0 (omega arith)) p.1 s.from s.low s.high), p.0)
 
 pub returns : goal.returns
 returns c =
     let s = c.args in
     let p = c.requires in
-    column-said _ _ _ _ _ _ p.2 _ _ _ _ (c.with_column-q.ensures ∙ ap (λ (y : Query). columned y s.s s.from s.low s.high) c.with_seeds.ensures) c.find.ensures
+    column-said _ _ _ _ _ _ p.1 _ _ _ _ (c.with_column-q.ensures ∙ ap (λ (y : Query). columned y s.s s.from s.low s.high) c.with_seeds.ensures) c.find.ensures

@@ -17,10 +17,10 @@ returns-then-not-meets c = breaks-none _ _ _ _ _ refl (skip-half-loops _ _ (c.me
 pub find-requires : goal.find-requires
 find-requires c =
     let s = c.args in
-    let p = c.requires in (p.0, sane-of (c.with_bar-q.ensures ∙ ap (λ (y : Query). barred y s.u 0 0) c.with_link.ensures ∙ ap (λ (y : Query). barred (linked y s.s 0 0) s.u 0 0) c.with_seeds.ensures) (fit-half-loop s.s s.u s.a p.2 p.3), p.1)
+    let p = c.requires in (sane-of (c.with_bar-q.ensures ∙ ap (λ (y : Query). barred y s.u 0 0) c.with_link.ensures ∙ ap (λ (y : Query). barred (linked y s.s 0 0) s.u 0 0) c.with_seeds.ensures) (fit-half-loop s.s s.u s.a p.1 p.2), p.0)
 
 pub returns : goal.returns
 returns c =
     let s = c.args in
     let p = c.requires in
-    half-loop-said _ _ _ _ _ _ _ p.2 p.3 _ (c.with_bar-q.ensures ∙ ap (λ (y : Query). barred y s.u 0 0) c.with_link.ensures ∙ ap (λ (y : Query). barred (linked y s.s 0 0) s.u 0 0) c.with_seeds.ensures) c.find.ensures
+    half-loop-said _ _ _ _ _ _ _ p.1 p.2 _ (c.with_bar-q.ensures ∙ ap (λ (y : Query). barred y s.u 0 0) c.with_link.ensures ∙ ap (λ (y : Query). barred (linked y s.s 0 0) s.u 0 0) c.with_seeds.ensures) c.find.ensures

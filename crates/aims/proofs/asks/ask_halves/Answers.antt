@@ -20,10 +20,10 @@ returns-then-not-meets-2 c = breaks-none _ _ _ _ _ refl (skip-halves-to _ _ (c.m
 pub find-requires : goal.find-requires
 find-requires c =
     let s = c.args in
-    let p = c.requires in (p.0, sane-of (c.with_bar-q.ensures ∙ ap (λ (y : Query). barred y s.u 1 0) c.with_link.ensures ∙ ap (λ (y : Query). barred (linked y s.s 0 1) s.u 1 0) c.with_seeds.ensures) (fit-half s.s s.u s.a s.b p.2 p.3), p.1)
+    let p = c.requires in (sane-of (c.with_bar-q.ensures ∙ ap (λ (y : Query). barred y s.u 1 0) c.with_link.ensures ∙ ap (λ (y : Query). barred (linked y s.s 0 1) s.u 1 0) c.with_seeds.ensures) (fit-half s.s s.u s.a s.b p.1 p.2), p.0)
 
 pub returns : goal.returns
 returns c =
     let s = c.args in
     let p = c.requires in
-    half-said _ _ _ _ _ _ _ p.2 p.3 _ _ (c.with_bar-q.ensures ∙ ap (λ (y : Query). barred y s.u 1 0) c.with_link.ensures ∙ ap (λ (y : Query). barred (linked y s.s 0 1) s.u 1 0) c.with_seeds.ensures) c.find.ensures
+    half-said _ _ _ _ _ _ _ p.1 p.2 _ _ (c.with_bar-q.ensures ∙ ap (λ (y : Query). barred y s.u 1 0) c.with_link.ensures ∙ ap (λ (y : Query). barred (linked y s.s 0 1) s.u 1 0) c.with_seeds.ensures) c.find.ensures

@@ -20,10 +20,10 @@ returns-then-not-meets-2 c = breaks-none _ _ _ _ _ refl (skip-links-to _ _ (c.me
 pub find-requires : goal.find-requires
 find-requires c =
     let s = c.args in
-    let p = c.requires in (p.0, sane-of (c.with_link-q.ensures ∙ ap (λ (y : Query). linked y s.s 0 1) c.with_seeds.ensures) (fit-link s.s s.a s.b p.2), p.1)
+    let p = c.requires in (sane-of (c.with_link-q.ensures ∙ ap (λ (y : Query). linked y s.s 0 1) c.with_seeds.ensures) (fit-link s.s s.a s.b p.1), p.0)
 
 pub returns : goal.returns
 returns c =
     let s = c.args in
     let p = c.requires in
-    link-said _ _ _ _ _ _ p.2 _ _ (c.with_link-q.ensures ∙ ap (λ (y : Query). linked y s.s 0 1) c.with_seeds.ensures) c.find.ensures
+    link-said _ _ _ _ _ _ p.1 _ _ (c.with_link-q.ensures ∙ ap (λ (y : Query). linked y s.s 0 1) c.with_seeds.ensures) c.find.ensures

@@ -17,10 +17,10 @@ returns-then-not-meets c = breaks-none _ _ _ _ _ refl (skip-loops _ _ (c.meets.e
 pub find-requires : goal.find-requires
 find-requires c =
     let s = c.args in
-    let p = c.requires in (p.0, sane-of (c.with_link-q.ensures ∙ ap (λ (y : Query). linked y s.s 0 0) c.with_seeds.ensures) (fit-loop s.s s.a p.2), p.1)
+    let p = c.requires in (sane-of (c.with_link-q.ensures ∙ ap (λ (y : Query). linked y s.s 0 0) c.with_seeds.ensures) (fit-loop s.s s.a p.1), p.0)
 
 pub returns : goal.returns
 returns c =
     let s = c.args in
     let p = c.requires in
-    loop-said _ _ _ _ _ _ p.2 _ (c.with_link-q.ensures ∙ ap (λ (y : Query). linked y s.s 0 0) c.with_seeds.ensures) c.find.ensures
+    loop-said _ _ _ _ _ _ p.1 _ (c.with_link-q.ensures ∙ ap (λ (y : Query). linked y s.s 0 0) c.with_seeds.ensures) c.find.ensures

@@ -17,7 +17,7 @@ returns-then-not-meets c = breaks-none _ _ _ _ _ refl (skip-pairs _ _ (c.meets.e
 pub find-requires : goal.find-requires
 find-requires c =
     let s = c.args in
-    let p = c.requires in (p.0, sane-of c.with_seeds-q.ensures (fit-seeded 2 s.a s.a 0 (omega arith)), p.1)
+    let p = c.requires in (sane-of c.with_seeds-q.ensures (fit-seeded 2 s.a s.a 0 (omega arith)), p)
 
 pub returns : goal.returns
 returns c = pair-said _ _ _ _ _ _ c.with_seeds-q.ensures c.find.ensures

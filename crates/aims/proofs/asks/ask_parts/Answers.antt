@@ -23,10 +23,10 @@ returns-then-not-meets-3 c = breaks-none _ _ _ _ _ refl (skip-parts-too _ _ (c.m
 pub find-requires : goal.find-requires
 find-requires c =
     let s = c.args in
-    let p = c.requires in (p.0, sane-of (c.with_link-q.ensures ∙ ap (λ (y : Query). linked y s.u 2 0) c.with_link.ensures ∙ ap (λ (y : Query). linked (linked y s.s 1 0) s.u 2 0) c.with_seeds.ensures) (fit-part s.s s.u s.a s.b s.c p.2 p.3), p.1)
+    let p = c.requires in (sane-of (c.with_link-q.ensures ∙ ap (λ (y : Query). linked y s.u 2 0) c.with_link.ensures ∙ ap (λ (y : Query). linked (linked y s.s 1 0) s.u 2 0) c.with_seeds.ensures) (fit-part s.s s.u s.a s.b s.c p.1 p.2), p.0)
 
 pub returns : goal.returns
 returns c =
     let s = c.args in
     let p = c.requires in
-    part-said _ _ _ _ _ _ _ p.2 p.3 _ _ _ (c.with_link-q.ensures ∙ ap (λ (y : Query). linked y s.u 2 0) c.with_link.ensures ∙ ap (λ (y : Query). linked (linked y s.s 1 0) s.u 2 0) c.with_seeds.ensures) c.find.ensures
+    part-said _ _ _ _ _ _ _ p.1 p.2 _ _ _ (c.with_link-q.ensures ∙ ap (λ (y : Query). linked y s.u 2 0) c.with_link.ensures ∙ ap (λ (y : Query). linked (linked y s.s 1 0) s.u 2 0) c.with_seeds.ensures) c.find.ensures

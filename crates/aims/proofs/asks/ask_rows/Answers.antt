@@ -19,10 +19,10 @@ returns-then-not-meets c = breaks-none _ _ _ _ _ refl (skip-rows _ _ (c.meets.en
 pub find-requires : goal.find-requires
 find-requires c =
     let s = c.args in
-    let p = c.requires in (p.0, sane-of (c.with_row-q.ensures ∙ ap (λ (y : Query). rowed y s.s s.low s.high) c.with_seeds.ensures) (fit-rowed 1 (seeded 1 s.a 0 0) s.s (fit-seeded 1 s.a 0 0 (omega arith)) p.2 s.low s.high), p.1)
+    let p = c.requires in (sane-of (c.with_row-q.ensures ∙ ap (λ (y : Query). rowed y s.s s.low s.high) c.with_seeds.ensures) (fit-rowed 1 (seeded 1 s.a 0 0) s.s (fit-seeded 1 s.a 0 0 (omega arith)) p.1 s.low s.high), p.0)
 
 pub returns : goal.returns
 returns c =
     let s = c.args in
     let p = c.requires in
-    row-said _ _ _ _ _ _ p.2 _ _ _ (c.with_row-q.ensures ∙ ap (λ (y : Query). rowed y s.s s.low s.high) c.with_seeds.ensures) c.find.ensures
+    row-said _ _ _ _ _ _ p.1 _ _ _ (c.with_row-q.ensures ∙ ap (λ (y : Query). rowed y s.s s.low s.high) c.with_seeds.ensures) c.find.ensures

@@ -11,7 +11,7 @@ pub returns-then-not-has : goal.returns-then-not-has
 returns-then-not-has c = breaks-none _ _ _ _ _ refl (single-off _ _ _ _ (by-no c.has.ensures (ap not c.if-not-has.true)))
 
 pub returns-then-has : goal.returns-then-has
-returns-then-has c = breaks-none _ _ _ _ _ refl (single-own _ _ _ _ c.requires.2 (is-yes c.has-2.ensures c.if-has.true))
+returns-then-has c = breaks-none _ _ _ _ _ refl (single-own _ _ _ _ c.requires.1 (is-yes c.has-2.ensures c.if-has.true))
 
 pub returns-in-Some : goal.returns-in-Some
 returns-in-Some c =

@@ -1,7 +1,6 @@
 -- `back::is_apart_from_back` meets its contract: one column after the other.
 -- Assumes nothing.
 use Prim.Native.Nat.{◌+◌}
-use mathlib.Core.Bool.{false≢true}
 use mathlib.Core.Path.{◌∙◌, sym}
 use native.Mathlib.Omega.{arith}
 use lib.Dec.{eqb}

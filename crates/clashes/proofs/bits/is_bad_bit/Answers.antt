@@ -1,7 +1,6 @@
 -- `bits::is_bad_bit` meets its contract.
 -- Assumes nothing.
 use Prim.Native.Nat.{◌%◌, ◌+◌}
-use mathlib.Core.Bool.{false≢true}
 use native.Mathlib.Omega.{arith}
 use Rattle.clashes.proofs.BitsLaws.{bad-row}
 use Rattle.clashes.proofs.bits.is_bad_bit.Goals as goal

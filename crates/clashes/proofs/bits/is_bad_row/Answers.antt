@@ -1,7 +1,7 @@
 -- `bits::is_bad_row` meets its contract.
 -- Assumes nothing.
 use Prim.Native.Nat.{ℕ}
-use mathlib.Core.Bool.{Bool, ◌&&◌, ◌||◌, false≢true, not}
+use mathlib.Core.Bool.{Bool, ◌&&◌, ◌||◌, not}
 use mathlib.Core.Path.{◌∙◌, ap, ap₂, sym}
 use Rattle.laws.specs.Bits.{bit}
 use Rattle.laws.proofs.BoundedLaws.{any_of}

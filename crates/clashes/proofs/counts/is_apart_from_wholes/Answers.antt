@@ -1,6 +1,5 @@
 -- `counts::is_apart_from_wholes` meets its contract.
 -- Assumes nothing.
-use mathlib.Core.Bool.{false≢true}
 use mathlib.Core.Path.{◌∙◌, sym}
 use lib.Dec.{eqb}
 use lib.ListN.{get_or}

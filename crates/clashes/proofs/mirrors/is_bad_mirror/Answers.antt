@@ -1,7 +1,6 @@
 -- `mirrors::is_bad_mirror` meets its contract.
 -- Assumes nothing.
 use Prim.Native.Nat.{◌%◌, ◌/◌, ℕ}
-use mathlib.Core.Bool.{false≢true}
 use mathlib.Core.Path.{◌∙◌, ap, sym}
 use lib.Dec.{ltb}
 use borrow.Author.Tests.{ltb-true}

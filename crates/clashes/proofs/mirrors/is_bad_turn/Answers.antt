@@ -1,6 +1,5 @@
 -- `mirrors::is_bad_turn` meets its contract.
 -- Assumes nothing.
-use mathlib.Core.Bool.{false≢true}
 use Rattle.clashes.proofs.MirrorLaws.{turn-refuted}
 use Rattle.clashes.proofs.mirrors.is_bad_turn.Goals as goal
 

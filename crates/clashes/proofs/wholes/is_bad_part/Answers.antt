@@ -1,6 +1,5 @@
 -- `wholes::is_bad_part` meets its contract.
 -- Assumes nothing.
-use mathlib.Core.Bool.{false≢true}
 use native.Mathlib.Omega.{arith}
 use Rattle.clashes.proofs.PartLaws.{part-refuted}
 use Rattle.clashes.proofs.wholes.is_bad_part.Goals as goal

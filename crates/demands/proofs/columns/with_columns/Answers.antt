@@ -15,7 +15,7 @@ loop-j-init c = sharp-same _ _
 
 pub with_column-requires : goal.with_column-requires
 with_column-requires c =
-    (c.requires.0, c.requires.1.column c.loop-j.j c.loop-j-test.true)
+    (c.requires, c.args.tables.now.slotted.column c.loop-j.j c.loop-j-test.true)
 
 pub returns-in_err-best : goal.returns-in_err-best
 returns-in_err-best c =

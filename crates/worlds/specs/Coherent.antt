@@ -1,0 +1,16 @@
+-- What code asks of tables.
+-- Assumes nothing.
+use Rattle.std.specs.Prelude.{◌*◌, ◌+◌, ◌<◌, ℕ, List, ◌≡◌, get_or}
+use Rattle.laws.specs.Bits.{bit}
+use Rattle.worlds.specs.declared.Lines.{Lines}
+
+-- the slots of lines are role slots
+pub record Slotted (x : Lines) : Type 0 where
+  pub column : (j : ℕ) → j < 16 → get_or x.columnslot j 0 < 32
+  pub right : (j : ℕ) → j < 16 → get_or x.mirrorright j 0 < 32
+  pub left : (j : ℕ) → j < 16 → get_or x.mirrorleft j 0 < 32
+  pub whole : (j : ℕ) → j < 16 → get_or x.wholeslot j 0 < 32
+
+-- the table of sources is the table of targets, turned: t may have u as a target in slot s
+pub record SourceTable (targets sources : List ℕ) : Type 0 where
+  pub at : (t s u : ℕ) → t < 24 → s < 32 → u < 24 → bit t (get_or sources (u * 32 + s) 0) ≡ bit u (get_or targets (t * 32 + s) 0)
