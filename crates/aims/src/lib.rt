@@ -15,6 +15,9 @@ mod rows;
 mod singles;
 mod wholes;
 
+// A search that finds nothing is followed by the next, here and in the modules, by `if let`: what holds where it found nothing is at hand
+// there, and not in a closure for `or_else` or `find_map`.
+
 // Any world, where a singleton class is missing.
 fn find_any(tables: &Tables, missing: bool, n: u8) -> Option<Site>
     requires { n ≤ 8 }

@@ -6,6 +6,7 @@ ghost use Rattle.worlds.specs.Asked.{Breaks, world_built};
 ghost use Rattle.aims.specs.Rows.{AllLinksAvoided, HighsKept, LowsKept, RowKept, RowWithin, RowTargetsKept};
 
 use crate::asks::{ask_links, ask_loops, ask_rows};
+use laws::Mask;
 use worlds::{Others, Site, Tables};
 
 // The type that the row at i speaks of, as a set.
@@ -39,7 +40,7 @@ fn find_target(tables: &Tables, i: usize, others: &Others, n: u8) -> Option<Site
     requires { (n ≤ 8) × (i < 768) }
     ensures { Breaks (sheet_of tables.now) (RowTargetsKept others.now.targets i) n (is_some result) (world_built n result) }
 {
-    let b = type_tables::without(tables.targets[i], others.targets[i]);
+    let b = tables.targets[i].minus(others.targets[i]);
     if b == 0 {
         return None;
     }
@@ -92,7 +93,7 @@ fn is_new_row(tables: &Tables, others: &Others, i: usize) -> bool
     requires { i < 768 }
     ensures { result ≡ false → RowWithin tables.now.targets tables.now.lows tables.now.highs others.now.targets others.now.lows others.now.highs i }
 {
-    if type_tables::without(tables.targets[i], others.targets[i]) != 0 {
+    if tables.targets[i].minus(others.targets[i]) != 0 {
         return true;
     }
     (tables.lows[i] < others.lows[i]) | (others.highs[i] < tables.highs[i])

@@ -1,20 +1,21 @@
--- The bench in memory and what it stands for, part by part; and for each of the two ways to change it three laws: what the changed
--- bench stands for, that it is valid, and what stays.
+-- The bench in memory and what it stands for, part by part; and for each of the two ways to change it two laws: what the changed
+-- bench stands for, and what stays.
 -- Assumes nothing.
 use Prim.Native.Nat.{ℕ}
 use mathlib.Core.Bool.{Bool, cond, false, false≢true, not, true, true≢false}
 use mathlib.Core.Option.{none}
-use Rattle.std.specs.Prelude.{Option, IfSome}
+use Rattle.std.specs.Prelude.{Option, None, Some, IfSome}
 use mathlib.Core.Path.{◌∙◌, ◌≡◌, ap, refl, sym}
 use lib.Dec.{eqb}
-use Rattle.diagrams.specs.declared.StoredDiagram.{StoredDiagram}
+use Rattle.diagrams.specs.declared.ReadDiagram.{ReadDiagram}
 use Rattle.steps.specs.Bench as abstract
 use Rattle.steps.specs.Bench.{Call, done, is_refusal, place_of, settle, with_witness}
 use Rattle.steps.specs.Effect.{Effect, at_place, at_witness, changes, effect, new_place, old_place, witness}
-use Rattle.bench.specs.Calls.{Stays, Valid, ValidPlace, ValidWitness}
-use Rattle.bench.specs.View.{bench_of, diagram_in, fresh_in, no_witness, pick, place_in, settled_in, with_witness_in, witness_in}
-use Rattle.bench.specs.declared.Bench.{Bench}
-use Rattle.bench.specs.declared.Witness.{Witness}
+use Rattle.bench.specs.Calls.{Stays, Valid, ValidPlace}
+use Rattle.bench.specs.Parts.{ValidWitness, diagram_in, no_witness, pick, witness_in}
+use Rattle.bench.specs.View.{bench_of, place_in, settled_in, with_witness_in}
+use Rattle.bench.specs.declared.parts.Bench.{Bench}
+use Rattle.bench.specs.declared.parts.Witness.{Witness}
 
 -- ---- a place
 
@@ -26,19 +27,15 @@ place_is b p = by (eqb p 0)
     by true = refl
     by false = refl
 
--- ---- a valid bench
+-- ---- every bench is a valid one
 
 -- a diagram in a place is one that was read
-pub held_place : (b : Bench) (p : ℕ) → Valid b → ValidPlace (place_in b p)
-unfolding pick
-held_place b p v = by (eqb p 0)
-  where
-    by : (t : Bool) → ValidPlace (cond t b.old b.new)
-    by true = v.old
-    by false = v.new
+valid_place : (x : Option ReadDiagram) → ValidPlace x
+valid_place (Some d) = d.held
+valid_place None = tt
 
-pub valid-fresh : Valid fresh_in
-valid-fresh = record { old = tt; new = tt; witness = tt }
+pub valid : (b : Bench) → Valid b
+valid b = record { old = valid_place b.old; new = valid_place b.new; witness = b.fits }
 
 -- ---- what stays where nothing changes
 
@@ -47,9 +44,9 @@ stays_all b c reply = record { refused = λ h. refl; old = λ h. refl; new = λ 
 
 -- ---- a place set, the witness dropped
 
-module _ (b : Bench) (p : ℕ) (x : Option StoredDiagram) where
+module _ (b : Bench) (p : ℕ) (x : Option ReadDiagram) where
   abbrev by_place : Bool → Bench
-  by_place t = cond t (record { old = x; new = b.new; witness = no_witness }) (record { old = b.old; new = x; witness = no_witness })
+  by_place t = cond t (record { old = x; new = b.new; witness = no_witness; fits = tt }) (record { old = b.old; new = x; witness = no_witness; fits = tt })
 
   pub settled_is : bench_of (settled_in b p x) ≡ settle p (diagram_in x) (bench_of b)
   unfolding bench_of settled_in settle
@@ -59,14 +56,6 @@ module _ (b : Bench) (p : ℕ) (x : Option StoredDiagram) where
           ≡ cond t (record { old = diagram_in x; new = diagram_in b.new; witness = none }) (record { old = diagram_in b.old; new = diagram_in x; witness = none })
       by true = refl
       by false = refl
-
-  pub valid-settled : Valid b → ValidPlace x → Valid (settled_in b p x)
-  unfolding settled_in
-  valid-settled v k = by (eqb p 0)
-    where
-      by : (t : Bool) → Valid (by_place t)
-      by true = record { old = k; new = v.new; witness = tt }
-      by false = record { old = v.old; new = k; witness = tt }
 
   -- of a call that sets this place
   pub settled-stays : (c : Call) → effect c ≡ record { on = at_place p; lends = none } → Stays b c done (settled_in b p x)
@@ -92,16 +81,13 @@ module _ (b : Bench) (p : ℕ) (x : Option StoredDiagram) where
 
 -- ---- the witness stored or dropped
 
-module _ (b : Bench) (w : Option Witness) where
-  pub witness-is : bench_of (with_witness_in b w) ≡ with_witness (witness_in b.old b.new w) (bench_of b)
+module _ (b : Bench) (w : Option Witness) (k : IfSome w (ValidWitness b.old b.new)) where
+  pub witness-is : bench_of (with_witness_in b w k) ≡ with_witness (witness_in b.old b.new w) (bench_of b)
   unfolding bench_of with_witness
   witness-is = refl
 
-  pub valid-witness : Valid b → IfSome w (ValidWitness b.old b.new) → Valid (with_witness_in b w)
-  valid-witness v k = record { old = v.old; new = v.new; witness = k }
-
   -- of a call that changes the witness alone
-  pub witness-stays : (c : Call) (reply : abstract.Reply) → effect c ≡ record { on = at_witness; lends = none } → is_refusal reply ≡ false → Stays b c reply (with_witness_in b w)
+  pub witness-stays : (c : Call) (reply : abstract.Reply) → effect c ≡ record { on = at_witness; lends = none } → is_refusal reply ≡ false → Stays b c reply (with_witness_in b w k)
   unfolding changes
   witness-stays c reply q r = record {
     refused = λ h. absurd (true≢false (sym h ∙ r));

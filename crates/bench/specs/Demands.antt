@@ -16,7 +16,7 @@ use Rattle.steps.specs.Step.{Step}
 use Rattle.bench.specs.Calls.{Does, Valid}
 use Rattle.bench.specs.Runs.{Did, Made, ReachedIn, Run, after, event_of, events_of, outcome_of}
 use Rattle.bench.specs.View.{bench_of}
-use Rattle.bench.specs.declared.Bench.{Bench}
+use Rattle.bench.specs.declared.parts.Bench.{Bench}
 use Rattle.bench.specs.declared.Replied.{Replied}
 
 -- ---- demand 1: every call gets a defined reply, and a refusal changes nothing
@@ -28,7 +28,7 @@ pub record Answered (b : Bench) (m : Made) : Type 0 where
   -- refused, the bench in memory is as it came, byte for byte
   pub bench : is_refusal (event_of m).outcome.reply ≡ true → after m ≡ b
 
--- What a call requires holds of every bench that is reached; of place, file, bound and buffer a call requires nothing.
+-- The places of every bench that is reached hold diagrams that were read, and its witness has an index for everything; a call requires nothing.
 abbrev pub RunsDemandOne : Type 0
 RunsDemandOne = (b : Bench) → ReachedIn b → Valid b × ((m : Made) → Did b m → Answered b m)
 

@@ -1,3 +1,5 @@
+pub mod Parts
+pub mod PartsProp
 pub mod View
 pub mod Calls
 pub mod Runs

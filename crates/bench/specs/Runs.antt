@@ -1,12 +1,12 @@
 -- Rows of the code's own calls, over the bench in memory.
--- Each call of a run keeps its promise (`Does`); what it requires (`Valid`) is a theorem about runs.
+-- Each call of a run keeps its promise (`Does`).
 -- Assumes nothing.
 use Rattle.std.specs.Prelude.{ℕ, List, [], ◌∷◌, map, ◌≡◌}
 use Rattle.steps.specs.Bench.{Call, Compile, Outcome}
 use Rattle.steps.specs.Row.{Event, Row}
 use Rattle.bench.specs.Calls.{Does, DoesWith, Valid}
 use Rattle.bench.specs.View.{bench_of, fresh_in, reply_of}
-use Rattle.bench.specs.declared.Bench.{Bench}
+use Rattle.bench.specs.declared.parts.Bench.{Bench}
 use Rattle.bench.specs.declared.Listed.{Listed}
 use Rattle.bench.specs.declared.Replied.{Replied}
 
@@ -50,6 +50,6 @@ events_of ms = map event_of ms
 abbrev pub RunsRow : Type 0
 RunsRow = (b : Bench) (ms : List Made) (c : Bench) → Run b ms c → Row (bench_of b) (events_of ms) (bench_of c)
 
--- the bench that a run from the fresh one reaches is one that the next call may get
+-- what holds of every bench holds of one that a run from the fresh one reaches
 abbrev pub RunsValid : Type 0
 RunsValid = (b : Bench) → ReachedIn b → Valid b

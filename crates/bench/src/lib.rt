@@ -1,28 +1,20 @@
 // The bench: two places for diagrams, old and new, and at most one witness; and its calls.
 #![tactic(auto)]
 
+mod parts; // parts.rt: the struct, and what holds of its parts
+
 ghost use Rattle.std.specs.Prelude.{[], ◌≡◌};
 ghost use Rattle.steps.specs.Bench.{Load, Clear, Judge, Compile, Evaluate, Compare, HandOut, LoadText};
-ghost use Rattle.bench.specs.View.{fresh_in, place_in, replied_by, settled_in};
-ghost use Rattle.bench.specs.Calls.{Does, DoesWith, Finds, Valid};
+ghost use Rattle.steps.specs.Step.{clear, diagram_at, evaluated, judged, load, load_text};
+ghost use Rattle.fields.specs.Refusal.{answer_of};
+ghost use Rattle.bench.specs.Parts.{diagram_by, diagram_in};
+ghost use Rattle.bench.specs.View.{asked_in, bench_of, fresh_in, left_by, listed_by, place_in, placed_in, reply_by, said_by};
+ghost use Rattle.bench.specs.Calls.{Chose, Does, DoesWith, Placed};
 
-use diagrams::StoredDiagram;
+use diagrams::ReadDiagram;
 use fields::Refusal;
+pub use parts::{Bench, Witness};
 use records::MemoryRecord;
-
-#[derive(Clone, Copy)]
-pub struct Witness {
-    // The place of the diagram whose indices the record has.
-    pub place: u8,
-    pub found: MemoryRecord,
-}
-
-#[derive(Clone, Copy)]
-pub struct Bench {
-    pub old: Option<StoredDiagram>,
-    pub new: Option<StoredDiagram>,
-    pub witness: Option<Witness>,
-}
 
 #[derive(Clone, Copy)]
 pub enum Reply {
@@ -42,6 +34,13 @@ pub struct Replied {
     pub reply: Reply,
 }
 
+// What compile replies, and its list.
+#[derive(Clone, Copy)]
+pub struct CompileReply {
+    pub reply: Reply,
+    pub list: [u8; 320],
+}
+
 // What compile gives besides: 64 entries of five bytes, all zero where it was refused.
 #[derive(Clone, Copy)]
 pub struct Listed {
@@ -53,7 +52,7 @@ pub struct Listed {
 // ---- parts
 
 pub fn fresh() -> Bench
-    ensures { (result ≡ fresh_in) × Valid result }
+    ensures { result ≡ fresh_in }
 {
     Bench {
         old: None,
@@ -62,211 +61,181 @@ pub fn fresh() -> Bench
     }
 }
 
-// Place p is x, and the witness is dropped.
-fn settle(b: Bench, p: u8, x: Option<StoredDiagram>) -> Bench
-    ensures { result ≡ settled_in b p x }
+// A bench has the places 0 and 1.
+fn check_place(p: u8) -> Result<(), Refusal>
+    ensures { Placed p result }
 {
-    let witness = None;
-    if p == 0 {
-        Bench {
-            old: x,
-            witness,
-            ..b
-        }
-    } else {
-        Bench {
-            new: x,
-            witness,
-            ..b
-        }
+    if 1 < p {
+        return Err(Refusal::Place);
     }
+    Ok(())
 }
 
 // What place p holds.
-fn place_of(b: Bench, p: u8) -> Option<StoredDiagram>
-    ensures { result ≡ place_in b p }
+fn place_of(b: &Bench, p: u8) -> Option<ReadDiagram>
+    ensures { result ≡ place_in b.now p }
 {
     if p == 0 { b.old } else { b.new }
 }
 
 // The diagram in place p, which a call needs.
-fn diagram_at(b: Bench, p: u8) -> Result<StoredDiagram, Refusal>
-    requires { Valid b }
-    ensures { Finds b p result }
+fn diagram_at(b: &Bench, p: u8) -> Result<ReadDiagram, Refusal>
+    ensures { answer_of diagram_by result ≡ diagram_at (bench_of b.now) p }
 {
-    if 1 < p {
-        return Err(Refusal::Place);
-    }
+    check_place(p)?;
     place_of(b, p).ok_or(Refusal::Empty)
 }
 
-// What a call gave, or its refusal and the bench as it came.
-fn or_refused(b: Bench, r: Result<Replied, Refusal>) -> Replied
-    ensures { result ≡ replied_by b r }
+// ---- what a call sets a place to, or its refusal
+
+fn loaded(place: u8, file: &[u8]) -> Result<Option<ReadDiagram>, Refusal>
+    ensures { answer_of diagram_in result ≡ load place file.now }
+{
+    check_place(place)?;
+    let d = loading::read_diagram(file)?;
+    Ok(Some(d))
+}
+
+fn loaded_text(place: u8, text: &[u8]) -> Result<Option<ReadDiagram>, Refusal>
+    ensures { answer_of diagram_in result ≡ load_text place text.now }
+{
+    check_place(place)?;
+    let d = text_loading::read_text(text)?;
+    Ok(Some(d))
+}
+
+fn cleared(place: u8) -> Result<Option<ReadDiagram>, Refusal>
+    ensures { answer_of diagram_in result ≡ clear place }
+{
+    check_place(place)?;
+    Ok(None)
+}
+
+// What a call that asks replies.
+fn told(r: Result<Reply, Refusal>) -> Reply
+    ensures { result ≡ reply_by r }
 {
     match r {
-        Ok(replied) => replied,
-        Err(refusal) => Replied {
-            bench: b,
-            reply: Reply::Refused(refusal),
-        },
+        Ok(reply) => reply,
+        Err(refusal) => Reply::Refused(refusal),
     }
 }
 
-// ---- calls, each with what it gives where it is not refused
+// ---- calls on a bench in its place, each behind what it gives where it is not refused
 
 impl Bench {
-    // The place holds the diagram of the file, and the witness is dropped.
-    pub fn load(self, place: u8, file: &[u8]) -> Replied
-        requires { Valid self }
-        ensures { Does self (Load place file.now) result [] }
+    // The place is what was read, or empty, and the witness is dropped; or the refusal, and the bench as it came.
+    fn set(&mut self, place: u8, r: Result<Option<ReadDiagram>, Refusal>) -> Reply
+        ensures { left_by self.exit.now result ≡ placed_in self.entry.now place r }
     {
-        or_refused(self, self.loaded(place, file))
+        match r {
+            Ok(x) => {
+                self.witness = None;
+                if place == 0 {
+                    self.old = x;
+                } else {
+                    self.new = x;
+                }
+                Reply::Done
+            }
+            Err(refusal) => Reply::Refused(refusal),
+        }
     }
 
-    fn loaded(self, place: u8, file: &[u8]) -> Result<Replied, Refusal>
-        requires { Valid self }
-        ensures { Does self (Load place file.now) (replied_by self result) [] }
+    // The place holds the diagram of the file, and the witness is dropped.
+    pub fn run_load(&mut self, place: u8, file: &[u8]) -> Reply
+        ensures { Does self.entry.now (Load place file.now) (left_by self.exit.now result) [] }
     {
-        if 1 < place {
-            return Err(Refusal::Place);
-        }
-        let d = loading::read_diagram(file)?;
-        Ok(Replied {
-            bench: settle(self, place, Some(d)),
-            reply: Reply::Done,
-        })
+        self.set(place, loaded(place, file))
     }
 
     // The place is empty, and the witness is dropped.
-    pub fn clear(self, place: u8) -> Replied
-        requires { Valid self }
-        ensures { Does self (Clear place) result [] }
+    pub fn run_clear(&mut self, place: u8) -> Reply
+        ensures { Does self.entry.now (Clear place) (left_by self.exit.now result) [] }
     {
-        or_refused(self, self.cleared(place))
+        self.set(place, cleared(place))
     }
 
-    fn cleared(self, place: u8) -> Result<Replied, Refusal>
-        requires { Valid self }
-        ensures { Does self (Clear place) (replied_by self result) [] }
-    {
-        if 1 < place {
-            return Err(Refusal::Place);
-        }
-        Ok(Replied {
-            bench: settle(self, place, None),
-            reply: Reply::Done,
-        })
-    }
-
-    // 0, or the lowest rule that the record breaks.
-    pub fn judge(self, place: u8, file: &[u8]) -> Replied
-        requires { Valid self }
-        ensures { Does self (Judge place file.now) result [] }
-    {
-        or_refused(self, self.judged(place, file))
-    }
-
-    fn judged(self, place: u8, file: &[u8]) -> Result<Replied, Refusal>
-        requires { Valid self }
-        ensures { Does self (Judge place file.now) (replied_by self result) [] }
+    fn judged(&self, place: u8, file: &[u8]) -> Result<Reply, Refusal>
+        ensures { said_by result ≡ judged (bench_of self.now) place file.now }
     {
         let d = diagram_at(self, place)?;
         let rule = judging::judge(d, file)?;
-        Ok(Replied {
-            bench: self,
-            reply: Reply::Rule(rule),
-        })
+        Ok(Reply::Rule(rule))
+    }
+
+    // 0, or the lowest rule that the record breaks.
+    pub fn run_judge(&self, place: u8, file: &[u8]) -> Reply
+        ensures { Does self.now (Judge place file.now) (left_by self.now result) [] }
+    {
+        told(self.judged(place, file))
     }
 
     // The compiled records and their number.
-    pub fn compile(self, place: u8) -> Listed
-        requires { Valid self }
-        ensures { DoesWith self (Compile place) result }
+    pub fn run_compile(&self, place: u8) -> CompileReply
+        ensures { DoesWith self.now (Compile place) (listed_by self.now result) }
     {
         match diagram_at(self, place) {
             Ok(d) => {
                 let c = compiling::compile(d);
                 let list = c.list;
-                Listed {
-                    bench: self,
+                CompileReply {
                     reply: Reply::Records(c.number as u8),
                     list,
                 }
             }
-            Err(refusal) => Listed {
-                bench: self,
+            Err(refusal) => CompileReply {
                 reply: Reply::Refused(refusal),
                 list: [0; 320],
             },
         }
     }
 
-    // The number of compiled records if all hold, else the index of the first that does not.
-    pub fn evaluate(self, place: u8, file: &[u8]) -> Replied
-        requires { Valid self }
-        ensures { Does self (Evaluate place file.now) result [] }
-    {
-        or_refused(self, self.evaluated(place, file))
-    }
-
-    fn evaluated(self, place: u8, file: &[u8]) -> Result<Replied, Refusal>
-        requires { Valid self }
-        ensures { Does self (Evaluate place file.now) (replied_by self result) [] }
+    fn evaluated(&self, place: u8, file: &[u8]) -> Result<Reply, Refusal>
+        ensures { said_by result ≡ evaluated (bench_of self.now) place file.now }
     {
         let d = diagram_at(self, place)?;
         let first = evaluating::evaluate(d, file)?;
-        Ok(Replied {
-            bench: self,
-            reply: Reply::FirstFalse(first as u8),
-        })
+        Ok(Reply::FirstFalse(first as u8))
     }
 
-    // Whether some record of at most `bound` objects is legal for old and illegal for new; the witness is stored or dropped.
-    pub fn compare(self, bound: u8) -> Replied
-        requires { Valid self }
-        ensures { Does self (Compare bound) result [] }
+    // The number of compiled records if all hold, else the index of the first that does not.
+    pub fn run_evaluate(&self, place: u8, file: &[u8]) -> Reply
+        ensures { Does self.now (Evaluate place file.now) (left_by self.now result) [] }
     {
-        or_refused(self, self.compared(bound))
+        told(self.evaluated(place, file))
     }
 
-    fn compared(self, bound: u8) -> Result<Replied, Refusal>
-        requires { Valid self }
-        ensures { Does self (Compare bound) (replied_by self result) [] }
+    fn compared(&self, bound: u8) -> Result<Option<MemoryRecord>, Refusal>
+        ensures { Chose self.now bound result }
     {
         if 8 < bound {
             return Err(Refusal::Bound);
         }
         let old = diagram_at(self, 0)?;
         let new = diagram_at(self, 1)?;
-        if let Some(found) = comparing::compare(old, new, bound) {
-            let witness = Some(Witness { place: 0, found });
-            return Ok(Replied {
-                bench: Bench { witness, ..self },
-                reply: Reply::Difference(found.count as u8),
-            });
-        }
-        let none = None;
-        Ok(Replied {
-            bench: Bench {
-                witness: none,
-                ..self
-            },
-            reply: Reply::NoDifference,
-        })
+        Ok(comparing::compare(old, new, bound))
     }
 
-    // The witness as a record file at the front of the buffer.
-    pub fn hand_out(self, out: &mut [u8]) -> Replied
-        requires { Valid self }
-        ensures { Does self (HandOut out.old) result out.new }
+    // Whether some record of at most `bound` objects is legal for old and illegal for new; the witness is stored or dropped.
+    pub fn run_compare(&mut self, bound: u8) -> Reply
+        ensures { Does self.entry.now (Compare bound) (left_by self.exit.now result) [] }
     {
-        or_refused(self, self.handed_out(out))
+        match self.compared(bound) {
+            Ok(Some(found)) => {
+                self.witness = Some(Witness { place: 0, found });
+                Reply::Difference(found.count as u8)
+            }
+            Ok(None) => {
+                self.witness = None;
+                Reply::NoDifference
+            }
+            Err(refusal) => Reply::Refused(refusal),
+        }
     }
 
-    fn handed_out(self, out: &mut [u8]) -> Result<Replied, Refusal>
-        requires { Valid self }
-        ensures { Does self (HandOut out.old) (replied_by self result) out.new }
+    fn handed_out(&self, out: &mut [u8]) -> Result<Reply, Refusal>
+        ensures { Does self.now (HandOut out.old) (asked_in self.now result) out.new }
     {
         let Some(w) = self.witness else {
             return Err(Refusal::NoWitness);
@@ -275,32 +244,86 @@ impl Bench {
             return Err(Refusal::Buffer);
         }
         let d = place_of(self, w.place).unwrap();
-        let n = writing::write_record(d, w.found, out);
-        Ok(Replied {
-            bench: self,
-            reply: Reply::Written(n),
-        })
+        let n = writing::write_record(d, w.found, out).unwrap();
+        Ok(Reply::Written(n))
+    }
+
+    // The witness as a record file at the front of the buffer.
+    pub fn run_hand_out(&self, out: &mut [u8]) -> Reply
+        ensures { Does self.now (HandOut out.old) (left_by self.now result) out.new }
+    {
+        told(self.handed_out(out))
     }
 
     // The place holds the diagram of the text, and the witness is dropped.
-    pub fn load_text(self, place: u8, text: &[u8]) -> Replied
-        requires { Valid self }
-        ensures { Does self (LoadText place text.now) result [] }
+    pub fn run_load_text(&mut self, place: u8, text: &[u8]) -> Reply
+        ensures { Does self.entry.now (LoadText place text.now) (left_by self.exit.now result) [] }
     {
-        or_refused(self, self.loaded_text(place, text))
+        self.set(place, loaded_text(place, text))
+    }
+}
+
+// ---- the same on a bench that is handed on
+
+impl Bench {
+    pub fn load(mut self, place: u8, file: &[u8]) -> Replied
+        ensures { Does self (Load place file.now) result [] }
+    {
+        let reply = self.run_load(place, file);
+        Replied { bench: self, reply }
     }
 
-    fn loaded_text(self, place: u8, text: &[u8]) -> Result<Replied, Refusal>
-        requires { Valid self }
-        ensures { Does self (LoadText place text.now) (replied_by self result) [] }
+    pub fn clear(mut self, place: u8) -> Replied
+        ensures { Does self (Clear place) result [] }
     {
-        if 1 < place {
-            return Err(Refusal::Place);
+        let reply = self.run_clear(place);
+        Replied { bench: self, reply }
+    }
+
+    pub fn judge(self, place: u8, file: &[u8]) -> Replied
+        ensures { Does self (Judge place file.now) result [] }
+    {
+        let reply = self.run_judge(place, file);
+        Replied { bench: self, reply }
+    }
+
+    pub fn compile(self, place: u8) -> Listed
+        ensures { DoesWith self (Compile place) result }
+    {
+        let c = self.run_compile(place);
+        let list = c.list;
+        Listed {
+            bench: self,
+            reply: c.reply,
+            list,
         }
-        let declared = text_loading::read_text(text)?;
-        Ok(Replied {
-            bench: settle(self, place, Some(declared)),
-            reply: Reply::Done,
-        })
+    }
+
+    pub fn evaluate(self, place: u8, file: &[u8]) -> Replied
+        ensures { Does self (Evaluate place file.now) result [] }
+    {
+        let reply = self.run_evaluate(place, file);
+        Replied { bench: self, reply }
+    }
+
+    pub fn compare(mut self, bound: u8) -> Replied
+        ensures { Does self (Compare bound) result [] }
+    {
+        let reply = self.run_compare(bound);
+        Replied { bench: self, reply }
+    }
+
+    pub fn hand_out(self, out: &mut [u8]) -> Replied
+        ensures { Does self (HandOut out.old) result out.new }
+    {
+        let reply = self.run_hand_out(out);
+        Replied { bench: self, reply }
+    }
+
+    pub fn load_text(mut self, place: u8, text: &[u8]) -> Replied
+        ensures { Does self (LoadText place text.now) result [] }
+    {
+        let reply = self.run_load_text(place, text);
+        Replied { bench: self, reply }
     }
 }

@@ -1,8 +1,6 @@
 // Two diagrams compared: the reply, and of a witness, as it is handed out, its length, the replies of judge to it under the old
 // and the new diagram, and its bytes where they are asked for.
-ghost use Rattle.bench.specs.Calls.{Valid};
-
-use crate::{STDOUT, before, decode, pair};
+use crate::{STDOUT, before, decode, pair, print_name};
 use bench::{Bench, Replied, Reply};
 
 // A colon, and bytes as pairs of hexadecimal digits, each behind a blank.
@@ -23,15 +21,8 @@ fn number_in(r: Reply) -> usize {
     }
 }
 
-// Whether a load was accepted.
-fn is_done(r: Reply) -> bool {
-    matches!(r, Reply::Done)
-}
-
 // A file's length, and the lowest rule that it breaks under the old and under the new diagram.
-fn print_witness(b: Bench, file: &[u8])
-    requires { Valid b }
-{
+fn print_witness(b: Bench, file: &[u8]) {
     let old = b.judge(0, file).reply;
     let new = b.judge(1, file).reply;
     io::write_all(STDOUT, b", ");
@@ -43,9 +34,7 @@ fn print_witness(b: Bench, file: &[u8])
 }
 
 // What compare finds; a witness is handed out into space.
-fn print_difference(b: Bench, bound: u8, bytes: bool, space: &mut [u8])
-    requires { Valid b }
-{
+fn print_difference(b: Bench, bound: u8, bytes: bool, space: &mut [u8]) {
     let c = b.compare(bound);
     let Reply::Difference(n) = c.reply else {
         io::write_all(STDOUT, b"no difference");
@@ -78,21 +67,14 @@ fn bound_of(line: &[u8], at: usize) -> u8 {
 }
 
 // The case's name and what compare says.
-fn print_reply(line: &[u8], at: usize, b: Bench, bytes: bool, space: &mut [u8])
-    requires { Valid b }
-{
-    io::write_all(STDOUT, b"compare, ");
-    io::write_all(STDOUT, laws::past(laws::front(line, at), 2));
-    io::write_all(STDOUT, b": ");
+fn print_reply(line: &[u8], at: usize, b: Bench, bytes: bool, space: &mut [u8]) {
+    print_name(b"compare, ", line, at);
     print_difference(b, bound_of(line, at), bytes, space);
     io::write_all(STDOUT, b"\n");
 }
 
 // Loads the diagram whose file a row of pairs is.
-fn load(b: Bench, place: u8, s: &[u8], space: &mut [u8]) -> Replied
-    requires { Valid b }
-    ensures { Valid result.bench }
-{
+fn load(b: Bench, place: u8, s: &[u8], space: &mut [u8]) -> Replied {
     let n = decode(s, space);
     b.load(place, laws::front(space, n))
 }
@@ -103,7 +85,7 @@ pub fn run_compare(line: &[u8], at: usize, bytes: bool, space: &mut [u8]) {
     let b = bench::fresh();
     let old = load(b, 0, ahead(files), space);
     let new = load(old.bench, 1, behind(files), space);
-    if is_done(old.reply) & is_done(new.reply) {
+    if matches!((old.reply, new.reply), (Reply::Done, Reply::Done)) {
         print_reply(line, at, new.bench, bytes, space);
     }
 }

@@ -8,38 +8,17 @@ mod differences; // differences.rt: two diagrams compared
 mod rows; // rows.rt: a row of calls
 
 ghost use Rattle.std.specs.Prelude.{◌<◌, ◌≤◌, length};
-ghost use Rattle.diagrams.specs.Held.{Held};
 
 use fields::Refusal;
 
 // Where the replies go.
 const STDOUT: i32 = 1;
 
-// Room for the whole input.
-fn input() -> [u8; 262144] {
-    [0u8; 262144]
-}
-
-// Room for the replies of a row of calls.
-fn reply_room() -> [u8; 262144] {
-    [0u8; 262144]
-}
-
-// Room for one file.
-fn room() -> [u8; 65536] {
-    [0u8; 65536]
-}
-
 // How many bytes stand before the first b, or all.
 fn before(s: &[u8], b: u8) -> usize
     ensures { result ≤ length s.now }
 {
-    for i in 0..s.len() {
-        if s[i] == b {
-            return i;
-        }
-    }
-    s.len()
+    s.iter().position(|x| *x == b).unwrap_or(s.len())
 }
 
 // What a hexadecimal digit stands for; 0 for any other byte.
@@ -77,21 +56,23 @@ fn decode(s: &[u8], out: &mut [u8]) -> usize
     n
 }
 
-// Prints the case's name and its reply.
-fn say(what: &[u8], line: &[u8], at: usize, reply: u8) {
+// Prints what is asked for and the case's name.
+fn print_name(what: &[u8], line: &[u8], at: usize) {
     io::write_all(STDOUT, what);
     io::write_all(STDOUT, laws::past(laws::front(line, at), 2));
     io::write_all(STDOUT, b": ");
+}
+
+// The same with a number behind it, on a line.
+fn say(what: &[u8], line: &[u8], at: usize, reply: usize) {
+    print_name(what, line, at);
     io::print_decimal(STDOUT, reply as u64);
     io::write_all(STDOUT, b"\n");
 }
 
 // A refusal's number, 0 where there is none.
-fn number<T: Copy>(r: Result<T, Refusal>) -> u8 {
-    match r {
-        Ok(_) => 0,
-        Err(refusal) => refusal.number(),
-    }
+fn number<T: Copy>(r: Result<T, Refusal>) -> usize {
+    r.err().map_or(0, |refusal| usize::from(refusal.number()))
 }
 
 // A diagram file, and its refusal, 0 where it is accepted.
@@ -117,17 +98,11 @@ fn run_record(line: &[u8], at: usize, space: &mut [u8]) {
 }
 
 // The replies of judge and evaluate to a record file under a diagram.
-fn reply(line: &[u8], at: usize, d: diagrams::StoredDiagram, file: &[u8])
-    requires { Held d }
-{
+fn reply(line: &[u8], at: usize, d: diagrams::ReadDiagram, file: &[u8]) {
     let rule = judging::judge(d, file).unwrap_or(0);
     let first = evaluating::evaluate(d, file).unwrap_or(0);
-    say(b"judge, ", line, at, rule);
-    io::write_all(STDOUT, b"evaluate, ");
-    io::write_all(STDOUT, laws::past(laws::front(line, at), 2));
-    io::write_all(STDOUT, b": ");
-    io::print_decimal(STDOUT, first as u64);
-    io::write_all(STDOUT, b"\n");
+    say(b"judge, ", line, at, usize::from(rule));
+    say(b"evaluate, ", line, at, first);
 }
 
 // A diagram file and, behind a slash, a record file.
@@ -165,9 +140,7 @@ fn run_compile(line: &[u8], at: usize, space: &mut [u8]) {
     let n = decode(laws::past(laws::past(line, at), 1), space);
     if let Ok(d) = loading::read_diagram(&space[..n]) {
         let c = compiling::compile(d);
-        io::write_all(STDOUT, b"compile, ");
-        io::write_all(STDOUT, laws::past(laws::front(line, at), 2));
-        io::write_all(STDOUT, b": ");
+        print_name(b"compile, ", line, at);
         io::print_decimal(STDOUT, c.number as u64);
         let list = c.list;
         print_entries(list, c.number);
@@ -202,10 +175,11 @@ fn run_all(text: &[u8], space: &mut [u8], other: &mut [u8], replies: &mut [u8]) 
 }
 
 fn main() {
-    let mut text = input();
+    let mut text = [0; 262144];
     let n = io::read_full(0, &mut text);
-    let mut space = room();
-    let mut other = room();
-    let mut replies = reply_room();
+    // Room for two files, and for the replies of a row of calls.
+    let mut space = [0; 65536];
+    let mut other = [0; 65536];
+    let mut replies = [0; 262144];
     run_all(&text[..n], &mut space, &mut other, &mut replies);
 }

@@ -2,22 +2,13 @@
 // was not written shows; more than three equal bytes in a row are printed once, with a star and their number.
 ghost use Rattle.std.specs.Prelude.{◌≤◌, length};
 
-use crate::{STDOUT, decode};
-
-fn cover(out: &mut [u8]) {
-    out.fill(238);
-}
+use crate::{STDOUT, decode, print_name};
 
 // How many bytes at the front are b.
 fn alike(s: &[u8], b: u8) -> usize
     ensures { result ≤ length s.now }
 {
-    for i in 0..s.len() {
-        if s[i] != b {
-            return i;
-        }
-    }
-    s.len()
+    s.iter().position(|x| *x != b).unwrap_or(s.len())
 }
 
 fn print_runs(s: &[u8]) {
@@ -41,11 +32,9 @@ fn print_runs(s: &[u8]) {
 // The calls in bytes, and their replies.
 pub fn run_row(line: &[u8], at: usize, space: &mut [u8], replies: &mut [u8]) {
     let n = decode(laws::past(laws::past(line, at), 1), space);
-    cover(replies);
+    replies.fill(238);
     let m = replay::replay(laws::front(space, n), replies);
-    io::write_all(STDOUT, b"row, ");
-    io::write_all(STDOUT, laws::past(laws::front(line, at), 2));
-    io::write_all(STDOUT, b": ");
+    print_name(b"row, ", line, at);
     io::print_decimal(STDOUT, m as u64);
     io::write_all(STDOUT, b":");
     print_runs(replies);

@@ -4,14 +4,16 @@
 ghost use Rattle.std.specs.Prelude.{◌≡◌, cond, ◌≤◌, ltb};
 ghost use Rattle.laws.specs.Connective.{both};
 ghost use Rattle.fields.specs.Refusal.{refusal_number};
-ghost use Rattle.files.specs.RecordFile.{count_refusal, link_before, read_record, record_tags, value_before};
+ghost use Rattle.files.specs.RecordFile.{count_refusal, link_before, read_record, value_before};
 ghost use Rattle.files.specs.RecordLayout.{link_of, value_of};
-ghost use Rattle.files.specs.Refusal.{misplaced, refusal_of};
+ghost use Rattle.files.specs.Refusal.{refusal_of};
 ghost use Rattle.checking.specs.Progress.{counted, end_no, field_no, link_no, object_no, value_no};
 
 use fields::Refusal;
 
-// What the fields so far left: the last tag (0 before the first field), the count of 0x60, and how many of each have come.
+// What the fields so far left: the last tag, the count that the file gives, and how many of each have come. The last tag is 0 before
+// the first field: no tag is 0, and none falls behind it. The contents of the last value and link go beside as slices, and not as
+// Options: the numbers say already whether there is one, and two that say it would have to agree.
 #[derive(Clone, Copy)]
 pub struct Progress {
     pub last: u8,
@@ -23,7 +25,7 @@ pub struct Progress {
 
 // ---- small parts
 
-// The content a where the test holds, else b. The last value and link are no Options: the counts say whether there is one.
+// The content a where the test holds, else b.
 fn choose<'a>(test: bool, a: &'a [u8], b: &'a [u8]) -> &'a [u8]
     ensures { result.now ≡ cond test a.now b.now }
 {
@@ -59,14 +61,6 @@ fn link_before(a: &[u8], b: &[u8]) -> bool
 }
 
 // ---- the refusal of a field
-
-// A tag of no record file, falling, 0x60 again, or the first one another than 0x60.
-fn misplaced(last: u8, tag: u8) -> bool
-    ensures { result ≡ misplaced 0x60 record_tags last tag }
-{
-    !((((0x60 == tag) | (0x61 == tag)) | (0x62 == tag)) | (0x63 == tag))
-        | ((tag < last) | (((tag == 0x60) & !(last == 0)) | ((last == 0) & !(tag == 0x60))))
-}
 
 // The objects at both ends are below the count.
 fn ends_known(count: u8, c: &[u8]) -> bool
@@ -140,19 +134,15 @@ fn check_link(count: u8, links: usize, p: &[u8], c: &[u8]) -> Result<(), Refusal
 fn check_field(s: Progress, value: &[u8], link: &[u8], tag: u8, c: &[u8]) -> Result<(), Refusal>
     ensures { refusal_number result ≡ field_no s value.now link.now tag c.now }
 {
-    if misplaced(s.last, tag) {
+    if fields::is_misplaced(0x60, &[0x60, 0x61, 0x62, 0x63], s.last, tag) {
         return Err(Refusal::Misplaced);
     }
-    if tag == 0x60 {
-        return check_count(c);
+    match tag {
+        0x60 => check_count(c),
+        0x61 => check_object(s.count, s.objects, c),
+        0x62 => check_value(s.count, s.values, value, c),
+        _ => check_link(s.count, s.links, link, c),
     }
-    if tag == 0x61 {
-        return check_object(s.count, s.objects, c);
-    }
-    if tag == 0x62 {
-        return check_value(s.count, s.values, value, c);
-    }
-    check_link(s.count, s.links, link, c)
 }
 
 // ---- a file

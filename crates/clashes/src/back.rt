@@ -7,14 +7,13 @@ ghost use Rattle.clashes.specs.Clashes.{FirstTargets, LinkedBack, Never};
 ghost use Rattle.clashes.specs.Sources.{SourcesKept};
 ghost use Rattle.clashes.specs.Refuted.{Refuted};
 
+use crate::counts::Asked;
 use laws::Mask;
-use worlds::Tables;
+use worlds::{Tables, Types};
 
-// Whether a column in the slot excludes them, where the links in the slot from types of the mask `there` are the links back. The tables
-// have the rows of the first object at x.
+// Whether a column in the slot excludes them, where the links in the slot from types of the mask `there` are the links back.
 fn is_apart_from_back(
     tables: &Tables,
-    x: usize,
     first: u32,
     slot: u8,
     there: u32,
@@ -22,23 +21,22 @@ fn is_apart_from_back(
     low: u8,
     high: u8,
 ) -> bool
-    requires { (first < 24) × (x ≡ first * 32) × (slot < 32) }
+    requires { (first < 24) × (slot < 32) }
     ensures { result ≡ true → (t : ℕ) → Never (λ w. FirstTargets first t mask low high w × SourcesKept tables.now.sources w × ColumnsKept tables.now.lines w × LinkedBack slot there t w) }
 {
-    let here = tables.sources[x + usize::from(slot)];
+    let here = tables.sources[first as usize * 32 + usize::from(slot)];
     let lines = &tables.lines;
     for i in 0..16 {
         if (lines.columnslot[i] == slot) & lines.columnto[i].has(first) {
-            if crate::counts::is_apart_back(
+            let asked = Asked {
+                first,
                 here,
-                lines.columnfrom[i],
-                lines.columnlow[i],
-                lines.columnhigh[i],
-                there,
-                mask,
-                low,
-                high,
-            ) {
+                slot,
+                mask: lines.columnfrom[i],
+                least: lines.columnlow[i],
+                most: lines.columnhigh[i],
+            };
+            if crate::counts::is_apart_back(asked, there, mask, low, high) {
                 return true;
             }
         }
@@ -46,17 +44,16 @@ fn is_apart_from_back(
     false
 }
 
-// Whether a column excludes the limits of a row of the first object by a mirror.
-pub fn is_bad_first_back(tables: &Tables, types: &[u8; 8], row: u8, low: u8, high: u8) -> bool
-    requires { (row < 32) × ((o : ℕ) → get_or types.now o 0 < 24) }
-    ensures { result ≡ true → (lows highs : List ℕ) (seeds : ℕ) → 0 < seeds → Refuted (λ w. (RowsKept tables.now.targets lows highs w × InLimits low high (target_count w row 0)) × (SourcesKept tables.now.sources w × ColumnsKept tables.now.lines w × MirrorsKept tables.now.lines w)) types.now seeds }
+// Whether a column excludes the limits of a row of the first object by a mirror, either way round.
+pub(crate) fn is_bad_first_back(tables: &Tables, types: &Types, row: u8, low: u8, high: u8) -> bool
+    requires { row < 32 }
+    ensures { result ≡ true → (lows highs : List ℕ) (seeds : ℕ) → 0 < seeds → Refuted (λ w. (RowsKept tables.now.targets lows highs w × InLimits low high (target_count w row 0)) × (SourcesKept tables.now.sources w × ColumnsKept tables.now.lines w × MirrorsKept tables.now.lines w)) types.now.at seeds }
 {
     if (low == 0) & (8 <= high) {
         return false;
     }
-    let x = crate::rows_at(types, 0);
     let first = crate::type_of(types, 0);
-    let mask = tables.targets[x + usize::from(row)];
+    let mask = tables.targets[crate::rows_at(types, 0) + usize::from(row)];
     let lines = &tables.lines;
     for j in 0..16 {
         let right = lines.mirrorright[j];
@@ -64,12 +61,12 @@ pub fn is_bad_first_back(tables: &Tables, types: &[u8; 8], row: u8, low: u8, hig
         let from = lines.mirrorfrom[j];
         let to = lines.mirrorto[j];
         if (left == row) & to.has(first) {
-            if is_apart_from_back(tables, x, first, right, from, mask, low, high) {
+            if is_apart_from_back(tables, first, right, from, mask, low, high) {
                 return true;
             }
         }
         if (right == row) & from.has(first) {
-            if is_apart_from_back(tables, x, first, left, to, mask, low, high) {
+            if is_apart_from_back(tables, first, left, to, mask, low, high) {
                 return true;
             }
         }

@@ -4,11 +4,12 @@ ghost use Rattle.laws.specs.Bounded.{any};
 ghost use Rattle.clashes.specs.Refuted.{BitsKept, Refuted, TargetsKept, bad_bit};
 
 use laws::Mask;
+use worlds::{Query, Types};
 
 // Whether a link of one row must stand and must not, or leads to a seed with no type of the mask.
-fn is_bad_row(must: u8, shut: u8, mask: u32, types: &[u8; 8], seeds: u8) -> bool
-    requires { (seeds ≤ 8) × ((o : ℕ) → get_or types.now o 0 < 24) }
-    ensures { result ≡ true → any (bad_bit must shut mask types.now) seeds ≡ true }
+fn is_bad_row(must: u8, shut: u8, mask: u32, types: &Types, seeds: u8) -> bool
+    requires { seeds ≤ 8 }
+    ensures { result ≡ true → any (bad_bit must shut mask types.now.at) seeds ≡ true }
 {
     for p in 0..seeds {
         if must.has(p) & (shut.has(p) | !mask.has(crate::type_of(types, p))) {
@@ -19,22 +20,16 @@ fn is_bad_row(must: u8, shut: u8, mask: u32, types: &[u8; 8], seeds: u8) -> bool
 }
 
 // Whether there is such a row of a seed.
-pub fn is_bad_bit<'a>(
-    targets: &'a [u32; 768],
-    must: &'a [u8; 256],
-    shut: &'a [u8; 256],
-    types: &'a [u8; 8],
-    seeds: u8,
-) -> bool
-    requires { (seeds ≤ 8) × ((o : ℕ) → get_or types.now o 0 < 24) }
-    ensures { result ≡ true → Refuted (λ w. BitsKept must.now shut.now w × TargetsKept targets.now w) types.now seeds }
+pub(crate) fn is_bad_bit(targets: &[u32; 768], q: &Query, types: &Types) -> bool
+    requires { q.now.seeds ≤ 8 }
+    ensures { result ≡ true → Refuted (λ w. BitsKept q.now.must q.now.shut w × TargetsKept targets.now w) types.now.at q.now.seeds }
 {
-    let end = usize::from(seeds) * 32;
+    let end = usize::from(q.seeds) * 32;
     for i in 0..end {
-        let m = must[i];
+        let m = q.must[i];
         if m != 0 {
             let x = crate::rows_at(types, (i / 32) as u8) + i % 32;
-            if is_bad_row(m, shut[i], targets[x], types, seeds) {
+            if is_bad_row(m, q.shut[i], targets[x], types, q.seeds) {
                 return true;
             }
         }

@@ -6,7 +6,7 @@ ghost use Rattle.growing.specs.Growth.{Nowhere};
 ghost use Rattle.worlds.specs.Kept.{sheet_of};
 ghost use Rattle.worlds.specs.Asked.{Sane, Solution};
 
-use worlds::{Query, Tables};
+use worlds::{Query, Tables, Types};
 
 mod back;
 mod bits;
@@ -17,37 +17,36 @@ mod parts;
 mod wholes;
 
 // The type of object o.
-pub fn type_of(types: &[u8; 8], o: u8) -> u32
-    requires { (o < 8) × ((o : ℕ) → get_or types.now o 0 < 24) }
-    ensures { (result ≡ get_or types.now o 0) × (result < 24) }
+pub fn type_of(types: &Types, o: u8) -> u32
+    requires { o < 8 }
+    ensures { (result ≡ get_or types.now.at o 0) × (result < 24) }
 {
-    types[usize::from(o)] as u32
+    u32::from(types.at[usize::from(o)])
 }
 
 // Where the table has the rows of object o.
-pub fn rows_at(types: &[u8; 8], o: u8) -> usize
-    requires { (o < 8) × ((o : ℕ) → get_or types.now o 0 < 24) }
-    ensures { (result ≡ get_or types.now o 0 * 32) × (result ≤ 736) }
+pub fn rows_at(types: &Types, o: u8) -> usize
+    requires { o < 8 }
+    ensures { (result ≡ get_or types.now.at o 0 * 32) × (result ≤ 736) }
 {
-    usize::from(types[usize::from(o)]) * 32
+    usize::from(types.at[usize::from(o)]) * 32
 }
 
 // Whether the query contradicts the tables, where its seeds have the given types.
-pub fn is_implied(tables: &Tables, q: Query, types: [u8; 8], n: u8) -> bool
-    requires { Sane q × (n ≤ 8) × ((o : ℕ) → get_or types o 0 < 24) }
-    ensures { result ≡ true → Nowhere (Solution (sheet_of tables.now) q n) types q.seeds q.never n }
+pub fn is_implied(tables: &Tables, q: Query, types: Types, n: u8) -> bool
+    requires { Sane q × (n ≤ 8) }
+    ensures { result ≡ true → Nowhere (Solution (sheet_of tables.now) q n) types.at q.seeds q.never n }
 {
-    let seeds = q.seeds;
-    if seeds == 0 {
+    if q.seeds == 0 {
         return false;
     }
-    if bits::is_bad_bit(&tables.targets, &q.must, &q.shut, &types, seeds) {
+    if bits::is_bad_bit(&tables.targets, &q, &types) {
         return true;
     }
-    if mirrors::is_bad_turn(&tables.lines, &q.must, &q.shut, &types, seeds) {
+    if mirrors::is_bad_turn(tables, &q, &types) {
         return true;
     }
-    if wholes::is_bad_part(&tables.lines, &q.must, &types, seeds) {
+    if wholes::is_bad_part(tables, &q, &types) {
         return true;
     }
     if parts::is_bad_first_part(tables, &types, q.row, q.low) {

@@ -7,7 +7,7 @@ ghost use Rattle.clashes.specs.Clashes.{FirstTargets, Never};
 ghost use Rattle.clashes.specs.Refuted.{Refuted};
 
 use laws::Mask;
-use worlds::{Lines, Tables};
+use worlds::{Lines, Tables, Types};
 
 // Whether the targets of an object of type t in the slot, with types of the mask, are its wholes by composition j.
 fn is_back_to_wholes(lines: &Lines, t: u32, slot: u8, mask: u32, j: usize) -> bool
@@ -26,9 +26,9 @@ fn is_back_to_wholes(lines: &Lines, t: u32, slot: u8, mask: u32, j: usize) -> bo
 }
 
 // Whether the first object has to have two wholes, as targets in a slot.
-pub fn is_bad_first_part(tables: &Tables, types: &[u8; 8], row: u8, low: u8) -> bool
-    requires { (row < 32) × ((o : ℕ) → get_or types.now o 0 < 24) }
-    ensures { result ≡ true → (lows highs : List ℕ) (high seeds : ℕ) → 0 < seeds → Refuted (λ w. (RowsKept tables.now.targets lows highs w × InLimits low high (target_count w row 0)) × (MirrorsKept tables.now.lines w × WholesKept tables.now.lines w)) types.now seeds }
+pub(crate) fn is_bad_first_part(tables: &Tables, types: &Types, row: u8, low: u8) -> bool
+    requires { row < 32 }
+    ensures { result ≡ true → (lows highs : List ℕ) (high seeds : ℕ) → 0 < seeds → Refuted (λ w. (RowsKept tables.now.targets lows highs w × InLimits low high (target_count w row 0)) × (MirrorsKept tables.now.lines w × WholesKept tables.now.lines w)) types.now.at seeds }
 {
     if low < 2 {
         return false;

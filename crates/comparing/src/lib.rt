@@ -4,30 +4,24 @@
 
 ghost use Rattle.std.specs.Prelude.{◌≤◌};
 ghost use Rattle.diagrams.specs.View.{diagram_of};
-ghost use Rattle.diagrams.specs.Held.{Held};
+ghost use Rattle.type_tables.specs.Releases.{new_of, old_of};
 ghost use Rattle.searching.specs.Ready.{Ready};
 ghost use Rattle.comparing.specs.Sought.{Sought};
 ghost use Rattle.comparing.specs.Compared.{Compares};
 
-use diagrams::StoredDiagram;
+use diagrams::ReadDiagram;
 use records::MemoryRecord;
-use sheets::Rows;
+use sheets::{Pair, Rows};
+use type_tables::Releases;
 use worlds::{Others, Tables};
 
 // The least number of objects first: the first witness found has fewest.
-fn least(
-    old: StoredDiagram,
-    new: StoredDiagram,
-    dues: &[u8; 768],
-    tables: &Tables,
-    others: &Others,
-    most: u8,
-) -> Option<MemoryRecord>
-    requires { Held old × Held new × Ready (diagram_of old) (diagram_of new) dues.now tables.now others.now × (most ≤ 8) }
-    ensures { Sought (diagram_of old) (diagram_of new) most result }
+fn least(by: &Releases, tables: &Tables, others: &Others, most: u8) -> Option<MemoryRecord>
+    requires { Ready (old_of by.now) (new_of by.now) tables.now others.now × (most ≤ 8) }
+    ensures { Sought (old_of by.now) (new_of by.now) most result }
 {
     for n in 0..=most {
-        if let Some(witness) = searching::search(old, new, dues, tables, others, n) {
+        if let Some(witness) = searching::search(by, tables, others, n) {
             return Some(witness);
         }
     }
@@ -35,17 +29,29 @@ fn least(
 }
 
 // A witness of a difference, if there is one. A record has at most 8 objects.
-pub fn compare(old: StoredDiagram, new: StoredDiagram, bound: u8) -> Option<MemoryRecord>
-    requires { Held old × Held new }
-    ensures { Compares (diagram_of old) (diagram_of new) bound result }
+pub fn compare(old: ReadDiagram, new: ReadDiagram, bound: u8) -> Option<MemoryRecord>
+    ensures { Compares (diagram_of old.stored) (diagram_of new.stored) bound result }
 {
-    let dues = type_tables::due_values(old);
-    let usable = sheets::usable_types(old, &dues);
+    let dues = &type_tables::due_values(&old);
+    let by = &Releases {
+        old: &old,
+        new: &new,
+        dues,
+    };
+    let own = &Pair {
+        old: &old,
+        new: &old,
+    };
+    let both = &Pair {
+        old: &old,
+        new: &new,
+    };
+    let usable = sheets::usable_types(by);
     let Rows {
         targets,
         lows,
         highs,
-    } = sheets::rows_by(old, old);
+    } = sheets::rows_by(own);
     let targets = narrowing::narrowed(&targets, &highs, usable);
     let sources = sheets::sources_of(&targets);
     let tables = Tables {
@@ -53,23 +59,23 @@ pub fn compare(old: StoredDiagram, new: StoredDiagram, bound: u8) -> Option<Memo
         sources,
         lows,
         highs,
-        lines: sheets::lines_by(old, old),
+        lines: sheets::lines_by(own),
         usable,
-        singles: sheets::single_types(old, old),
+        singles: sheets::single_types(own),
     };
     let Rows {
         targets,
         lows,
         highs,
-    } = sheets::rows_by(old, new);
+    } = sheets::rows_by(both);
     let others = Others {
         targets,
         lows,
         highs,
-        lines: sheets::lines_by(old, new),
-        bad: type_values::bad_types(old, new, &dues) | sheets::missing_links(old, new),
-        singles: sheets::single_types(old, new),
-        missing: sheets::single_missing(old, new),
+        lines: sheets::lines_by(both),
+        bad: type_values::bad_types(by) | sheets::missing_links(both),
+        singles: sheets::single_types(both),
+        missing: sheets::single_missing(both),
     };
-    least(old, new, &dues, &tables, &others, bound.min(8))
+    least(by, &tables, &others, bound.min(8))
 }

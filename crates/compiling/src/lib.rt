@@ -1,16 +1,16 @@
-// The compiler: the entries that a diagram in memory asks for, and their bytes.
+// The compiler: the entries that a diagram in memory asks for, and their bytes. An association's index is below 16, and a limit of a
+// compiled entry below 256, as `as u8` keeps them.
 #![tactic(auto)]
 
 ghost use Rattle.std.specs.Prelude.{◌≡◌, [], ◌∷◌, ◌+◌, ◌<◌, ◌≤◌};
 ghost use Rattle.diagrams.specs.View.{association_in, upper_in};
-ghost use Rattle.diagrams.specs.Held.{Held};
 ghost use Rattle.rules.specs.Compile.{entries_of, limited, row_of};
 ghost use Rattle.rules.specs.Evaluate.{side_of};
 ghost use Rattle.entries.specs.View.{Appends};
 ghost use Rattle.compiling.specs.Table.{asked, entries_for, whole_for};
 ghost use Rattle.compiling.specs.Compiled.{Compiles, Gives, Small, bytes_to, written};
 
-use diagrams::Associations;
+use diagrams::{Associations, ReadDiagram};
 use entries::{Entries, Entry};
 
 // The list is the reply's: 64 places of five bytes each, of which `number` are entries.
@@ -20,7 +20,8 @@ pub struct Compiled {
     pub list: [u8; 320],
 }
 
-// Of each arrow, the kinds of its entries in order with their sides, kind 0 for none.
+// Of each arrow, the kinds of its entries in order with their sides, kind 0 for none. Kinds and sides are numbers of the compiled
+// record, and a row of fixed length with a kind for none is how the table of the definition reads.
 const ROWS: [[(u8, u8); 3]; 5] = [
     [(0, 0), (0, 0), (0, 0)], // no arrow has the number 0
     [(1, 0), (3, 0), (0, 0)], // arrow 1
@@ -109,13 +110,12 @@ fn push_association(r: &mut Entries, a: &Associations, i: usize)
 }
 
 // The entries of a diagram, association by association.
-pub fn compile_entries(d: diagrams::StoredDiagram) -> Entries
-    requires { Held d }
-    ensures { Compiles d result }
+pub fn compile_entries(d: ReadDiagram) -> Entries
+    ensures { Compiles d.stored result }
 {
     let mut r = Entries::none();
-    for i in 0..d.associations.count {
-        push_association(&mut r, &d.associations, i);
+    for i in 0..d.stored.associations.count {
+        push_association(&mut r, &d.stored.associations, i);
     }
     r
 }
@@ -149,9 +149,8 @@ pub fn list_bytes(e: Entries) -> [u8; 320]
 }
 
 // The number of a diagram's entries, and their list.
-pub fn compile(d: diagrams::StoredDiagram) -> Compiled
-    requires { Held d }
-    ensures { Gives d result }
+pub fn compile(d: ReadDiagram) -> Compiled
+    ensures { Gives d.stored result }
 {
     let e = compile_entries(d);
     let list = list_bytes(e);

@@ -9,38 +9,48 @@ use diagrams::Attributes;
 use laws::Mask;
 use tables::Tables;
 
-// Attribute a is one of object o's type or of an ancestor, and has the name in slot s.
-fn is_declaring(attributes: &Attributes, t: &Tables, o: u8, s: u8, a: usize) -> bool
-    requires { o < 8 }
-    ensures { result ≡ declares_at attributes.now.owners t.now.masks t.now.slots o s a }
-{
-    let owner = laws::byte(&attributes.owners, a);
-    laws::byte(&t.masks, usize::from(owner)).has(o) & (laws::byte(&t.slots, a) == s)
+// The attributes of a diagram, with the tables of instances and of the attributes' slots.
+#[derive(Clone, Copy)]
+pub struct Declarations<'a> {
+    pub attributes: &'a Attributes,
+    pub tables: &'a Tables,
 }
 
-// One of the attributes is such a declaration.
-pub fn is_declared(attributes: &Attributes, t: &Tables, o: u8, s: u8) -> bool
-    requires { o < 8 }
-    ensures { result ≡ any (declares_at attributes.now.owners t.now.masks t.now.slots o s) attributes.now.count }
-{
-    (0..attributes.count).any(|a| is_declaring(attributes, t, o, s, a))
-}
-
-// Attribute a, if it is a declaration for object o and slot s, has the value type.
-fn is_agreeing(attributes: &Attributes, t: &Tables, o: u8, s: u8, value_type: u8, a: usize) -> bool
-    requires { o < 8 }
-    ensures { result ≡ agrees_at attributes.now.owners attributes.now.types t.now.masks t.now.slots o s value_type a }
-{
-    if !is_declaring(attributes, t, o, s, a) {
-        return true;
+impl<'a> Declarations<'a> {
+    // Attribute a is one of object o's type or of an ancestor, and has the name in slot s.
+    fn is_declaring(&self, o: u8, s: u8, a: usize) -> bool
+        requires { o < 8 }
+        ensures { result ≡ declares_at self.now.attributes.now.owners self.now.tables.now.masks self.now.tables.now.slots o s a }
+    {
+        let owner = laws::byte(&self.attributes.owners, a);
+        laws::byte(&self.tables.masks, usize::from(owner)).has(o)
+            & (laws::byte(&self.tables.slots, a) == s)
     }
-    laws::byte(&attributes.types, a) == value_type
-}
 
-// Each of the attributes that is such a declaration has the value type.
-pub fn are_agreeing(attributes: &Attributes, t: &Tables, o: u8, s: u8, value_type: u8) -> bool
-    requires { o < 8 }
-    ensures { result ≡ all (agrees_at attributes.now.owners attributes.now.types t.now.masks t.now.slots o s value_type) attributes.now.count }
-{
-    (0..attributes.count).all(|a| is_agreeing(attributes, t, o, s, value_type, a))
+    // One of the attributes is such a declaration.
+    pub fn is_declared(&self, o: u8, s: u8) -> bool
+        requires { o < 8 }
+        ensures { result ≡ any (declares_at self.now.attributes.now.owners self.now.tables.now.masks self.now.tables.now.slots o s) self.now.attributes.now.count }
+    {
+        (0..self.attributes.count).any(|a| self.is_declaring(o, s, a))
+    }
+
+    // Attribute a, if it is a declaration for object o and slot s, has the value type.
+    fn is_agreeing(&self, o: u8, s: u8, value_type: u8, a: usize) -> bool
+        requires { o < 8 }
+        ensures { result ≡ agrees_at self.now.attributes.now.owners self.now.attributes.now.types self.now.tables.now.masks self.now.tables.now.slots o s value_type a }
+    {
+        if !self.is_declaring(o, s, a) {
+            return true;
+        }
+        laws::byte(&self.attributes.types, a) == value_type
+    }
+
+    // Each of the attributes that is such a declaration has the value type.
+    pub fn are_agreeing(&self, o: u8, s: u8, value_type: u8) -> bool
+        requires { o < 8 }
+        ensures { result ≡ all (agrees_at self.now.attributes.now.owners self.now.attributes.now.types self.now.tables.now.masks self.now.tables.now.slots o s value_type) self.now.attributes.now.count }
+    {
+        (0..self.attributes.count).all(|a| self.is_agreeing(o, s, value_type, a))
+    }
 }

@@ -22,7 +22,7 @@ use Rattle.demands.specs.Families.{SourcesWithin}
 
 module _ (s : Start) (sources : List ℕ) (best r : Option ℕ) where
   -- x: where the table has the sources of object p in the slot
-  pub sources-sharp : (slot mask low high p x : ℕ) → slot < 32 → p < s.k → x ≡ get_or s.types p 0 * 32 + slot
+  pub sources-sharp : (slot mask low high p x : ℕ) → slot < 32 → p < s.k → x ≡ get_or s.types.at p 0 * 32 + slot
       → ((q : World → ℕ → Bool) → Sharpens (λ w. Limited low high (bit_and mask (get_or sources x 0)) 0 (q w) w) s best r)
       → Sharpens (λ w. SourcesKept sources w × InLimits low high (source_count w slot mask p)) s best r
   sources-sharp slot mask low high p x small given e f = record {
@@ -33,7 +33,7 @@ module _ (s : Start) (sources : List ℕ) (best r : Option ℕ) where
       typed : (w : World) → Started s w → SourcesKept sources w → (o : ℕ) → o < w.size → bit (w.kind o) mask && w.link slot o p ≡ true
           → bit (w.kind o) (bit_and mask (get_or sources x 0)) ≡ true
       typed w a h o b t =
-          let k : w.kind p ≡ get_or s.types p 0 = a.kept p given in
+          let k : w.kind p ≡ get_or s.types.at p 0 = a.kept p given in
           let z : w.kind p * 32 + slot ≡ x = omega arith in
           bit-and (w.kind o) mask (get_or sources x 0)
           ∙ and_both (bit (w.kind o) mask) (bit (w.kind o) (get_or sources x 0)) (and_left (bit (w.kind o) mask) (w.link slot o p) t)
@@ -41,7 +41,7 @@ module _ (s : Start) (sources : List ℕ) (best r : Option ℕ) where
           (h.at slot o p small b (omega (arith, a.many)) (and_right (bit (w.kind o) mask) (w.link slot o p) t)))
 
   -- object p has a type of the mask `to`
-  pub column-sharp : (slot mask to low high p : ℕ) → p < s.k → bit (get_or s.types p 0) to ≡ true
+  pub column-sharp : (slot mask to low high p : ℕ) → p < s.k → bit (get_or s.types.at p 0) to ≡ true
       → Sharpens (λ w. SourcesKept sources w × InLimits low high (source_count w slot mask p)) s best r
       → Sharpens (λ w. SourcesKept sources w × SourcesWithin slot mask to low high w) s best r
   column-sharp slot mask to low high p given typed f = record {

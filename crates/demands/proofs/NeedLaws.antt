@@ -58,9 +58,9 @@ module _ (s : Start) where
 
   module _ (low high mask shut : ℕ) where
     limited-need : (w : World) → Started s w → (p : ℕ → Bool) → Limited low high mask shut p w
-        → low - candidates (λ t. bit t mask) (λ o. bit o shut) s.types s.k ≤ extras (bit_and mask s.free) s.k w
+        → low - candidates (λ t. bit t mask) (λ o. bit o shut) s.types.at s.k ≤ extras (bit_and mask s.free) s.k w
     limited-need w a p l =
-        needs-of S s.types s.k 0 (s.k + s.spare) s.free (λ v e h. h.0.extra) (λ _. p) low (bit_and mask s.free) (λ t. bit t mask) (λ o. bit o shut) (λ v e h. h.1)
+        needs-of S s.types.at s.k 0 (s.k + s.spare) s.free (λ v e h. h.0.extra) (λ _. p) low (bit_and mask s.free) (λ t. bit t mask) (λ o. bit o shut) (λ v e h. h.1)
         (λ t x y. bit-both t mask s.free x y) w
         (record { few = a.few; many = a.many; kept = a.kept; avoids = λ o _ _. bit-zero (w.kind o) })
         (a, record { enough = l.within.least; typed = l.typed; free = l.apart })
@@ -72,6 +72,6 @@ module _ (s : Start) where
       pub limits-cross : high < low → Sharpens (λ w. Limited low high mask shut (p w) w) s best r
       limits-cross h = record { at = λ w a l _. absurd (omega (arith, l.within.least, l.within.most)) }
 
-      pub limits-need : (n : ℕ) → n ≡ candidates (λ t. bit t mask) (λ o. bit o shut) s.types s.k
+      pub limits-need : (n : ℕ) → n ≡ candidates (λ t. bit t mask) (λ o. bit o shut) s.types.at s.k
           → Sharpens (λ w. low - n ≤ extras (bit_and mask s.free) s.k w) s best r → Sharpens (λ w. Limited low high mask shut (p w) w) s best r
       limits-need n e f = record { at = λ w a l. f.at w a (let z = limited-need w a (p w) l in omega arith) }

@@ -13,18 +13,18 @@ use Rattle.laws.proofs.ConnectiveLaws.{known, true-false}
 use Rattle.growing.specs.World.{World, target_count}
 use Rattle.link_search.specs.Nets.{InLimits}
 use Rattle.demands.specs.declared.Start.{Start}
-use Rattle.demands.specs.Wishes.{Known, Limited, Sharpens, Started}
+use Rattle.demands.specs.Wishes.{Limited, Sharpens, Started}
 use Rattle.demands.specs.Families.{RowsOpen}
 
 -- both limits hold
 pub within_both : (a b c d low high n : ℕ) → low ≡ max a c → high ≡ min b d → InLimits a b n → InLimits c d n → InLimits low high n
 within_both a b c d low high n e f u v = record { least = omega (arith, u.least, v.least); most = omega (arith, u.most, v.most) }
 
-module _ (targets lows highs shut : List ℕ) (s : Start) (fine : Known s) (o i x y : ℕ) (given : o < s.k) (slot : i < 32) (from : x ≡ get_or s.types o 0 * 32)
+module _ (targets lows highs shut : List ℕ) (s : Start) (o i x y : ℕ) (given : o < s.k) (slot : i < 32) (from : x ≡ get_or s.types.at o 0 * 32)
     (at : y ≡ o * 32 + i) where
   -- where the row stands, by the type that the object has
   place : (w : World) → Started s w → w.kind o * 32 + i ≡ x + i
-  place w a = let e : w.kind o ≡ get_or s.types o 0 = a.kept o given in omega arith
+  place w a = let e : w.kind o ≡ get_or s.types.at o 0 = a.kept o given in omega arith
 
   module _ (w : World) (a : Started s w) (h : RowsOpen targets lows highs shut w) where
     row_within : InLimits (get_or lows (x + i) 0) (get_or highs (x + i) 0) (target_count w i o)

@@ -28,15 +28,15 @@ missing-single types k singles here missing t f g e =
     let h = sym (g t) ∙ e in
     (and_left (bit t singles) (not (bit t here)) h, sym (f t) ∙ not-true (bit t here) (and_right (bit t singles) (not (bit t here)) h))
 
-module _ (s : Start) (singles t : ℕ) (small : t < 24) (single : bit t singles ≡ true) (new : present s.types s.k t ≡ false) where
-  absent : (o : ℕ) → o < s.k → get_or s.types o 0 ≡ t → ⊥
-  absent o l e = true-false (eq-eqb t (get_or s.types o 0) (sym e)) (any-no (λ o. eqb t (get_or s.types o 0)) s.k new o l)
+module _ (s : Start) (singles t : ℕ) (small : t < 24) (single : bit t singles ≡ true) (new : present s.types.at s.k t ≡ false) where
+  absent : (o : ℕ) → o < s.k → get_or s.types.at o 0 ≡ t → ⊥
+  absent o l e = true-false (eq-eqb t (get_or s.types.at o 0) (sym e)) (any-no (λ o. eqb t (get_or s.types.at o 0)) s.k new o l)
 
   -- m is the mask of t
   single-need : (m : ℕ) → ((j : ℕ) → bit j m ≡ bit j 0 || eqb j t) → (w : World) → Started s w → SinglesKept singles w
       → 1 ≤ extras (bit_and m s.free) s.k w
   single-need m is w a h =
-      single-needs S s.types s.k 0 (s.k + s.spare) s.free (λ v e p. p.0.extra) t (bit_and m s.free)
+      single-needs S s.types.at s.k 0 (s.k + s.spare) s.free (λ v e p. p.0.extra) t (bit_and m s.free)
       (λ v p. let z = p.1.at t small single in omega arith) absent
       (λ e. bit-both t m s.free (is t ∙ or_right (bit t 0) (eqb t t) (eq-eqb t t refl)) e) w
       (record { few = a.few; many = a.many; kept = a.kept; avoids = λ o _ _. bit-zero (w.kind o) }) (a, h)

@@ -13,7 +13,7 @@ use Rattle.common_wholes.specs.Common.{Common}
 use Rattle.demands.specs.declared.Start.{Start}
 use Rattle.demands.specs.Wishes.{Limited, Sharpens}
 
-pub whole-sharp : (x : Lines) (s : Start) (best r : Option ℕ) (p mask : ℕ) → p < s.k → Common x (get_or s.types p 0) mask
+pub whole-sharp : (x : Lines) (s : Start) (best r : Option ℕ) (p mask : ℕ) → p < s.k → Common x (get_or s.types.at p 0) mask
     → ((q : World → ℕ → Bool) → Sharpens (λ w. Limited 1 1 mask 0 (q w) w) s best r) → Sharpens (λ w. ColumnsKept x w × WholesKept x w) s best r
 whole-sharp x s best r p mask given common f = record {
   at = λ w a h.

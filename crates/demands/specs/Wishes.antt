@@ -17,18 +17,13 @@ present types k t = any (λ o. eqb t (get_or types o 0)) k
 abbrev pub available : ℕ → ℕ → ℕ → List ℕ → ℕ → ℕ → Bool
 available usable singles forb types k t = bit t usable && not (bit t forb) && not (bit t singles && present types k t)
 
--- at most eight objects are given, of known types
-pub record Known (s : Start) : Type 0 where
-  pub eight : s.k ≤ 8
-  pub types : (o : ℕ) → get_or s.types o 0 < 24
-
 -- w starts with k objects of the given types; it has at most `spare` more, with types of the mask `free`
 pub record Started (s : Start) (w : World) : Type 0 where
   pub many : s.k ≤ w.size
   pub few : w.size ≤ s.k + s.spare
   pub eight : w.size ≤ 8
   pub known : (o : ℕ) → o < w.size → w.kind o < 24
-  pub kept : (o : ℕ) → o < s.k → w.kind o ≡ get_or s.types o 0
+  pub kept : (o : ℕ) → o < s.k → w.kind o ≡ get_or s.types.at o 0
   pub extra : (o : ℕ) → s.k ≤ o → o < w.size → bit (w.kind o) s.free ≡ true
 
 -- what is demanded is right about w: there is something, and where w has extra objects, one has a type of the mask

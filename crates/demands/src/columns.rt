@@ -3,7 +3,7 @@ ghost use Rattle.std.specs.Prelude.{◌<◌, Some};
 ghost use Rattle.growing.specs.World.{source_count};
 ghost use Rattle.link_search.specs.Nets.{InLimits};
 ghost use Rattle.worlds.specs.Kept.{ColumnsKept};
-ghost use Rattle.demands.specs.Wishes.{Known, Sharpens};
+ghost use Rattle.demands.specs.Wishes.{Sharpens};
 ghost use Rattle.clashes.specs.Sources.{SourcesKept};
 ghost use Rattle.demands.specs.Families.{SourcesWithin};
 
@@ -11,65 +11,65 @@ use crate::Start;
 use laws::Mask;
 use worlds::Tables;
 
-// The number of sources of object p in the slot, among objects with types of the mask, lies within the limits.
-pub fn with_sources(
+// What is asked of sources in a slot: `low` to `high` of them have types of the mask.
+#[derive(Clone, Copy)]
+pub(crate) struct Sources {
+    pub slot: u8,
+    pub mask: u32,
+    pub low: u8,
+    pub high: u8,
+    ghost inside: { slot < 32 },
+}
+
+// The sources of object p are as asked.
+pub(crate) fn with_sources(
     best: u32,
     s: Start,
     tables: &Tables,
-    slot: u8,
-    mask: u32,
-    low: u8,
-    high: u8,
+    asked: Sources,
     p: u8,
 ) -> Option<u32>
-    requires { Known s × (slot < 32) × (p < s.k) }
-    ensures { Sharpens (λ w. SourcesKept tables.now.sources w × InLimits low high (source_count w slot mask p)) s (Some best) result }
+    requires { p < s.k }
+    ensures { Sharpens (λ w. SourcesKept tables.now.sources w × InLimits asked.low asked.high (source_count w asked.slot asked.mask p)) s (Some best) result }
 {
-    let x = clashes::rows_at(&s.types, p) + usize::from(slot);
-    crate::needs::with_limits(best, s, mask & tables.sources[x], 0, low, high)
+    let x = clashes::rows_at(&s.types, p) + usize::from(asked.slot);
+    crate::needs::with_limits(
+        best,
+        s,
+        asked.mask & tables.sources[x],
+        0,
+        asked.low,
+        asked.high,
+    )
 }
 
-// One column: the given objects with a type of the mask `to` have so many sources.
-fn with_column(
-    mut best: u32,
-    s: Start,
-    tables: &Tables,
-    slot: u8,
-    mask: u32,
-    to: u32,
-    low: u8,
-    high: u8,
-) -> Option<u32>
-    requires { Known s × (slot < 32) }
-    ensures { Sharpens (λ w. SourcesKept tables.now.sources w × SourcesWithin slot mask to low high w) s (Some best) result }
+// One column: the sources of the given objects with a type of the mask `to` are as asked.
+fn with_column(mut best: u32, s: Start, tables: &Tables, asked: Sources, to: u32) -> Option<u32>
+    ensures { Sharpens (λ w. SourcesKept tables.now.sources w × SourcesWithin asked.slot asked.mask to asked.low asked.high w) s (Some best) result }
 {
     for p in 0..s.k {
         if to.has(clashes::type_of(&s.types, p)) {
-            best = with_sources(best, s, tables, slot, mask, low, high, p)?;
+            best = with_sources(best, s, tables, asked, p)?;
         }
     }
     Some(best)
 }
 
 // All columns.
-pub fn with_columns(mut best: u32, s: Start, tables: &Tables) -> Option<u32>
-    requires { Known s }
+pub(crate) fn with_columns(mut best: u32, s: Start, tables: &Tables) -> Option<u32>
     ensures { Sharpens (λ w. SourcesKept tables.now.sources w × ColumnsKept tables.now.lines w) s (Some best) result }
 {
     let lines = &tables.lines;
     for j in 0..16 {
         let low = lines.columnlow[j];
         if 0 < low {
-            best = with_column(
-                best,
-                s,
-                tables,
-                lines.columnslot[j],
-                lines.columnfrom[j],
-                lines.columnto[j],
+            let asked = Sources {
+                slot: lines.columnslot[j],
+                mask: lines.columnfrom[j],
                 low,
-                lines.columnhigh[j],
-            )?;
+                high: lines.columnhigh[j],
+            };
+            best = with_column(best, s, tables, asked, lines.columnto[j])?;
         }
     }
     Some(best)

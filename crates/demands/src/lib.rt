@@ -1,12 +1,12 @@
 // Which types one more object must have: what a search by types asks before it looks at links.
 #![tactic(auto)]
 
-ghost use Rattle.std.specs.Prelude.{ℕ, ◌<◌, ◌≤◌, get_or, is_none, ltb, unwrap_or};
+ghost use Rattle.std.specs.Prelude.{◌≤◌, is_none, ltb, unwrap_or};
 ghost use Rattle.growing.specs.Growth.{Demanded};
 ghost use Rattle.worlds.specs.Kept.{sheet_of};
 ghost use Rattle.worlds.specs.Asked.{Sane, Solution};
 
-use worlds::{Query, Tables};
+use worlds::{Query, Tables, Types};
 
 mod columns;
 mod needs;
@@ -20,17 +20,18 @@ mod weighing;
 // The types of the first k objects, how many more there can be, and the types that these can have.
 #[derive(Clone, Copy)]
 struct Start {
-    types: [u8; 8],
+    types: Types,
     k: u8,
     spare: u8,
     free: u32,
+    ghost few: { k ≤ 8 },
 }
 
 // What the first k objects, whose types are given, demand of one more object in a world of n objects: a type of the mask. None: no world
 // that is looked for starts with these.
-pub fn demand(tables: &Tables, q: Query, types: [u8; 8], k: u8, forb: u32, n: u8) -> Option<u32>
-    requires { Sane q × (q.seeds ≤ k) × (k ≤ n) × (n ≤ 8) × ((o : ℕ) → get_or types o 0 < 24) }
-    ensures { Demanded (Solution (sheet_of tables.now) q n) 24 types k forb n (is_none result) (ltb k n) (unwrap_or result 0) }
+pub fn demand(tables: &Tables, q: Query, types: Types, k: u8, forb: u32, n: u8) -> Option<u32>
+    requires { Sane q × (q.seeds ≤ k) × (k ≤ n) × (n ≤ 8) }
+    ensures { Demanded (Solution (sheet_of tables.now) q n) 24 types.at k forb n (is_none result) (ltb k n) (unwrap_or result 0) }
 {
     let here = sets::types_present(&types, k);
     let free = sets::types_free(tables.usable, tables.singles, forb, here);

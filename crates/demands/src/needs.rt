@@ -3,13 +3,13 @@ ghost use Rattle.std.specs.Prelude.{◌≡◌, Bool, Some, ℕ, ◌<◌, ◌≤�
 ghost use Rattle.laws.specs.Bits.{bit};
 ghost use Rattle.growing.specs.World.{World};
 ghost use Rattle.growing.specs.Demand.{candidates, extras};
-ghost use Rattle.demands.specs.Wishes.{Known, Limited, Sharpens};
+ghost use Rattle.demands.specs.Wishes.{Limited, Sharpens};
 
 use crate::Start;
 use laws::Mask;
 
 // At least c more objects have types of the mask g.
-pub fn with_need(best: u32, s: Start, g: u32, c: u8) -> Option<u32>
+pub(crate) fn with_need(best: u32, s: Start, g: u32, c: u8) -> Option<u32>
     requires { 0 < c }
     ensures { Sharpens (λ w. c ≤ extras g s.k w) s (Some best) result }
 {
@@ -27,8 +27,7 @@ pub fn with_need(best: u32, s: Start, g: u32, c: u8) -> Option<u32>
 
 // How many of the first objects have a type of the mask and are not among the objects `shut`.
 fn count_candidates(s: Start, mask: u32, shut: u8) -> u8
-    requires { Known s }
-    ensures { result ≡ candidates (λ t. bit t mask) (λ o. bit o shut) s.types s.k }
+    ensures { result ≡ candidates (λ t. bit t mask) (λ o. bit o shut) s.types.at s.k }
 {
     let mut n: u8 = 0;
     for o in 0..s.k {
@@ -40,8 +39,14 @@ fn count_candidates(s: Start, mask: u32, shut: u8) -> u8
 }
 
 // At `low` to `high` objects something holds; these have types of the mask, and are not among the objects `shut`.
-pub fn with_limits(best: u32, s: Start, mask: u32, shut: u8, low: u8, high: u8) -> Option<u32>
-    requires { Known s }
+pub(crate) fn with_limits(
+    best: u32,
+    s: Start,
+    mask: u32,
+    shut: u8,
+    low: u8,
+    high: u8,
+) -> Option<u32>
     ensures { (p : World → ℕ → Bool) → Sharpens (λ w. Limited low high mask shut (p w) w) s (Some best) result }
 {
     if low == 0 {

@@ -1,21 +1,28 @@
 // Needs by what a query asks of its first object.
 ghost use Rattle.std.specs.Prelude.{◌≤◌, Some};
 ghost use Rattle.worlds.specs.Asked.{Satisfies, Sane};
-ghost use Rattle.demands.specs.Wishes.{Known, Sharpens};
+ghost use Rattle.demands.specs.Wishes.{Sharpens};
 ghost use Rattle.clashes.specs.Sources.{SourcesKept};
 ghost use Rattle.demands.specs.Families.{RowsOpen};
 
 use crate::Start;
+use crate::columns::Sources;
 use worlds::{Query, Tables};
 
 // How many targets it has in one slot, and how many sources in one.
-pub fn with_own(best: u32, s: Start, tables: &Tables, q: Query) -> Option<u32>
-    requires { Known s × Sane q × (q.seeds ≤ s.k) }
+pub(crate) fn with_own(best: u32, s: Start, tables: &Tables, q: Query) -> Option<u32>
+    requires { Sane q × (q.seeds ≤ s.k) }
     ensures { Sharpens (λ w. RowsOpen tables.now.targets tables.now.lows tables.now.highs q.shut w × SourcesKept tables.now.sources w × Satisfies q w) s (Some best) result }
 {
     if q.seeds == 0 {
         return Some(best);
     }
     let row = crate::rows::with_first_row(best, s, tables, &q.shut, q.row, q.low, q.high)?;
-    crate::columns::with_sources(row, s, tables, q.column, q.from, q.least, q.most, 0)
+    let asked = Sources {
+        slot: q.column,
+        mask: q.from,
+        low: q.least,
+        high: q.most,
+    };
+    crate::columns::with_sources(row, s, tables, asked, 0)
 }

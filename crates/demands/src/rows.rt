@@ -2,7 +2,7 @@
 ghost use Rattle.std.specs.Prelude.{◌*◌, ◌<◌, Some};
 ghost use Rattle.growing.specs.World.{target_count};
 ghost use Rattle.link_search.specs.Nets.{InLimits};
-ghost use Rattle.demands.specs.Wishes.{Known, Sharpens};
+ghost use Rattle.demands.specs.Wishes.{Sharpens};
 ghost use Rattle.demands.specs.Families.{RowsOpen};
 
 use crate::Start;
@@ -10,7 +10,7 @@ use worlds::Tables;
 
 // The rows of object o.
 fn with_rows_of(mut best: u32, s: Start, tables: &Tables, shut: &[u8; 256], o: u8) -> Option<u32>
-    requires { Known s × (o < s.k) }
+    requires { o < s.k }
     ensures { Sharpens (RowsOpen tables.now.targets tables.now.lows tables.now.highs shut.now) s (Some best) result }
 {
     let x = clashes::rows_at(&s.types, o);
@@ -32,8 +32,7 @@ fn with_rows_of(mut best: u32, s: Start, tables: &Tables, shut: &[u8; 256], o: u
 }
 
 // The rows of all given objects.
-pub fn with_rows(mut best: u32, s: Start, tables: &Tables, shut: &[u8; 256]) -> Option<u32>
-    requires { Known s }
+pub(crate) fn with_rows(mut best: u32, s: Start, tables: &Tables, shut: &[u8; 256]) -> Option<u32>
     ensures { Sharpens (RowsOpen tables.now.targets tables.now.lows tables.now.highs shut.now) s (Some best) result }
 {
     for o in 0..s.k {
@@ -43,7 +42,7 @@ pub fn with_rows(mut best: u32, s: Start, tables: &Tables, shut: &[u8; 256]) -> 
 }
 
 // The row of the first object in one slot, with limits of its own.
-pub fn with_first_row(
+pub(crate) fn with_first_row(
     best: u32,
     s: Start,
     tables: &Tables,
@@ -52,7 +51,7 @@ pub fn with_first_row(
     low: u8,
     high: u8,
 ) -> Option<u32>
-    requires { Known s × (0 < s.k) × (row < 32) }
+    requires { (0 < s.k) × (row < 32) }
     ensures { Sharpens (λ w. RowsOpen tables.now.targets tables.now.lows tables.now.highs shut.now w × InLimits low high (target_count w row 0)) s (Some best) result }
 {
     let i = usize::from(row);

@@ -8,11 +8,11 @@ use crate::Start;
 use laws::Mask;
 
 // One more object for each singleton that is not among the types `here` of the given objects.
-pub fn with_singles(mut best: u32, s: Start, singles: u32, here: u32) -> Option<u32>
-    requires { (t : ℕ) → bit t here ≡ present s.types s.k t }
+pub(crate) fn with_singles(mut best: u32, s: Start, singles: u32, here: u32) -> Option<u32>
+    requires { (t : ℕ) → bit t here ≡ present s.types.at s.k t }
     ensures { Sharpens (SinglesKept singles) s (Some best) result }
 {
-    let missing = type_tables::without(singles, here);
+    let missing = singles.minus(here);
     if missing == 0 {
         return Some(best);
     }

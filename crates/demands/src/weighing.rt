@@ -1,9 +1,9 @@
 // Needs by weights: the first objects ask for more links than they have room for.
-ghost use Rattle.std.specs.Prelude.{ℕ, ◌<◌, ◌≤◌, Some};
+ghost use Rattle.std.specs.Prelude.{ℕ, ◌<◌, ◌≤◌, IfSome, Some};
 ghost use Rattle.growing.specs.Demand.{extras};
 ghost use Rattle.worlds.specs.Asked.{Satisfies, Sane};
 ghost use Rattle.worlds.specs.Kept.{Allowed, sheet};
-ghost use Rattle.demands.specs.Wishes.{Known, Sharpens};
+ghost use Rattle.demands.specs.Wishes.{Sharpens};
 
 use crate::Start;
 use weights::{Shortage, Way};
@@ -23,18 +23,19 @@ fn askers(lines: &Lines, way: Way, j: usize) -> u32
 }
 
 // At least so many more objects as are lacking have types of the mask.
-fn with_shortage(best: u32, s: Start, short: Shortage) -> Option<u32>
-    ensures { Sharpens (λ w. short.c ≤ extras short.g s.k w) s (Some best) result }
+fn with_shortage(best: u32, s: Start, short: Option<Shortage>) -> Option<u32>
+    requires { IfSome short (λ x. 0 < x.c) }
+    ensures { Sharpens (λ w. IfSome short (λ x. x.c ≤ extras x.g s.k w)) s (Some best) result }
 {
-    if short.c == 0 {
-        return Some(best);
+    match short {
+        Some(lack) => crate::needs::with_need(best, s, lack.g, lack.c),
+        None => Some(best),
     }
-    crate::needs::with_need(best, s, short.g, short.c)
 }
 
 // One way of counting, by each line of which a type of the mask `here` asks for links: by all where it has the types of the first objects.
 fn with_way(mut best: u32, s: Start, here: u32, tables: &Tables, q: Query, way: Way) -> Option<u32>
-    requires { Known s × Sane q × (q.seeds ≤ s.k) }
+    requires { Sane q × (q.seeds ≤ s.k) }
     ensures { (usable singles : ℕ) → Sharpens (λ w. Allowed (sheet usable singles tables.now.targets tables.now.lows tables.now.highs tables.now.lines) w × Satisfies q w) s (Some best) result }
 {
     for j in 0..16 {
@@ -47,8 +48,8 @@ fn with_way(mut best: u32, s: Start, here: u32, tables: &Tables, q: Query, way: 
 }
 
 // All ways of counting.
-pub fn with_weights(best: u32, s: Start, here: u32, tables: &Tables, q: Query) -> Option<u32>
-    requires { Known s × Sane q × (q.seeds ≤ s.k) }
+pub(crate) fn with_weights(best: u32, s: Start, here: u32, tables: &Tables, q: Query) -> Option<u32>
+    requires { Sane q × (q.seeds ≤ s.k) }
     ensures { (usable singles : ℕ) → Sharpens (λ w. Allowed (sheet usable singles tables.now.targets tables.now.lows tables.now.highs tables.now.lines) w × Satisfies q w) s (Some best) result }
 {
     let rows = with_way(best, s, here, tables, q, Way::Rows)?;

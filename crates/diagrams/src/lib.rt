@@ -3,6 +3,11 @@
 
 ghost use Rattle.std.specs.Prelude.{◌≡◌};
 ghost use Rattle.diagrams.specs.Empty.{empty_diagram};
+ghost use Rattle.diagrams.specs.Held.{Held};
+ghost use Rattle.diagrams.specs.HeldProp.{Held-prop};
+
+// The kind of a type, the form and the arrow of an association are kept as the numbers that files have for them, so that the arrays
+// stay arrays of bytes and a number goes from file to diagram as it is.
 
 #[derive(Clone, Copy)]
 pub struct ValueTypes {
@@ -41,7 +46,7 @@ pub struct Associations {
     pub arrows: [u8; 16],
     pub types: [u8; 32],
     pub lows: [u16; 32],
-    // 65,535 is no upper limit.
+    // 65,535 is no upper limit, which no file has as a number: so the limits stay one array of numbers.
     pub ups: [u16; 32],
     pub roles: [u8; 544],
 }
@@ -53,6 +58,13 @@ pub struct StoredDiagram {
     pub types: Types,
     pub attributes: Attributes,
     pub associations: Associations,
+}
+
+// A diagram that was read from a file or a text: it follows 01, and the set of each type is kept with it.
+#[derive(Clone, Copy)]
+pub struct ReadDiagram {
+    pub stored: StoredDiagram,
+    ghost held: { Held stored } by { Held-prop stored },
 }
 
 // Nothing declared. Spelled out: a derived Default promises each element of an array, and not the array.

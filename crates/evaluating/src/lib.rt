@@ -1,25 +1,23 @@
 // Evaluating: the first entry of a list that does not hold on a record in memory, and the first compiled one.
 #![tactic(auto)]
 
-ghost use Rattle.std.specs.Prelude.{◌≡◌, ◌<◌};
+ghost use Rattle.std.specs.Prelude.{◌≡◌, ◌<◌, ◌≤◌};
 ghost use Rattle.diagrams.specs.View.{diagram_of};
-ghost use Rattle.diagrams.specs.Held.{Held};
 ghost use Rattle.rules.specs.Compile.{compile};
 ghost use Rattle.rules.specs.Evaluate.{holds, first_failing};
 ghost use Rattle.memory_rules.specs.SiteIn.{site_in};
-ghost use Rattle.tables.specs.Tables.{Coded};
 ghost use Rattle.entries.specs.View.{entry_seen, entries_in};
 ghost use Rattle.link_rules.specs.Judged.{Says};
 ghost use Rattle.evaluating.specs.Named.{NamedIn};
 ghost use Rattle.evaluating.specs.Evaluates.{Evaluates};
 
-use diagrams::StoredDiagram;
+use diagrams::ReadDiagram;
 use entries::{Entries, Entry};
 use fields::Refusal;
 use link_rules::Links;
 use masks::Limits;
 use records::MemoryRecord;
-use tables::Tables;
+use tables::Roles;
 
 // ---- an entry, by its kind
 
@@ -64,29 +62,20 @@ fn first_failing(links: &Links, e: &Entries) -> usize
 
 // ---- the compiled list
 
-pub fn first_false(d: StoredDiagram, m: MemoryRecord) -> usize
-    requires { Held d × Coded (diagram_of d) m }
-    ensures { result ≡ first_failing (diagram_of d) (site_in (diagram_of d) m) (compile (diagram_of d)) }
+// The index of the first compiled entry that does not hold, or their number, as the reply has it.
+pub fn first_false(d: ReadDiagram, m: MemoryRecord) -> usize
+    requires { m.count ≤ 8 }
+    ensures { result ≡ first_failing (diagram_of d.stored) (site_in (diagram_of d.stored) m) (compile (diagram_of d.stored)) }
 {
-    let by_roles = Tables {
-        masks: tables::instance_masks(d, m),
-        slots: tables::role_slots(d),
-    };
-    let links = Links {
-        associations: &d.associations,
-        links: &m.links,
-        tables: &by_roles,
-        count: m.count as u8,
-    };
-    first_failing(&links, &compiling::compile_entries(d))
+    let roles = Roles::new(&d, &m, tables::instance_masks(d, m));
+    first_failing(&Links::of(&roles), &compiling::compile_entries(d))
 }
 
 // ---- a record file
 
 // How many compiled predicates there are, if all hold; else the index of the first that does not.
-pub fn evaluate(d: StoredDiagram, file: &[u8]) -> Result<usize, Refusal>
-    requires { Held d }
-    ensures { Evaluates (diagram_of d) file.now result }
+pub fn evaluate(d: ReadDiagram, file: &[u8]) -> Result<usize, Refusal>
+    ensures { Evaluates (diagram_of d.stored) file.now result }
 {
     checking::check_record(file)?;
     Ok(first_false(d, resolving::resolve(d, file)))

@@ -5,7 +5,7 @@ ghost use Rattle.std.specs.Prelude.{◌≡◌, ◌+◌, ◌≤◌, ◌<◌, leng
 ghost use Rattle.files.specs.Content.{name_bytes};
 ghost use Rattle.field_writers.specs.Put.{Put, head};
 
-// A number that is one byte.
+// A number that is one byte. The library's conversions to a narrower number give a Result; this one cannot fail.
 pub fn narrow(n: usize) -> u8
     requires { n < 256 }
     ensures { result ≡ n }
@@ -28,7 +28,7 @@ pub fn put_name(out: &mut [u8], w: &[u8]) -> usize
     ensures { (result ≡ 1 + length w.now) × Put (name_bytes w.now) out.old result out.new }
 {
     let n = w.len();
-    out[0] = n as u8;
+    out[0] = narrow(n);
     let m = laws::copy(w, &mut out[1..]);
     1 + m
 }

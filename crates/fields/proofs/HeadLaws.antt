@@ -2,6 +2,12 @@
 -- Assumes nothing.
 use Prim.Native.Nat.{ℕ, ◌%◌, ◌+◌, ◌*◌, ◌-◌, ◌/◌, ◌<◌, ◌≤◌}
 use native.Mathlib.Omega.{arith}
+use mathlib.Core.Bool.{Bool, true, false, not, ◌&&◌, ◌||◌}
+use lib.Dec.{eqb, ltb}
+use Rattle.std.specs.List.{list_any}
+use Rattle.laws.specs.Connective.{both, either}
+use Rattle.laws.proofs.SliceLaws.{list_any-slice}
+use Rattle.files.specs.Refusal.{misplaced}
 use mathlib.Core.List.{List, [], ◌∷◌}
 use mathlib.Core.Path.{◌≡◌, refl, sym, ap, ◌∙◌}
 use lib.ListN.{length, get_or, take, drop, length-take, length-drop}
@@ -54,6 +60,23 @@ at-front s n f h e k t c r =
       rest = r ∙ ap (λ (x : ℕ). drop x (drop 3 s)) (sym size);
       shorter = omega (arith, ap length r, length-drop n (drop 3 s), length-drop 3 s);
     }
+
+-- ---- refusal 2
+
+one-of : (none falls again other : Bool) → ((none || falls) || again) || other ≡ either none (either falls (either again other))
+unfolding either
+one-of true falls again other = refl
+one-of false true again other = refl
+one-of false false true other = refl
+one-of false false false other = refl
+
+pub misplaced-by : (once last tag : ℕ) (tags : List ℕ) {r : Bool} → r ≡ list_any (λ y. eqb y tag) tags
+    → ((not r || ltb tag last) || (eqb tag once && not (eqb last 0))) || (eqb last 0 && not (eqb tag once)) ≡ misplaced once tags last tag
+unfolding misplaced both
+misplaced-by once last tag tags e =
+    one-of _ _ _ _
+    ∙ ap (λ (b : Bool). either (not b) (either (ltb tag last) (either (eqb tag once && not (eqb last 0)) (eqb last 0 && not (eqb tag once)))))
+    (e ∙ list_any-slice (λ y. eqb y tag) tags)
 
 -- ---- a length that has two bytes
 

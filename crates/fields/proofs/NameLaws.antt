@@ -1,23 +1,39 @@
--- A list is a valid name by its length and then byte for byte.
+-- A byte of a name by the library's classes; a list is a valid name by its length and then byte for byte.
 -- Assumes nothing.
-use Prim.Native.Nat.{ℕ, ◌<◌, ◌≤◌}
-use mathlib.Core.Bool.{Bool, false}
+use Prim.Native.Nat.{ℕ}
+use mathlib.Core.Bool.{Bool, true, false, ◌&&◌, ◌||◌}
 use mathlib.Core.List.{List}
-use mathlib.Core.Path.{◌≡◌}
+use mathlib.Core.Path.{◌≡◌, refl, sym, ap, ◌∙◌}
 use lib.ListN.{length, get_or}
-use borrow.Author.Tests.{le-leb, lt-leb}
-use Rattle.laws.specs.Connective.{both}
+use lib.Dec.{eqb, leb}
+use Rattle.std.specs.Char.{is_ascii_alphanumeric}
+use Rattle.laws.specs.Connective.{both, either}
 use Rattle.laws.specs.Bounded.{all}
 use Rattle.files.specs.Name.{name_byte, valid_name}
 
-pub name-empty : (w : List ℕ) → length w < 1 → false ≡ valid_name w
-unfolding valid_name both
-name-empty w h = rw (lt-leb 1 (length w) h)
+either-reordered : (digit upper lower line : Bool) → ((digit || upper) || lower) || line ≡ either upper (either lower (either digit line))
+unfolding either
+either-reordered true true true line = refl
+either-reordered true true false line = refl
+either-reordered true false true line = refl
+either-reordered true false false line = refl
+either-reordered false true true line = refl
+either-reordered false true false line = refl
+either-reordered false false true line = refl
+either-reordered false false false line = refl
 
-pub name-long : (w : List ℕ) → 16 < length w → false ≡ valid_name w
-unfolding valid_name both
-name-long w h = rw (le-leb 1 (length w) (let l : 1 ≤ length w = omega native.Mathlib.Omega.arith in l), lt-leb (length w) 16 h)
+-- the library's letters and digits, and the underscore
+pub name-byte : (b : ℕ) {r : Bool} → r ≡ is_ascii_alphanumeric b → r || eqb b 95 ≡ name_byte b
+unfolding name_byte both
+name-byte b e =
+    ap (λ (a : Bool). a || eqb b 95) e
+    ∙ either-reordered (leb 48 b && leb b 57) (leb 65 b && leb b 90) (leb 97 b && leb b 122) (eqb b 95)
 
-pub name-by-bytes : (w : List ℕ) {r : Bool} → 1 ≤ length w → length w ≤ 16 → r ≡ all (λ i. name_byte (get_or w i 0)) (length w) → r ≡ valid_name w
+-- with no such length it is none, whatever its bytes
+pub name-size : (w : List ℕ) → leb 1 (length w) && leb (length w) 16 ≡ false → leb 1 (length w) && leb (length w) 16 ≡ valid_name w
 unfolding valid_name both
-name-by-bytes w h k e = rw (le-leb 1 (length w) h, le-leb (length w) 16 k) e
+name-size w e = e ∙ sym (ap (λ (b : Bool). b && all (λ i. name_byte (get_or w i 0)) (length w)) e)
+
+pub name-by-bytes : (w : List ℕ) {r : Bool} → leb 1 (length w) && leb (length w) 16 ≡ true → r ≡ all (λ i. name_byte (get_or w i 0)) (length w) → r ≡ valid_name w
+unfolding valid_name both
+name-by-bytes w e f = f ∙ sym (ap (λ (b : Bool). b && all (λ i. name_byte (get_or w i 0)) (length w)) e)

@@ -1,4 +1,4 @@
--- 01 "What the input causes": the numbers of the refusals, and what a reader's result says as an answer.
+-- The number of each refusal, and what a reader's result says as an answer.
 -- Assumes nothing.
 use Rattle.std.specs.Prelude.{ℕ, Result, Ok, Err}
 use Rattle.files.specs.Refusal.{Answer, accepted, refused}

@@ -1,7 +1,17 @@
 -- Names kept in a row of slots of 17 bytes: the length, and room for 16 bytes.
 -- Assumes nothing.
-use Rattle.std.specs.Prelude.{ℕ, ◌+◌, ◌*◌, min, List, get_or, take, drop}
+use Rattle.std.specs.Prelude.{ℕ, ◌+◌, ◌*◌, ◌%◌, min, List, [], cond, ltb, get_or, take, drop}
+use Rattle.laws.specs.Bounded.{first}
+use Rattle.files.specs.Name.{Name, same_name}
 
 -- the name in slot i
 unfoldable pub slot_name : List ℕ → ℕ → List ℕ
 slot_name names i = take (min 16 (get_or names (i * 17) 0)) (drop (i * 17 + 1) names)
+
+-- the first of the first k slots with the name w, or k
+unfoldable pub slot_of : List ℕ → ℕ → Name → ℕ
+slot_of names k w = first (λ i. same_name (slot_name names i) w) k
+
+-- the name of constant k % 8 of value type k / 8, which has `size`
+unfoldable pub constant_name : List ℕ → ℕ → ℕ → Name
+constant_name constants size k = cond (ltb (k % 8) size) (slot_name constants k) []

@@ -1,12 +1,13 @@
-// Fields and names: read off the unread rest of a file, and written into the unused rest of a buffer.
+// Fields and names, read off the unread rest of a file.
 #![tactic(auto)]
 
-ghost use Rattle.std.specs.Prelude.{◌≡◌, ◌+◌, ◌*◌, ◌/◌, ◌%◌, ◌<◌, min, take, drop};
+ghost use Rattle.std.specs.Prelude.{◌≡◌, ◌≤◌};
 ghost use Rattle.files.specs.Name.{name_byte, valid_name, same_name, before};
+ghost use Rattle.files.specs.Refusal.{misplaced};
 ghost use Rattle.files.specs.Content.{name_in, past_name, starts_name, starts_constant};
 ghost use Rattle.fields.specs.Field.{ReadsField};
 ghost use Rattle.fields.specs.Refusal.{number_of};
-ghost use Rattle.fields.specs.Slot.{slot_name};
+ghost use Rattle.fields.specs.Slot.{slot_name, slot_of, constant_name};
 
 // ---- refusals
 
@@ -85,39 +86,41 @@ pub fn read_field(s: &[u8]) -> Result<Option<Field<'_>>, Refusal>
     }))
 }
 
+// The tag is none of the file's, falls, is that of the first field again, or is not that of the first field where it should be. The
+// tag of the field before is 0 where there is none: no tag is 0, so nothing falls behind it.
+pub fn is_misplaced(once: u8, tags: &[u8], last: u8, tag: u8) -> bool
+    ensures { result ≡ misplaced once tags.now last tag }
+{
+    !tags.contains(&tag)
+        | (tag < last)
+        | ((tag == once) & (last != 0))
+        | ((last == 0) & (tag != once))
+}
+
 // ---- names
 
 // A byte of A-Z, a-z, 0-9 or underscore.
 pub fn name_byte(b: u8) -> bool
     ensures { result ≡ name_byte b }
 {
-    ((65 <= b) & (b <= 90)) | (((97 <= b) & (b <= 122)) | (((48 <= b) & (b <= 57)) | (b == 95)))
+    b.is_ascii_alphanumeric() | (b == b'_')
 }
 
 // 1 to 16 such bytes.
 pub fn valid_name(w: &[u8]) -> bool
     ensures { result ≡ valid_name w.now }
 {
-    if w.len() < 1 {
-        return false;
-    }
-    if 16 < w.len() {
-        return false;
-    }
-    for b in w {
-        if !name_byte(*b) {
-            return false;
-        }
-    }
-    true
+    (1 <= w.len()) & (w.len() <= 16) && w.iter().all(|b| name_byte(*b))
 }
 
+// Names are compared by this function and the next alone, since 01 has one equality and one order of names.
 pub fn same_name(a: &[u8], b: &[u8]) -> bool
     ensures { result ≡ same_name a.now b.now }
 {
     a == b
 }
 
+// By unsigned bytes, a prefix first.
 pub fn name_before(a: &[u8], b: &[u8]) -> bool
     ensures { result ≡ before a.now b.now }
 {
@@ -167,18 +170,27 @@ pub fn slot_name(names: &[u8], i: u8) -> &[u8]
     )
 }
 
-// ---- written
-
-// The high byte of a number of two bytes; `to_be_bytes` is no plainer, as it needs a u16 and so a proof that n fits one.
-pub fn high(n: usize) -> u8
-    ensures { result ≡ n / 256 % 256 }
+// Slot i has the name w.
+pub fn is_named(names: &[u8], i: u8, w: &[u8]) -> bool
+    ensures { result ≡ same_name (slot_name names.now i) w.now }
 {
-    (n / 256 % 256) as u8
+    same_name(slot_name(names, i), w)
 }
 
-// Its low byte.
-pub fn low(n: usize) -> u8
-    ensures { result ≡ n % 256 }
+// The first of the first k slots with the name w, or k: a record in memory, a table of slots and a field of a file store k for a
+// name that is not there.
+pub fn slot_of(names: &[u8], k: u8, w: &[u8]) -> u8
+    ensures { (result ≡ slot_of names.now k w.now) × (result ≤ k) }
 {
-    (n % 256) as u8
+    (0..k).find(|i| is_named(names, *i, w)).unwrap_or(k)
+}
+
+// The name of constant k % 8 of value type k / 8, which has `size` constants; the unnamed value's has length 0.
+pub fn constant_name(constants: &[u8], size: u8, k: u8) -> &[u8]
+    ensures { result.now ≡ constant_name constants.now size k }
+{
+    if k % 8 < size {
+        return slot_name(constants, k);
+    }
+    &[]
 }

@@ -7,23 +7,11 @@ use mathlib.Core.Logic.{⊎_elim}
 use mathlib.Core.Path.{◌≡◌, refl, subst, sym}
 use native.Mathlib.Omega.{arith}
 use lib.Dec.{ltb}
-use lib.ListN.{get_or, length, replicate, set}
 use borrow.Author.Tests.{lt-ltb}
 use Rattle.laws.proofs.ConnectiveLaws.{known}
-use Rattle.laws.proofs.ListLaws.{set-each, zeros}
 use Rattle.growing.specs.World.{World}
 use Rattle.growing.specs.Growth.{Demanded, Ended, Grown, Nowhere, Tried}
 use Rattle.growing.proofs.GrowthLaws.{grown-end, grown-none}
-
--- as many zeros as there are places
-pub small-zeros : (n o : ℕ) → get_or (replicate n 0) o 0 < 24
-small-zeros n o = omega (arith, zeros n o)
-
--- a type more among the given ones: r is the list with x at place k
-pub small-more : {r : List ℕ} (kinds : List ℕ) (k x : ℕ) → r ≡ set kinds k x → k < length kinds → x < 24
-    → ((o : ℕ) → get_or kinds o 0 < 24) → (o : ℕ) → get_or r o 0 < 24
-small-more kinds k x e room h small o =
-    subst (λ (l : List ℕ). get_or l o 0 < 24) (sym e) (set-each (λ (v : ℕ). v < 24) kinds k x o room (small o) h)
 
 module _ (S : World → Type 0) (kinds : List ℕ) (k forb n : ℕ) where
   -- all n objects are given

@@ -2,28 +2,28 @@
 // a demand names, and at n objects the search for links.
 #![tactic(auto)]
 
-ghost use Rattle.std.specs.Prelude.{◌≡◌, ℕ, ◌<◌, ◌≤◌, get_or, is_some, set};
-ghost use Rattle.growing.specs.Growth.{Grown};
+ghost use Rattle.std.specs.Prelude.{◌≡◌, true, ℕ, ◌<◌, ◌≤◌, is_some, set};
+ghost use Rattle.growing.specs.Growth.{Grown, Nowhere};
 ghost use Rattle.worlds.specs.Asked.{Answers, Sane, Solution, world_built};
 ghost use Rattle.worlds.specs.Kept.{sheet_of};
 
 use laws::Mask;
-use worlds::{Query, Site, Tables};
+use worlds::{Query, Site, Tables, Types};
 
 // The types with t at place k.
-fn put(types: [u8; 8], k: u8, t: u8) -> [u8; 8]
-    requires { k < 8 }
-    ensures { result ≡ set types k t }
+fn put(types: Types, k: u8, t: u8) -> Types
+    requires { (k < 8) × (t < 24) }
+    ensures { result.at ≡ set types.at k t }
 {
-    let mut r = types;
-    r[k as usize] = t;
-    r
+    let mut at = types.at;
+    at[usize::from(k)] = t;
+    Types { at }
 }
 
 // A world of n objects whose first k have the given types, and the others none of the types forb.
-fn grow(tables: &Tables, q: Query, types: [u8; 8], k: u8, forb: u32, n: u8) -> Option<Site>
-    requires { Sane q × (q.seeds ≤ k) × (k ≤ n) × (n ≤ 8) × ((o : ℕ) → get_or types o 0 < 24) }
-    ensures { Grown (Solution (sheet_of tables.now) q n) types k forb n (is_some result) (world_built n result) }
+fn grow(tables: &Tables, q: Query, types: Types, k: u8, forb: u32, n: u8) -> Option<Site>
+    requires { Sane q × (q.seeds ≤ k) × (k ≤ n) × (n ≤ 8) }
+    ensures { Grown (Solution (sheet_of tables.now) q n) types.at k forb n (is_some result) (world_built n result) }
 {
     let g = demands::demand(tables, q, types, k, forb, n)?;
     if k == n {
@@ -42,6 +42,7 @@ fn grow(tables: &Tables, q: Query, types: [u8; 8], k: u8, forb: u32, n: u8) -> O
     let mut f = forb;
     for t in 0u32..24 {
         if g.has(t) & !f.has(t) {
+            // By `or_else`, with the call in a closure, chains of such tests were not proved.
             if let Some(site) = grow(tables, q, put(types, k, t as u8), k + 1, f, n) {
                 return Some(site);
             }
@@ -51,18 +52,33 @@ fn grow(tables: &Tables, q: Query, types: [u8; 8], k: u8, forb: u32, n: u8) -> O
     None
 }
 
+// Whether the seeds alone cannot stand together.
+fn is_stuck(tables: &Tables, q: Query, types: Types) -> bool
+    requires { Sane q }
+    ensures { result ≡ true → (n : ℕ) → Nowhere (Solution (sheet_of tables.now) q n) types.at q.seeds q.never n }
+{
+    relaxing::is_stuck(
+        &tables.targets,
+        &tables.highs,
+        &tables.lines,
+        tables.usable,
+        q,
+        types,
+    )
+}
+
 // The same where the first k objects are seeds: the types of the other seeds are tried first.
-fn seed(tables: &Tables, q: Query, types: [u8; 8], k: u8, n: u8) -> Option<Site>
-    requires { Sane q × (k ≤ q.seeds) × (q.seeds ≤ n) × (n ≤ 8) × ((o : ℕ) → get_or types o 0 < 24) }
-    ensures { Grown (Solution (sheet_of tables.now) q n) types k 0 n (is_some result) (world_built n result) }
+fn seed(tables: &Tables, q: Query, types: Types, k: u8, n: u8) -> Option<Site>
+    requires { Sane q × (k ≤ q.seeds) × (q.seeds ≤ n) × (n ≤ 8) }
+    ensures { Grown (Solution (sheet_of tables.now) q n) types.at k 0 n (is_some result) (world_built n result) }
 {
     if k == q.seeds {
-        if clashes::is_implied(tables, q, types, n) || relaxing::is_stuck(tables, q, types) {
+        if clashes::is_implied(tables, q, types, n) || is_stuck(tables, q, types) {
             return None;
         }
         return grow(tables, q, types, k, q.never, n);
     }
-    let may = q.types[k as usize];
+    let may = q.types[usize::from(k)];
     for t in 0u32..24 {
         if may.has(t) & tables.usable.has(t) {
             if let Some(site) = seed(tables, q, put(types, k, t as u8), k + 1, n) {
@@ -81,5 +97,5 @@ pub fn find(tables: &Tables, q: Query, n: u8) -> Option<Site>
     if n < q.seeds {
         return None;
     }
-    seed(tables, q, [0u8; 8], 0, n)
+    seed(tables, q, Types { at: [0; 8] }, 0, n)
 }

@@ -3,7 +3,6 @@
 use Prim.Native.Nat.{ℕ}
 use native.Mathlib.Omega.{arith}
 use mathlib.Core.List.{List}
-use mathlib.Core.Logic.{◌≢◌}
 use mathlib.Core.Path.{◌≡◌, refl, sym, ap, ◌∙◌}
 use Rattle.files.specs.Diagram.{Diagram}
 use Rattle.files.specs.Field.{rows}
@@ -36,10 +35,6 @@ with-record (accepted r) w e = (r, refl)
 pub record-of : (file : List ℕ) → refusal_of (read_record file) ≡ 0 → (r : Record) × (read_record file ≡ accepted r)
 unfolding read_record
 record-of file e = with-record (record_from 0 0 no_record (rows file)) (record-refusals 0 0 no_record (rows file)) e
-
-pub no-record : (file : List ℕ) (r : Record) → refusal_of (read_record file) ≢ 0 → read_record file ≡ accepted r → ⊥
-unfolding refusal_of
-no-record file r n e = n (ap refusal_of e)
 
 module _ {d : StoredDiagram} {file : List ℕ} {m : MemoryRecord} (held : Held d) (is : Resolves (diagram_of d) file m) where
   pub file-stands : (r : Record) → read_record file ≡ accepted r → Stands (diagram_of d) r m

@@ -1,2 +1,1 @@
-pub mod TabledLaws
 pub mod FileLaws

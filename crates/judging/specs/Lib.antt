@@ -1,2 +1,1 @@
-pub mod Tabled
 pub mod Judges

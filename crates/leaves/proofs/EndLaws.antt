@@ -11,7 +11,7 @@ use Rattle.link_search.specs.Families.{NetFits}
 use Rattle.link_search.specs.Answers.{NetAnswer}
 use Rattle.worlds.specs.declared.Lines.{Lines}
 use Rattle.worlds.specs.declared.Query.{Query}
-use Rattle.worlds.specs.Coherent.{Slotted}
+use Rattle.worlds.specs.Coherent.{Slotted, SmallTypes}
 use Rattle.worlds.specs.Kept.{sheet, world_in}
 use Rattle.std.specs.Bool.{then_some}
 use Rattle.std.specs.Prelude.{is_some}
@@ -19,7 +19,7 @@ use Rattle.worlds.specs.declared.Site.{Site}
 use Rattle.worlds.specs.Asked.{Sane, Solution, world_built}
 use Rattle.link_search.specs.declared.ColumnArrays.{ColumnArrays}
 use Rattle.link_search.specs.declared.RowArrays.{RowArrays}
-use Rattle.leaves.specs.Fitting.{SmallTypes, types_fit}
+use Rattle.leaves.specs.Fitting.{types_fit}
 use Rattle.leaves.specs.Arrays.{Mays, Prepared, all_covered}
 use Rattle.leaves.proofs.FittingLaws.{fit_at}
 use Rattle.leaves.proofs.RetypedLaws.{made, retyped}

@@ -15,12 +15,12 @@ use Rattle.link_search.specs.Nets.{Between, net_of}
 use Rattle.link_search.specs.Families.{NetFits}
 use Rattle.worlds.specs.declared.Lines.{Lines}
 use Rattle.worlds.specs.declared.Query.{Query}
-use Rattle.worlds.specs.Coherent.{Slotted}
+use Rattle.worlds.specs.Coherent.{Slotted, SmallTypes}
 use Rattle.worlds.specs.Kept.{sheet}
 use Rattle.worlds.specs.Asked.{Sane, Solution}
 use Rattle.link_search.specs.declared.ColumnArrays.{ColumnArrays}
 use Rattle.link_search.specs.declared.RowArrays.{RowArrays}
-use Rattle.leaves.specs.Fitting.{SmallTypes, typed}
+use Rattle.leaves.specs.Fitting.{typed}
 use Rattle.leaves.specs.Arrays.{Prepared, all_covered}
 use Rattle.leaves.proofs.FittingLaws.{Fit}
 use Rattle.leaves.proofs.RetypedLaws.{made}

@@ -1,14 +1,10 @@
 -- What a sheet and a query ask of the types of n objects, whatever their links.
 -- Assumes nothing.
-use Rattle.std.specs.Prelude.{◌<◌, ℕ, Bool, ◌&&◌, cond, not, List, eqb, leb, ltb, get_or}
+use Rattle.std.specs.Prelude.{ℕ, Bool, ◌&&◌, cond, not, List, eqb, leb, ltb, get_or}
 use Rattle.laws.specs.Bits.{bit}
 use Rattle.laws.specs.Bounded.{all, tally}
 use Rattle.laws.specs.Connective.{both, imp}
 use Rattle.worlds.specs.declared.Query.{Query}
-
--- a diagram has at most 24 types
-abbrev pub SmallTypes : List ℕ → Type 0
-SmallTypes types = (o : ℕ) → get_or types o 0 < 24
 
 -- object o has a type of the set
 abbrev pub typed : List ℕ → ℕ → ℕ → Bool

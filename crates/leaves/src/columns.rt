@@ -8,7 +8,7 @@ use link_search::ColumnArrays;
 use type_tables::pick;
 
 // For each set of types, which of the first n objects have a type of it.
-pub fn objects(types: &[u8; 8], n: u8, sets: &[u32; 16]) -> [u8; 16]
+pub(crate) fn objects(types: &[u8; 8], n: u8, sets: &[u32; 16]) -> [u8; 16]
     requires { n ≤ 8 }
     ensures { Objects types.now n sets.now result }
 {
@@ -45,7 +45,12 @@ fn spread(to: &[u8; 17], limit: &[u8; 17], d: u8) -> [u8; 136]
 }
 
 // The columns of the associations and the query's.
-pub fn column_arrays(lines: worlds::Lines, q: worlds::Query, types: &[u8; 8], n: u8) -> ColumnArrays
+pub(crate) fn column_arrays(
+    lines: worlds::Lines,
+    q: worlds::Query,
+    types: &[u8; 8],
+    n: u8,
+) -> ColumnArrays
     requires { n ≤ 8 }
     ensures { ColumnsAsk lines q types.now n result }
 {

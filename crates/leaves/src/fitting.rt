@@ -25,12 +25,7 @@ fn each_fits(usable: u32, seeds: u8, wanted: &[u32; 8], never: u32, types: &[u8;
     requires { n ≤ 8 }
     ensures { result ≡ all (type_fits usable seeds wanted.now never types.now) n }
 {
-    for o in 0..n {
-        if !type_fits(usable, seeds, wanted, never, types, o) {
-            return false;
-        }
-    }
-    true
+    (0..n).all(|o| type_fits(usable, seeds, wanted, never, types, o))
 }
 
 // How many of the first n objects have type t.
@@ -63,16 +58,11 @@ fn singles_fit(singles: u32, types: &[u8; 8], n: u8) -> bool
     requires { n ≤ 8 }
     ensures { result ≡ all (single_fits singles types.now n) 24 }
 {
-    for t in 0u8..24 {
-        if !single_fits(singles, types, n, t) {
-            return false;
-        }
-    }
-    true
+    (0u8..24).all(|t| single_fits(singles, types, n, t))
 }
 
 // The types of n objects are as the sheet and the query ask.
-pub fn types_fit(usable: u32, singles: u32, q: worlds::Query, types: &[u8; 8], n: u8) -> bool
+pub(crate) fn types_fit(usable: u32, singles: u32, q: worlds::Query, types: &[u8; 8], n: u8) -> bool
     requires { n ≤ 8 }
     ensures { result ≡ types_fit usable singles q types.now n }
 {

@@ -2,7 +2,7 @@
 // and the search over these.
 #![tactic(auto)]
 
-ghost use Rattle.std.specs.Prelude.{◌≡◌, cond, false, ℕ, ◌<◌, ◌≤◌, get_or, is_some};
+ghost use Rattle.std.specs.Prelude.{◌≡◌, cond, false, ℕ, ◌≤◌, is_some};
 ghost use Rattle.laws.specs.Bits.{Marks};
 ghost use Rattle.growing.specs.Growth.{Ended};
 ghost use Rattle.worlds.specs.Coherent.{Slotted};
@@ -33,7 +33,8 @@ fn among(types: &[u8; 8], n: u8, set: u32) -> u8
     m
 }
 
-// Links of n objects with these types that the tables allow and the query asks for.
+// Links of n objects with these types that the tables allow and the query asks for. The tables come one by one, as `relaxing` asks with
+// other lower limits than those of `Tables`, and with no singletons.
 pub fn ends(
     targets: &[u32; 768],
     lows: &[u8; 768],
@@ -42,14 +43,14 @@ pub fn ends(
     usable: u32,
     singles: u32,
     q: worlds::Query,
-    types: [u8; 8],
+    types: worlds::Types,
     n: u8,
 ) -> Option<worlds::Site>
-    requires { Slotted lines × Sane q × (n ≤ 8) × ((o : ℕ) → get_or types o 0 < 24) }
-    ensures { Ended (Solution (sheet usable singles targets.now lows.now highs.now lines) q n) types n false (is_some result) (world_built n result) }
+    requires { Slotted lines × Sane q × (n ≤ 8) }
+    ensures { Ended (Solution (sheet usable singles targets.now lows.now highs.now lines) q n) types.at n false (is_some result) (world_built n result) }
 {
     let mut must = q.must;
-    if !fitting::types_fit(usable, singles, q, &types, n) {
+    if !fitting::types_fit(usable, singles, q, &types.at, n) {
         return None;
     }
     let mut may = rows::mays(targets, &types, n, &q.shut);
@@ -58,19 +59,22 @@ pub fn ends(
     }
     let net = link_search::NetArrays {
         rows: rows::row_arrays(lows, highs, &types, n, q),
-        columns: columns::column_arrays(lines, q, &types, n),
+        columns: columns::column_arrays(lines, q, &types.at, n),
         mirrors: link_search::MirrorArrays {
             right: lines.mirrorright,
             left: lines.mirrorleft,
-            from: columns::objects(&types, n, &lines.mirrorfrom),
-            to: columns::objects(&types, n, &lines.mirrorto),
+            from: columns::objects(&types.at, n, &lines.mirrorfrom),
+            to: columns::objects(&types.at, n, &lines.mirrorto),
         },
         wholes: link_search::WholeArrays {
             slot: lines.wholeslot,
-            from: columns::objects(&types, n, &lines.wholefrom),
-            to: columns::objects(&types, n, &lines.wholeto),
+            from: columns::objects(&types.at, n, &lines.wholefrom),
+            to: columns::objects(&types.at, n, &lines.wholeto),
         },
     };
     let ok = link_search::links(&net, &mut must, &mut may);
-    ok.then_some(worlds::Site { types, links: must })
+    ok.then_some(worlds::Site {
+        types: types.at,
+        links: must,
+    })
 }

@@ -10,14 +10,15 @@ ghost use Rattle.rules.specs.Compile.{side_number};
 ghost use Rattle.rules.specs.Evaluate.{side_of};
 ghost use Rattle.rules.specs.LinkRules.{rule6, rule7, rule8};
 ghost use Rattle.rules.specs.WholeRule.{rule9};
-ghost use Rattle.link_rules.specs.Judged.{Says, lowest_of_links};
+ghost use Rattle.diagrams.specs.View.{diagram_of};
+ghost use Rattle.link_rules.specs.Judged.{Judged, Says, lowest_of_links};
 ghost use Rattle.link_rules.specs.LinksIn.{Fits, instances_in, end_limits, targets_in, own_targets_in, rule6_at_in, rule6_in, sources_in, own_sources_in, rule7_at_in, rule7_in, mirrored_in, rule8_at_in, rule8_in};
 ghost use Rattle.link_rules.specs.WholesIn.{whole_by_in, is_whole_in, rule9_at_in, rule9_in, one_whole_at_in, one_whole_in};
 
 use diagrams::Associations;
 use laws::Mask;
 use masks::{Limits, Role};
-use tables::Tables;
+use tables::{Roles, Tables};
 
 // ---- sides, by their numbers in the compiled record: 0 for r2, whose links go from the left end to the right one; any other for r1,
 // whose links go back
@@ -41,6 +42,19 @@ pub struct Links<'a> {
 }
 
 impl<'a> Links<'a> {
+    // Those of a record in memory that is judged by its diagram. It has at most 8 objects, as `as u8` keeps them.
+    pub fn of(roles: &'a Roles<'a>) -> Self
+        ensures associations { result.associations.now ≡ roles.now.diagram.now.stored.associations }
+        ensures judged { let v = roles.now in Judged (diagram_of v.diagram.now.stored) v.memory.now result.associations.now result.links.now result.tables.now.masks result.tables.now.slots result.count }
+    {
+        Links {
+            associations: &roles.diagram.stored.associations,
+            links: &roles.memory.links,
+            tables: &roles.tables,
+            count: roles.memory.count as u8,
+        }
+    }
+
     // ---- ends
 
     // The instances of an end's type.

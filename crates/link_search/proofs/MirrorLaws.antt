@@ -12,9 +12,6 @@ module _ (right left from to : List ℕ) where
   abbrev pub MirrorAt : Net → ℕ → Type 0
   MirrorAt w x = MirrorHolds right left from to w (x / 64) (x / 8 % 8) (x % 8)
 
-  pub mirrors-at : (w : Net) → Mirrors right left from to w → (x : ℕ) → x < 1024 → MirrorAt w x
-  mirrors-at w m x h = m.at (x / 64) (x / 8 % 8) (x % 8) (omega arith) (omega arith) (omega arith)
-
   pub mirrors-of : (w : Net) → ((x : ℕ) → x < 1024 → MirrorAt w x) → Mirrors right left from to w
   mirrors-of w f = record {
     at = λ j o p hj ho hp.

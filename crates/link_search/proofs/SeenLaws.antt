@@ -1,10 +1,9 @@
 -- Looks at one part after the other.
 -- Assumes nothing.
-use Prim.Native.Nat.{ℕ, ◌+◌, ◌<◌}
+use Prim.Native.Nat.{ℕ, ◌<◌}
 use mathlib.Core.Bool.{false≢true}
 use mathlib.Core.List.{List}
 use lib.ListN.{get_or}
-use borrow.Author.Count.{below_more}
 use Rattle.std.specs.Prelude.{Option, None, Some, Result, Ok, Err, IsErr}
 use Rattle.laws.specs.Bounded.{tally}
 use Rattle.link_search.specs.Nets.{Net, net_of, Between, InLimits}
@@ -18,11 +17,6 @@ Seen P may n None = (j : ℕ) → j < n → P j
 Seen P may n (Some s) = Wanted may s
 
 module _ (P : ℕ → Type 0) (may : List ℕ) where
-  -- one more part, of which P holds
-  pub seen-fine : (n : ℕ) (best : Option Spot) → Seen P may n best → P n → Seen P may (n + 1) best
-  seen-fine n None h p = below_more P n h p
-  seen-fine n (Some s) h p = h
-
   -- all parts were looked at
   pub seen_done : (C : Net → Type 0) (must : List ℕ) (n : ℕ) (best : Option Spot) → (((j : ℕ) → j < n → P j) → C (net_of must)) → Seen P may n best → Looked C must may (Ok best)
   seen_done C must n None f a = f a

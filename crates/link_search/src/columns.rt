@@ -5,7 +5,7 @@ ghost use Rattle.link_search.specs.Nets.{net_of};
 ghost use Rattle.link_search.specs.Families.{Columns, Slots};
 ghost use Rattle.link_search.specs.Answers.{ColumnSaid, Looked};
 
-use crate::{ColumnArrays, NoNet, Spot, is_link, judge};
+use crate::{ColumnArrays, NoNet, Spot, judge};
 use laws::Mask;
 
 // Which objects of `from` have p in their row of the slot.
@@ -15,7 +15,7 @@ fn sources(rows: &[u8; 256], slot: u8, from: u8, p: u8) -> u8
 {
     let mut m: u8 = 0;
     for o in 0u8..8 {
-        if from.has(o) & is_link(rows, o, slot, p) {
+        if from.has(o) & records::is_linked(rows, o, slot, p) {
             m = m.with(o);
         }
     }
@@ -45,7 +45,7 @@ fn judge_column(
 }
 
 // A look at the columns.
-pub fn look_columns(
+pub(crate) fn look_columns(
     columns: &ColumnArrays,
     must: &[u8; 256],
     may: &[u8; 256],

@@ -2,10 +2,9 @@
 // rows and columns, mirrors and wholes are right. It knows no diagram: all that is asked stands in arrays.
 #![tactic(auto)]
 
-ghost use Rattle.std.specs.Prelude.{◌≡◌, true, false, ◌<◌, ◌+◌, ◌*◌, length};
+ghost use Rattle.std.specs.Prelude.{◌≡◌, true, false, ◌<◌, length};
 ghost use Rattle.laws.specs.Bits.{bit};
 ghost use Rattle.laws.specs.Bounded.{tally};
-ghost use Rattle.link_search.specs.Nets.{net_of};
 ghost use Rattle.link_search.specs.Families.{Fits, Slotted};
 ghost use Rattle.link_search.specs.Answers.{BitsJudged, Looked, NetAnswer};
 
@@ -15,6 +14,8 @@ mod columns;
 mod mirrors;
 mod rows;
 mod wholes;
+
+// The arrays are flat and of one field each: the search reads one field for all rows, columns or targets after another.
 
 // What is asked of rows: for object o and role slot s at o * 32 + s, how many targets there are at least and at most.
 #[derive(Clone, Copy)]
@@ -69,32 +70,12 @@ struct Spot {
 #[derive(Clone, Copy)]
 struct NoNet;
 
-// A byte as a count of bits.
-fn number(x: u8) -> u32
-    ensures { (result ≡ x) × (result < 256) }
-{
-    x as u32
-}
-
-// Whether object o has a link to p by the role in the slot.
-pub fn is_link(rows: &[u8; 256], o: u8, slot: u8, p: u8) -> bool
-    requires { (o < 8) × (slot < 32) × (p < 8) }
-    ensures { result ≡ net_of rows.now (o * 32 + slot) p }
-{
-    rows[usize::from(o) * 32 + usize::from(slot)].has(p)
-}
-
 // The lowest bit that is set, of a mask that has one.
 fn lowest(m: u8) -> u8
     requires { 0 < tally (λ k. bit k m) 8 }
     ensures { (result < 8) × (bit result m ≡ true) }
 {
-    for k in 0u8..7 {
-        if m.has(k) {
-            return k;
-        }
-    }
-    7
+    m.trailing_zeros() as u8
 }
 
 // One set of bits between limits: none is missing, or a bit that may stand is wanted, or no set between is right.
@@ -103,13 +84,13 @@ fn judge(must: u8, may: u8, low: u8, high: u8) -> Result<Option<u8>, NoNet>
 {
     let y = laws::count8(must);
     let a = laws::count8(may);
-    if number(high) < y {
+    if u32::from(high) < y {
         return Err(NoNet);
     }
-    if y + a < number(low) {
+    if y + a < u32::from(low) {
         return Err(NoNet);
     }
-    if y < number(low) {
+    if y < u32::from(low) {
         return Ok(Some(lowest(may)));
     }
     Ok(None)
@@ -142,7 +123,7 @@ pub fn links(net: &NetArrays, must: &mut [u8; 256], may: &mut [u8; 256]) -> bool
     let i = spot.row;
     let y = must[i];
     let m = may[i];
-    may[i] = laws::off8(m, spot.target);
+    may[i] = m.without(spot.target);
     must[i] = y.with(spot.target);
     if links(net, must, may) {
         return true;

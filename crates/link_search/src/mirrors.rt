@@ -3,7 +3,7 @@ ghost use Rattle.std.specs.Prelude.{◌<◌, ◌+◌, ◌*◌, get_or};
 ghost use Rattle.link_search.specs.Families.{MirrorHolds, Mirrors, Slots};
 ghost use Rattle.link_search.specs.Answers.{Looked, Paired};
 
-use crate::{MirrorArrays, NoNet, Spot, is_link};
+use crate::{MirrorArrays, NoNet, Spot};
 use laws::Mask;
 
 // Of a link and the link back, the one that is wanted.
@@ -50,10 +50,10 @@ fn judge_mirror(
     let r = mirrors.right[j];
     let l = mirrors.left[j];
     let wanted = pair(
-        is_link(must, o, r, p),
-        is_link(may, o, r, p),
-        is_link(must, p, l, o),
-        is_link(may, p, l, o),
+        records::is_linked(must, o, r, p),
+        records::is_linked(may, o, r, p),
+        records::is_linked(must, p, l, o),
+        records::is_linked(may, p, l, o),
     )?;
     Ok(match wanted {
         None => None,
@@ -69,7 +69,7 @@ fn judge_mirror(
 }
 
 // A look at the mirrors, up to the first bit that is wanted.
-pub fn look_mirrors(
+pub(crate) fn look_mirrors(
     mirrors: &MirrorArrays,
     must: &[u8; 256],
     may: &[u8; 256],

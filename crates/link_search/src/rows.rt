@@ -5,7 +5,11 @@ ghost use Rattle.link_search.specs.Answers.{Looked};
 use crate::{NoNet, RowArrays, Spot, judge};
 
 // A look at the rows.
-pub fn look_rows(rows: &RowArrays, must: &[u8; 256], may: &[u8; 256]) -> Result<Option<Spot>, NoNet>
+pub(crate) fn look_rows(
+    rows: &RowArrays,
+    must: &[u8; 256],
+    may: &[u8; 256],
+) -> Result<Option<Spot>, NoNet>
     ensures { Looked (RowsFit rows.now.low rows.now.high) must.now may.now result }
 {
     let mut best = None;

@@ -5,7 +5,7 @@ ghost use Rattle.link_search.specs.Nets.{net_of};
 ghost use Rattle.link_search.specs.Families.{part, whole, Wholes, Slots};
 ghost use Rattle.link_search.specs.Answers.{WholesSaid};
 
-use crate::{NoNet, WholeArrays, is_link};
+use crate::{NoNet, WholeArrays};
 use laws::Mask;
 
 // Whether o has p as a part by composition j.
@@ -13,7 +13,7 @@ fn is_part(wholes: &WholeArrays, rows: &[u8; 256], j: usize, p: u8, o: u8) -> bo
     requires { (j < 16) × (p < 8) × (o < 8) × (get_or wholes.now.slot j 0 < 32) }
     ensures { result ≡ part wholes.now.slot wholes.now.from wholes.now.to (net_of rows.now) p o j }
 {
-    wholes.from[j].has(o) & wholes.to[j].has(p) & is_link(rows, o, wholes.slot[j], p)
+    wholes.from[j].has(o) & wholes.to[j].has(p) & records::is_linked(rows, o, wholes.slot[j], p)
 }
 
 // Whether o has p as a part by some composition.
@@ -44,7 +44,7 @@ fn count_wholes(wholes: &WholeArrays, rows: &[u8; 256], p: u8) -> u32
 }
 
 // A look at the wholes. It never wants a bit: only what must stand can break the rule.
-pub fn look_wholes(wholes: &WholeArrays, must: &[u8; 256]) -> Result<(), NoNet>
+pub(crate) fn look_wholes(wholes: &WholeArrays, must: &[u8; 256]) -> Result<(), NoNet>
     requires { Slots wholes.now.slot 16 }
     ensures { WholesSaid wholes.now.slot wholes.now.from wholes.now.to must.now result }
 {

@@ -19,6 +19,7 @@ use Rattle.files.specs.Field.{Rows, cut, end, row, rows}
 use Rattle.files.specs.Refusal.{Answer, accepted, or_refused, refused}
 use Rattle.files.proofs.DiagramWellFormed.{nothing-wf}
 use Rattle.files.specs.WellFormedDiagram.{WfDiagram}
+use Rattle.diagrams.specs.declared.ReadDiagram.{ReadDiagram}
 use Rattle.diagrams.specs.declared.StoredDiagram.{StoredDiagram}
 use Rattle.diagrams.specs.Empty.{empty_diagram}
 use Rattle.diagrams.specs.Held.{Held}
@@ -41,9 +42,9 @@ start-says file e = ap (λ (x : Diagram). diagram_from 0 x (rows file)) (sym emp
 
 -- ---- replies
 
-pub refuses : (file : List ℕ) (e : Refusal) (r : Result StoredDiagram Refusal) → read_diagram file ≡ refused (number_of e) → IsErrAnd r (λ y. y ≡ e) → Loads file r
+pub refuses : (file : List ℕ) (e : Refusal) (r : Result ReadDiagram Refusal) → read_diagram file ≡ refused (number_of e) → IsErrAnd r (λ y. y ≡ e) → Loads file r
 refuses file e (Ok d) q h = absurd h
-refuses file e (Err y) q h = record { says = passed-on diagram_of (Err y) e h ∙ sym q; held = tt }
+refuses file e (Err y) q h = record { says = passed-on (λ (d : ReadDiagram). diagram_of d.stored) (Err y) e h ∙ sym q }
 
 or-refused : (n : ℕ) (a : Answer Diagram) → 0 < n → or_refused n a ≡ refused n
 unfolding or_refused
@@ -65,14 +66,15 @@ module _ (file s : List ℕ) (last : ℕ) (d : StoredDiagram) (e : read_diagram 
   reply-empty h z =
       refuses file Misplaced (Err Misplaced) (from end h ∙ ap (λ (b : Bool). cond {A = Answer Diagram} b (refused 2) (accepted (diagram_of d))) (eq-eqb last 0 z)) refl
 
-  pub reply-accepted : Held d → rows s ≡ end → (last ≡ 0 → ⊥) → Loads file (Ok d)
+  pub reply-accepted : (r : ReadDiagram) → r.stored ≡ d → rows s ≡ end → (last ≡ 0 → ⊥) → Loads file (Ok r)
   unfolding diagram_from
-  reply-accepted held h n = record {
-    says = sym (from end h ∙ ap (λ (b : Bool). cond {A = Answer Diagram} b (refused 2) (accepted (diagram_of d))) (ne_eqb last 0 n));
-    held = held;
+  reply-accepted r q h n = record {
+    says =
+        ap (λ (x : StoredDiagram). accepted (diagram_of x)) q
+        ∙ sym (from end h ∙ ap (λ (b : Bool). cond {A = Answer Diagram} b (refused 2) (accepted (diagram_of d))) (ne_eqb last 0 n));
   }
 
-  pub reply-cut : (y : Refusal) (r : Result StoredDiagram Refusal) → (rows s ≡ cut) × (y ≡ Cut) → IsErrAnd r (λ z. z ≡ y) → Loads file r
+  pub reply-cut : (y : Refusal) (r : Result ReadDiagram Refusal) → (rows s ≡ cut) × (y ≡ Cut) → IsErrAnd r (λ z. z ≡ y) → Loads file r
   unfolding diagram_from
   reply-cut y r h q = refuses file y r (from cut h.0 ∙ ap (λ (z : Refusal). refused (number_of z)) (sym h.1)) q
 
@@ -84,7 +86,7 @@ module _ (file s : List ℕ) (last : ℕ) (d : StoredDiagram) (e : read_diagram 
     unfolding diagram_from
     taken = from (row f.tag f.content.now (rows f.rest.now)) w.is
 
-    pub reply-refused : (y : Refusal) (r : Result StoredDiagram Refusal) → number_of y ≡ diagram_refusal last (diagram_of d) f.tag f.content.now → IsErrAnd r (λ z. z ≡ y)
+    pub reply-refused : (y : Refusal) (r : Result ReadDiagram Refusal) → number_of y ≡ diagram_refusal last (diagram_of d) f.tag f.content.now → IsErrAnd r (λ z. z ≡ y)
         → Loads file r
     reply-refused y r h q =
         refuses file y r (taken ∙ or-refused _ _ (let n = numbered y in omega (arith, h)) ∙ ap (λ (k : ℕ). refused k) (sym h)) q

@@ -6,54 +6,43 @@ ghost use Rattle.loading.specs.Loads.{Loads};
 
 pub mod storing; // storing.rt: a diagram in memory with one field more
 
-use diagrams::StoredDiagram;
+use diagrams::{ReadDiagram, StoredDiagram};
 use fields::Refusal;
 
 // ---- a field
 
-// The diagram with a field more.
-fn with_field(d: StoredDiagram, tag: u8, c: &[u8]) -> StoredDiagram
-    requires { FieldPasses d tag c.now }
-    ensures { WithField d tag c.now result }
+// One field more.
+fn add_field(d: &mut StoredDiagram, tag: u8, c: &[u8])
+    requires { FieldPasses d.old tag c.now }
+    ensures { WithField d.old tag c.now d.new }
 {
     match tag {
-        16 => d,
-        32 => StoredDiagram {
-            values: storing::with_value_type(d.values, c),
-            ..d
-        },
-        48 => StoredDiagram {
-            types: storing::with_type(d.types, c),
-            ..d
-        },
-        64 => StoredDiagram {
-            attributes: storing::with_attribute(d.attributes, c),
-            ..d
-        },
-        _ => StoredDiagram {
-            associations: storing::with_association(d.associations, c),
-            ..d
-        },
+        0x10 => {}
+        0x20 => storing::add_value_type(&mut d.values, c),
+        0x30 => storing::add_type(&mut d.types, c),
+        0x40 => storing::add_attribute(&mut d.attributes, c),
+        _ => storing::add_association(&mut d.associations, c),
     }
 }
 
 // ---- a file
 
-// Reads a diagram file: its fields from left to right, up to the first refusal.
-pub fn read_diagram(file: &[u8]) -> Result<StoredDiagram, Refusal>
+// Reads a diagram file: its fields from left to right, up to the first refusal. The last tag is 0 before the first field, since no
+// tag is 0 and none falls behind it.
+pub fn read_diagram(file: &[u8]) -> Result<ReadDiagram, Refusal>
     ensures { Loads file.now result }
 {
     let mut d = diagrams::empty_diagram();
     let mut last = 0;
     let mut rest = file;
     while let Some(field) = fields::read_field(rest)? {
-        refusing::check_field(d, last, field.tag, field.content)?;
-        d = with_field(d, field.tag, field.content);
+        refusing::check_field(&d, last, field.tag, field.content)?;
+        add_field(&mut d, field.tag, field.content);
         last = field.tag;
         rest = field.rest;
     }
     if last == 0 {
         return Err(Refusal::Misplaced);
     }
-    Ok(d)
+    Ok(ReadDiagram { stored: d })
 }

@@ -1,2 +1,1 @@
 pub mod MaskRuleLaws
-pub mod RangeLaws

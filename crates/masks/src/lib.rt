@@ -8,6 +8,7 @@ ghost use Rattle.rules.specs.Arrow.{within};
 ghost use Rattle.masks.specs.Masks.{limits_of, link_in, row_fits, row_at_fits, rows_fit, arrives_from, arriving, column_at_fits, columns_fit, mirror_fits, mirror_row_fits, mirrors_fit, whole_in};
 
 use laws::Mask;
+use records::is_linked;
 
 // ---- objects and links
 
@@ -26,15 +27,7 @@ fn row(links: &[u8; 256], s: u8, o: u8) -> u8
     requires { (s < 32) × (o < 8) }
     ensures { (p : ℕ) → bit p result ≡ link_in links.now s o p }
 {
-    links[usize::from(o) * 32 + usize::from(s)]
-}
-
-// Object o has the link to p.
-pub fn is_linked(links: &[u8; 256], s: u8, o: u8, p: u8) -> bool
-    requires { (s < 32) × ((o < 8) × (p < 8)) }
-    ensures { result ≡ link_in links.now s o p }
-{
-    row(links, s, o).has(p)
+    links[laws::place(o, s)]
 }
 
 // ---- limits
@@ -51,7 +44,7 @@ impl Limits {
     fn admits(self, n: u32) -> bool
         ensures { result ≡ within (limits_of self.low self.up) n }
     {
-        (self.low as u32 <= n) & ((self.up == 65535) | (n <= self.up as u32))
+        (u32::from(self.low) <= n) & ((self.up == 65535) | (n <= u32::from(self.up)))
     }
 }
 
@@ -105,7 +98,7 @@ impl<'a> Role<'a> {
         requires { (o < 8) × (p < 8) }
         ensures { result ≡ arrives_from self.now.links.now self.now.slot self.now.from p o }
     {
-        self.from.has(o) & is_linked(self.links, self.slot, o, p)
+        self.from.has(o) & is_linked(self.links, o, self.slot, p)
     }
 
     // How many objects of `from` link to p.
@@ -152,7 +145,7 @@ impl<'a> Role<'a> {
         if !self.to.has(p) {
             return true;
         }
-        is_linked(self.links, self.slot, o, p) == is_linked(self.links, back, p, o)
+        is_linked(self.links, o, self.slot, p) == is_linked(self.links, p, back, o)
     }
 
     fn mirror_row_fits(&self, back: u8, o: u8) -> bool
@@ -176,7 +169,7 @@ impl<'a> Role<'a> {
         requires { (o < 8) × (p < 8) }
         ensures { result ≡ whole_in self.now.links.now self.now.slot self.now.from self.now.to p o }
     {
-        is_linked(self.links, self.slot, o, p) & (self.from.has(o) & self.to.has(p))
+        is_linked(self.links, o, self.slot, p) & (self.from.has(o) & self.to.has(p))
     }
 
     // The wholes that p has by a composition of these ends.

@@ -10,7 +10,7 @@ use Rattle.laws.specs.Lists.{joined, listed}
 use Rattle.files.specs.Name.{Name, same_name}
 use Rattle.fields.specs.Slot.{slot_name}
 use Rattle.loading.specs.Stored.{NameStored}
-use Rattle.name_lists.specs.declared.Names.{Names}
+use Rattle.name_lists.specs.declared.list.Names.{Names}
 use Rattle.name_lists.specs.Names.{names_in}
 
 pub names-length : (n : Names) → length (names_in n) ≡ n.count
@@ -31,8 +31,3 @@ pub names-pushed : (n r : Names) (w : Name) → r.count ≡ n.count + 1 → Name
 unfolding names_in
 names-pushed n r w e f =
     listed_more (λ i. slot_name r.names i) (λ i. slot_name n.names i) n.count r.count w e (λ i l. f.kept i l) f.is
-
--- what is asked of the slot at a place, asked of the list
-pub names-asked : (n : Names) (i : ℕ) (v w : Name) {r : Bool} → i < n.count → v ≡ slot_name n.names i → r ≡ same_name v w
-    → r ≡ same_name (get_or (names_in n) i []) w
-names-asked n i v w h e q = q ∙ ap (λ (x : Name). same_name x w) (e ∙ sym (names_at n i h))

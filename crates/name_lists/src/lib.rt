@@ -6,11 +6,9 @@ ghost use Rattle.laws.specs.Bounded.{first};
 ghost use Rattle.files.specs.Name.{same_name};
 ghost use Rattle.name_lists.specs.Names.{names_in};
 
-#[derive(Clone, Copy)]
-pub struct Names {
-    pub count: usize,
-    pub names: [u8; 408],
-}
+mod list; // list.rt: the list
+
+pub use list::Names;
 
 pub fn no_names() -> Names
     ensures { (result.count ≡ 0) × (names_in result ≡ []) }
@@ -22,25 +20,21 @@ pub fn no_names() -> Names
 }
 
 // One name more.
-pub fn push_name(mut n: Names, w: &[u8]) -> Names
+pub fn push_name(n: Names, w: &[u8]) -> Names
     requires { (n.count < 24) × (length w.now ≤ 16) }
     ensures { (result.count ≡ n.count + 1) × (names_in result ≡ names_in n ++ (w.now ∷ [])) }
 {
-    let i = n.count;
-    loading::storing::store_name(&mut n.names, i, w);
-    n.count = i + 1;
-    n
+    let mut names = n.names;
+    loading::storing::store_name(&mut names, n.count, w);
+    Names {
+        count: n.count + 1,
+        names,
+    }
 }
 
-// The first place of the name w, or their number: a number, since the writers of fields put it into the file as it is.
+// The first place of the name w, or their number, which the writers of fields put into the file as it is.
 pub fn find_name(n: Names, w: &[u8]) -> usize
-    requires { n.count ≤ 24 }
     ensures { (result ≡ first (λ i. same_name (get_or (names_in n) i []) w.now) n.count) × (result ≤ n.count) }
 {
-    for i in 0..n.count {
-        if fields::same_name(fields::slot_name(&n.names, i as u8), w) {
-            return i;
-        }
-    }
-    n.count
+    usize::from(fields::slot_of(&n.names, n.count as u8, w))
 }

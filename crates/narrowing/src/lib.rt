@@ -19,7 +19,8 @@ fn usable_row(mask: u32, high: u8, usable: u32, t: u8) -> u32
     mask & usable
 }
 
-// What is left of the table where objects have types of the mask `usable`.
+// What is left of the table where objects have types of the mask `usable`. A loop, since array::from_fn does not promise that the arrays that
+// its closure reads are the same at each call.
 pub fn narrowed(targets: &[u32; 768], highs: &[u8; 768], usable: u32) -> [u32; 768]
     ensures { (singles : ℕ) (lows : List ℕ) (x : Lines) → Narrows (sheet usable singles targets.now lows highs.now x) result }
 {

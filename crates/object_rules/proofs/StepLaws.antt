@@ -29,15 +29,15 @@ single-by kinds types n i e q z t = imp-yes (eq-eqb _ _ (sym (read_at kinds i e 
 
 -- ---- rule 3
 
-pub due-by : (values owners masks slots : List ℕ) (n o a : ℕ) {w s v u b : ℕ} {q r : Bool} → w ≡ a → s ≡ get_or slots w 0 → v ≡ o → u ≡ s
-    → b ≡ get_or values (v * 32 + u) 0 → q ≡ any (declares_at owners masks slots o s) n → r ≡ same (not (eqb b 0)) q
+pub due-by : (values owners masks slots : List ℕ) (n o a : ℕ) {w s k b : ℕ} {q r : Bool} → w ≡ a → s ≡ get_or slots w 0 → k ≡ o * 32 + s
+    → b ≡ get_or values k 0 → q ≡ any (declares_at owners masks slots o s) n → r ≡ same (not (eqb b 0)) q
     → r ≡ due_at values owners masks slots n o a
 unfolding due_at
-due-by values owners masks slots n o a e f g h b q r =
+due-by values owners masks slots n o a e f g b q r =
     let s = read_at slots a e f in
     r
     ∙ ap₂ (λ (x : ℕ) (y : Bool). same (not (eqb x 0)) y)
-    (b ∙ ap₂ (λ (x y : ℕ). get_or values (x * 32 + y) 0) g (h ∙ s)) (q ∙ ap (λ (x : ℕ). any (declares_at owners masks slots o x) n) s)
+    (b ∙ ap (λ (x : ℕ). get_or values x 0) (g ∙ ap (λ (x : ℕ). o * 32 + x) s)) (q ∙ ap (λ (x : ℕ). any (declares_at owners masks slots o x) n) s)
 
 -- ---- rule 4
 

@@ -1,4 +1,5 @@
-// Rules 1 to 5 on a record in memory, by the tables of instances and slots.
+// Rules 1 to 5 on a record in memory, by the tables of instances and slots. Objects are at most 8 and slots at most 32, as `as u8`
+// keeps them.
 #![tactic(auto)]
 
 ghost use Rattle.std.specs.Prelude.{◌≡◌};
@@ -7,8 +8,6 @@ ghost use Rattle.rules.specs.ValueRules.{rule4};
 ghost use Rattle.memory_rules.specs.SiteIn.{site_in};
 ghost use Rattle.memory_rules.specs.JudgeIn.{rule3_in, rule5_in};
 ghost use Rattle.diagrams.specs.View.{diagram_of};
-ghost use Rattle.diagrams.specs.Held.{Held};
-ghost use Rattle.tables.specs.Tables.{Instances, RoleSlots, AttributeSlots, Coded};
 ghost use Rattle.object_rules.specs.ValuesIn.{own_slot};
 
 mod rule1;
@@ -17,24 +16,24 @@ mod rule3;
 mod rule4;
 mod rule5;
 
-use diagrams::StoredDiagram;
+use declarations::Declarations;
+use diagrams::ReadDiagram;
+use permits::Permits;
 use records::MemoryRecord;
-use tables::Tables;
+use tables::{Roles, Tables, Values};
 
 // Rule 1: each object's type is a class or singleton class of the diagram.
-pub fn types_concrete(d: &StoredDiagram, m: &MemoryRecord) -> bool
-    requires { Held d.now × Coded (diagram_of d.now) m.now }
-    ensures { result ≡ rule1 (diagram_of d.now) (site_in (diagram_of d.now) m.now) }
+pub fn types_concrete(d: &ReadDiagram, m: &MemoryRecord) -> bool
+    ensures { result ≡ rule1 (diagram_of d.now.stored) (site_in (diagram_of d.now.stored) m.now) }
 {
-    rule1::are_concrete(&d.types, m)
+    rule1::are_concrete(&d.stored.types, m)
 }
 
 // Rule 2: each singleton class is the type itself of exactly one object.
-pub fn singletons_single(d: &StoredDiagram, m: &MemoryRecord) -> bool
-    requires { Held d.now × Coded (diagram_of d.now) m.now }
-    ensures { result ≡ rule2 (diagram_of d.now) (site_in (diagram_of d.now) m.now) }
+pub fn singletons_single(d: &ReadDiagram, m: &MemoryRecord) -> bool
+    ensures { result ≡ rule2 (diagram_of d.now.stored) (site_in (diagram_of d.now.stored) m.now) }
 {
-    rule2::are_single(&d.types, m)
+    rule2::are_single(&d.stored.types, m)
 }
 
 // Slot s is one of n, and its name's own.
@@ -46,31 +45,40 @@ fn is_own(t: &Tables, n: usize, s: u8) -> bool
 }
 
 // Rule 3: an object has a value for an attribute name exactly when its type or an ancestor declares it.
-pub fn values_declared(d: &StoredDiagram, m: &MemoryRecord, t: &Tables) -> bool
-    requires { Held d.now × Coded (diagram_of d.now) m.now × Instances (diagram_of d.now) m.now t.now.masks × AttributeSlots (diagram_of d.now) t.now.slots }
-    ensures { result ≡ rule3_in (diagram_of d.now) m.now }
+pub fn values_declared(v: &Values) -> bool
+    ensures { result ≡ rule3_in (diagram_of v.now.diagram.now.stored) v.now.memory.now }
 {
-    if m.strays.values {
+    if v.memory.strays.values {
         return false;
     }
-    rule3::all_due(m, &d.attributes, t)
+    let declarations = Declarations {
+        attributes: &v.diagram.stored.attributes,
+        tables: &v.tables,
+    };
+    rule3::all_due(v.memory, &declarations)
 }
 
 // Rule 4: each value belongs to the value type of every declaration of its attribute name for its object.
-pub fn values_belong(d: &StoredDiagram, m: &MemoryRecord, t: &Tables) -> bool
-    requires { Held d.now × Coded (diagram_of d.now) m.now × Instances (diagram_of d.now) m.now t.now.masks × AttributeSlots (diagram_of d.now) t.now.slots }
-    ensures { result ≡ rule4 (diagram_of d.now) (site_in (diagram_of d.now) m.now) }
+pub fn values_belong(v: &Values) -> bool
+    ensures { result ≡ rule4 (diagram_of v.now.diagram.now.stored) (site_in (diagram_of v.now.diagram.now.stored) v.now.memory.now) }
 {
-    rule4::values_fit(m, &d.attributes, t)
+    let declarations = Declarations {
+        attributes: &v.diagram.stored.attributes,
+        tables: &v.tables,
+    };
+    rule4::values_fit(v.memory, &declarations)
 }
 
 // Rule 5: each link's role is carried by some association in that direction with both objects instances of its ends.
-pub fn links_permitted(d: &StoredDiagram, m: &MemoryRecord, t: &Tables) -> bool
-    requires { Held d.now × Coded (diagram_of d.now) m.now × Instances (diagram_of d.now) m.now t.now.masks × RoleSlots (diagram_of d.now) t.now.slots }
-    ensures { result ≡ rule5_in (diagram_of d.now) m.now }
+pub fn links_permitted(r: &Roles) -> bool
+    ensures { result ≡ rule5_in (diagram_of r.now.diagram.now.stored) r.now.memory.now }
 {
-    if m.strays.links {
+    if r.memory.strays.links {
         return false;
     }
-    rule5::links_fit(m, &d.associations, t)
+    let permits = Permits {
+        associations: &r.diagram.stored.associations,
+        tables: &r.tables,
+    };
+    rule5::links_fit(r.memory, &permits)
 }

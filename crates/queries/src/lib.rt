@@ -3,7 +3,7 @@
 
 ghost use Rattle.std.specs.Prelude.{◌≡◌, true, false, ◌&&◌, ℕ, ◌<◌, eqb};
 ghost use Rattle.laws.specs.Bits.{bit};
-ghost use Rattle.queries.specs.Forms.{seeded, linked, barred, rowed, columned, avoiding};
+ghost use Rattle.queries.specs.Forms.{seeded, linked, barred, rowed, columned, avoiding, with_bit};
 
 use laws::Mask;
 use worlds::Query;
@@ -34,7 +34,8 @@ pub fn meets(a: u32, b: u32) -> bool
 
 // ---- queries
 
-// The first seeds objects have types of a, b and c. Nothing else is asked.
+// The first seeds objects have types of a, b and c. Nothing else is asked. Limits that no number breaks say that, and no Option: the search
+// reads them as numbers in each case, without a test for whether they are given.
 pub fn with_seeds(seeds: u8, a: u32, b: u32, c: u32) -> Query
     ensures { result ≡ seeded seeds a b c }
 {
@@ -54,15 +55,25 @@ pub fn with_seeds(seeds: u8, a: u32, b: u32, c: u32) -> Query
     }
 }
 
+// The rows, and the link of object o to p in slot s.
+fn with_bit(rows: [u8; 256], s: u8, o: u8, p: u8) -> [u8; 256]
+    requires { (s < 32) × (o < 8) × (p < 8) }
+    ensures { result ≡ with_bit rows s o p }
+{
+    let mut r = rows;
+    r[laws::place(o, s)] |= 1u8 << p;
+    r
+}
+
 // Besides, object o has a link to p in slot s.
 pub fn with_link(q: Query, s: u8, o: u8, p: u8) -> Query
     requires { (s < 32) × (o < 8) × (p < 8) }
     ensures { result ≡ linked q s o p }
 {
-    let i = usize::from(o) * 32 + usize::from(s);
-    let mut e = q;
-    e.must[i] |= 1u8 << p;
-    e
+    Query {
+        must: with_bit(q.must, s, o, p),
+        ..q
+    }
 }
 
 // Besides, object o has no link to p in slot s.
@@ -70,10 +81,10 @@ pub fn with_bar(q: Query, s: u8, o: u8, p: u8) -> Query
     requires { (s < 32) × (o < 8) × (p < 8) }
     ensures { result ≡ barred q s o p }
 {
-    let i = usize::from(o) * 32 + usize::from(s);
-    let mut e = q;
-    e.shut[i] |= 1u8 << p;
-    e
+    Query {
+        shut: with_bit(q.shut, s, o, p),
+        ..q
+    }
 }
 
 // Besides, the first object has so many targets in slot s.

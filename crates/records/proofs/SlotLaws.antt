@@ -5,22 +5,21 @@
 use Prim.Native.Nat.{◌+◌, ◌<◌, ◌≤◌, suc, zero, ℕ}
 use native.Mathlib.Omega.{arith}
 use mathlib.Core.Bool.{Bool, cond, true}
-use mathlib.Core.List.{[]}
 use mathlib.Core.Logic.{⊎_elim}
 use mathlib.Core.Path.{◌∙◌, ◌≡◌, ap, ap₂, refl, sym}
-use lib.Dec.{eqb, ltb}
-use lib.ListN.{get_or, length}
+use lib.Dec.{eqb}
+use lib.ListN.{length}
 use borrow.Author.Tests.{eq-eqb, eqb-true, lt-ltb, ltb-true}
 use Rattle.laws.specs.Bounded.{first}
-use Rattle.laws.specs.Connective.{both, either}
+use Rattle.laws.specs.Connective.{both}
 use Rattle.laws.proofs.BoundedLaws.{any_none}
 use Rattle.laws.proofs.ConnectiveLaws.{both_left, both_of, both_right, either-cases, either_left, either-right, same_test}
 use Rattle.laws.proofs.FirstLaws.{first_below, first-ext, first-hit, first_holds, first-le}
-use Rattle.files.specs.Diagram.{Diagram, ValueType, attribute_at, type_at}
+use Rattle.files.specs.Diagram.{Diagram, attribute_at, type_at}
 use Rattle.files.specs.Name.{Name, key, same_name}
 use Rattle.files.specs.Record.{Record, value_at}
 use Rattle.files.specs.WellFormedDiagram.{WfDiagram}
-use Rattle.files.proofs.NameLaws.{key-length, key-same, same_key, same-right, same_self}
+use Rattle.files.proofs.NameLaws.{key-same, same_key, same-right, same_self}
 use Rattle.records.specs.Represents.{code_among}
 use Rattle.records.specs.Slots.{attribute_slot, code_of, is_code, is_constant, own_attribute, own_role, role_count, role_name, role_slot, type_index}
 use Rattle.records.specs.Written.{IsValue}
@@ -179,12 +178,6 @@ module _ (d : Diagram) where
   }
 
   -- names of one key have one code
-
-  constant-alike : (t : ValueType) (i : ℕ) (b c : Name) → key b ≡ key c → is_constant t i b ≡ is_constant t i c
-  unfolding is_constant
-  constant-alike t i b c e =
-      ap₂ either (ap (both (ltb i (length t.constants))) (same-right (get_or t.constants i []) b c e))
-      (ap (λ (n : ℕ). both (eqb (length t.constants) 0) (both (eqb i 0) (eqb n 0))) (key-length b c e))
 
   pub among-alike : (r : Record) (o : ℕ) (v w : Name) → key v ≡ key w → (n : ℕ) → code_among d r o v n ≡ code_among d r o w n
   unfolding code_among

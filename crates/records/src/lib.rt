@@ -1,10 +1,13 @@
 // A record in memory, as seen by one diagram: its types, values and links together, by that diagram's indices.
 #![tactic(auto)]
 
-ghost use Rattle.std.specs.Prelude.{◌≡◌};
+ghost use Rattle.std.specs.Prelude.{◌≡◌, ◌<◌, ◌*◌, ◌+◌, get_or};
+ghost use Rattle.laws.specs.Bits.{bit};
 ghost use Rattle.records.specs.Empty.{empty_record};
 
-// Whether the record has something that the diagram has no index for.
+use laws::Mask;
+
+// Whether the record has something that the diagram has no index for: of values, of links, or of both.
 #[derive(Clone, Copy)]
 pub struct Strays {
     // A value of an attribute name that no type of the diagram declares.
@@ -13,7 +16,8 @@ pub struct Strays {
     pub links: bool,
 }
 
-// Passed by value, with flat arrays of indices and masks: a rule of the project.
+// Passed by value, with flat arrays of indices and masks: a rule of the project. So a type that the diagram lacks and a value that
+// is not there are numbers in these arrays too.
 #[derive(Clone, Copy)]
 pub struct MemoryRecord {
     pub count: usize,
@@ -40,4 +44,12 @@ pub fn empty_record() -> MemoryRecord
             links: false,
         },
     }
+}
+
+// Object o has the link to p by the role in slot s.
+pub fn is_linked(links: &[u8; 256], o: u8, s: u8, p: u8) -> bool
+    requires { (o < 8) × (s < 32) × (p < 8) }
+    ensures { result ≡ bit p (get_or links.now (o * 32 + s) 0) }
+{
+    links[laws::place(o, s)].has(p)
 }

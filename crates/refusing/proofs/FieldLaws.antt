@@ -4,7 +4,7 @@ use Prim.Native.Nat.{ℕ}
 use mathlib.Core.Bool.{Bool, true, false}
 use mathlib.Core.List.{List}
 use mathlib.Core.Path.{◌≡◌, refl, sym, ◌∙◌}
-use borrow.Author.Tests.{eq-eqb, ne_eqb}
+use borrow.Author.Tests.{ne_eqb}
 use Rattle.laws.specs.Connective.{refuse}
 use Rattle.files.specs.DiagramFile.{association_refusal, attribute_refusal, diagram_refusal, diagram_tags, edition_refusal, type_named, type_refusal, value_type_named, value_type_refusal}
 use Rattle.files.specs.Refusal.{misplaced}
@@ -38,22 +38,22 @@ module _ (d : StoredDiagram) (last t : ℕ) (c : List ℕ) where
   pub field-edition : {m : Bool} {r : ℕ} → m ≡ misplaced 16 diagram_tags last t → m ≡ false → t ≡ 16 → r ≡ edition_refusal c
       → r ≡ diagram_refusal last (diagram_of d) t c
   unfolding diagram_refusal refuse
-  field-edition e h y q = rw (sym e ∙ h, eq-eqb t 16 y) q
+  field-edition e h y q = rw (sym e ∙ h, y) q
 
-  pub field-value-type : {m : Bool} {r : ℕ} → m ≡ misplaced 16 diagram_tags last t → m ≡ false → (t ≡ 16 → ⊥) → t ≡ 32
+  pub field-value-type : {m : Bool} {r : ℕ} → m ≡ misplaced 16 diagram_tags last t → m ≡ false → t ≡ 32
       → r ≡ value_type_refusal (only_value_types d.values) c → r ≡ diagram_refusal last (diagram_of d) t c
   unfolding diagram_refusal refuse
-  field-value-type e h n y q = rw (sym e ∙ h, ne_eqb t 16 n, eq-eqb t 32 y) (q ∙ value-type-refusal d c)
+  field-value-type e h y q = rw (sym e ∙ h, y) (q ∙ value-type-refusal d c)
 
-  pub field-type : {m : Bool} {r : ℕ} → m ≡ misplaced 16 diagram_tags last t → m ≡ false → (t ≡ 16 → ⊥) → (t ≡ 32 → ⊥) → t ≡ 48
+  pub field-type : {m : Bool} {r : ℕ} → m ≡ misplaced 16 diagram_tags last t → m ≡ false → t ≡ 48
       → r ≡ type_refusal (only_types d.types) c → r ≡ diagram_refusal last (diagram_of d) t c
   unfolding diagram_refusal refuse
-  field-type e h n o y q = rw (sym e ∙ h, ne_eqb t 16 n, ne_eqb t 32 o, eq-eqb t 48 y) (q ∙ type-refusal d c)
+  field-type e h y q = rw (sym e ∙ h, y) (q ∙ type-refusal d c)
 
-  pub field-attribute : {m : Bool} {r : ℕ} → m ≡ misplaced 16 diagram_tags last t → m ≡ false → (t ≡ 16 → ⊥) → (t ≡ 32 → ⊥) → (t ≡ 48 → ⊥) → t ≡ 64
+  pub field-attribute : {m : Bool} {r : ℕ} → m ≡ misplaced 16 diagram_tags last t → m ≡ false → t ≡ 64
       → r ≡ attribute_no d.values.count d.types.count d.attributes.count c → r ≡ diagram_refusal last (diagram_of d) t c
   unfolding diagram_refusal refuse
-  field-attribute e h n o p y q = rw (sym e ∙ h, ne_eqb t 16 n, ne_eqb t 32 o, ne_eqb t 48 p, eq-eqb t 64 y) (q ∙ attribute-refusal d c)
+  field-attribute e h y q = rw (sym e ∙ h, y) (q ∙ attribute-refusal d c)
 
   pub field-association : {m : Bool} {r : ℕ} → m ≡ misplaced 16 diagram_tags last t → m ≡ false → (t ≡ 16 → ⊥) → (t ≡ 32 → ⊥) → (t ≡ 48 → ⊥) → (t ≡ 64 → ⊥)
       → r ≡ association_no d.types.count d.associations.count c → r ≡ diagram_refusal last (diagram_of d) t c

@@ -1,20 +1,19 @@
 -- The refusals of a field, by the tests as the code has them.
 -- Assumes nothing.
-use Prim.Native.Nat.{ℕ, suc, ◌+◌, ◌-◌, ◌<◌, ◌≤◌}
+use Prim.Native.Nat.{ℕ, ◌<◌, ◌≤◌}
 use native.Mathlib.Decide.{dec_lt}
 use native.Mathlib.Omega.{arith}
 use mathlib.Core.Bool.{Bool, true, false, not, ◌&&◌}
 use mathlib.Core.List.{List, [], ◌∷◌}
-use mathlib.Core.Path.{◌≡◌, refl, subst, sym, ap, ap₂, ◌∙◌}
+use mathlib.Core.Path.{◌≡◌, sym, ap, ap₂, ◌∙◌}
 use lib.Dec.{eqb, ltb}
 use lib.ListN.{length, get_or-eq_default, drop, get_or}
 use borrow.Author.Tests.{le-leb, le-ltb, lt-leb, lt-ltb}
-use Rattle.laws.specs.Bounded.{all, any}
+use Rattle.laws.specs.Bounded.{any}
 use Rattle.laws.specs.Connective.{both, either, refuse}
 use Rattle.laws.specs.Lists.{joined}
 use Rattle.laws.proofs.BoundedLaws.{all-ext, any-ext}
 use Rattle.laws.proofs.JoinedLaws.{length-each, get_or-each}
-use Rattle.laws.proofs.LoopLaws.{all-next, all-broke, all_done}
 use Rattle.laws.proofs.ConnectiveLaws.{both_of, either_left, either-right}
 use Rattle.laws.proofs.SearchLaws.{chain, both-left-no, both-right-no, either-none}
 use Rattle.fields.specs.Slot.{slot_name}
@@ -90,40 +89,7 @@ type-named t c {w} e q =
     ∙ any-ext _ _ t.count
     (λ i l. ap₂ (λ (x : TypeDef) (y : List ℕ). same_name x.name y) (get_or-each (type_in t) no_type t.count i l) (sym e)) ∙ sym q)
 
--- a loop over neighbours, at number i and the one before
-module _ (ns : List ℕ) (i : ℕ) (first : 1 ≤ i) where
-  abbrev rise : ℕ → Bool
-  rise k = ltb (get_or ns k 0) (get_or ns (suc k) 0)
-
-  back : suc (i - 1) ≡ i
-  back = omega arith
-
-  pub rises_next : all (λ k. ltb (get_or ns k 0) (get_or ns (suc k) 0)) (i - 1) ≡ true → get_or ns (i - 1) 0 < get_or ns i 0
-      → all (λ k. ltb (get_or ns k 0) (get_or ns (suc k) 0)) (i + 1 - 1) ≡ true
-  rises_next e h =
-      let up : i - 1 + 1 ≡ i + 1 - 1 = omega arith in
-      subst (λ (k : ℕ). all rise k ≡ true) up
-      (all-next rise (i - 1) e refl (lt-ltb _ _ (subst (λ (k : ℕ). get_or ns (i - 1) 0 < get_or ns k 0) (sym back) h)))
-
-  pub rises-not : i < length ns → get_or ns i 0 ≤ get_or ns (i - 1) 0 → false ≡ rising ns
-  unfolding rising
-  rises-not l h =
-      all-broke rise (length ns - 1) (i - 1) (omega arith) refl (le-ltb _ _ (subst (λ (k : ℕ). get_or ns k 0 ≤ get_or ns (i - 1) 0) (sym back) h))
-
-pub rises-done : (ns : List ℕ) (i : ℕ) → (1 ≤ length ns → i ≤ length ns) → length ns ≤ i → all (λ k. ltb (get_or ns k 0) (get_or ns (suc k) 0)) (i - 1) ≡ true → true ≡ rising ns
-unfolding rising all
-rises-done [] i h l e = refl
-rises-done (x ∷ s) i h l e = all_done (λ k. ltb (get_or (x ∷ s) k 0) (get_or (x ∷ s) (suc k) 0)) (suc (length s) - 1) (i - 1) (omega arith) (omega arith) e
-
 -- ---- 6 and 7
-
--- a loop over numbers that are to be below n
-pub below_next : (ns : List ℕ) (n i : ℕ) → all (λ s. ltb (get_or ns s 0) n) i ≡ true → get_or ns i 0 < n → all (λ s. ltb (get_or ns s 0) n) (i + 1) ≡ true
-below_next ns n i e h = all-next (λ s. ltb (get_or ns s 0) n) i e refl (lt-ltb _ n h)
-
-pub below-not : (ns : List ℕ) (n i : ℕ) → i < length ns → n ≤ get_or ns i 0 → false ≡ below n ns
-unfolding below
-below-not ns n i l h = all-broke (λ s. ltb (get_or ns s 0) n) (length ns) i l refl (le-ltb _ n h)
 
 -- a type past the last one is no interface
 interface-at : (t : Types) (p : ℕ) → is_interface (type_at (only_types t) p) ≡ ltb p t.count && eqb (get_or t.kinds p 0) 2

@@ -6,11 +6,10 @@ ghost use Rattle.laws.specs.Bounded.{any};
 ghost use Rattle.fields.specs.Refusal.{refusal_number};
 ghost use Rattle.fields.specs.Slot.{slot_name};
 ghost use Rattle.files.specs.Name.{same_name, differ};
-ghost use Rattle.files.specs.Refusal.{misplaced};
 ghost use Rattle.files.specs.DiagramLayout.{type_of, value_type_of};
-ghost use Rattle.files.specs.DiagramFile.{rising, type_named, diagram_tags, edition_refusal, value_type_refusal, type_refusal, diagram_refusal};
+ghost use Rattle.files.specs.DiagramFile.{rising, type_named, edition_refusal, value_type_refusal, type_refusal, diagram_refusal};
 ghost use Rattle.diagrams.specs.View.{diagram_of};
-ghost use Rattle.diagrams.specs.Held.{Counts, only_types};
+ghost use Rattle.diagrams.specs.Held.{only_types};
 ghost use Rattle.refusing.specs.Numbers.{only_value_types, below, interfaces, kind_breaks, attribute_known, attribute_no, ends_known, whole_right, association_no};
 
 use diagrams::{StoredDiagram, Types, ValueTypes};
@@ -18,27 +17,15 @@ use fields::Refusal;
 
 // ---- names that stand already
 
-// The name in slot i is w.
-fn slot_is(names: &[u8], i: u8, w: &[u8]) -> bool
-    ensures { result ≡ same_name (slot_name names.now i) w.now }
-{
-    fields::same_name(fields::slot_name(names, i), w)
-}
-
 // One of the first n names is w.
 fn is_named(names: &[u8], n: usize, w: &[u8]) -> bool
     requires { n ≤ 32 }
     ensures { result ≡ any (λ i. same_name (slot_name names.now i) w.now) n }
 {
-    for i in 0..n {
-        if slot_is(names, i as u8, w) {
-            return true;
-        }
-    }
-    false
+    (0..n as u8).any(|i| fields::is_named(names, i, w))
 }
 
-// ---- 0x10 and 0x20
+// ---- editions and value types
 
 // The first refusal of an edition, if it has one.
 fn check_edition(c: &[u8]) -> Result<(), Refusal>
@@ -59,9 +46,8 @@ fn constants_differ(c: &[u8]) -> bool
 }
 
 // The first refusal of a value type behind these.
-fn check_value_type(v: ValueTypes, c: &[u8]) -> Result<(), Refusal>
-    requires { v.count ≤ 12 }
-    ensures { refusal_number result ≡ value_type_refusal (only_value_types v) c.now }
+fn check_value_type(v: &ValueTypes, c: &[u8]) -> Result<(), Refusal>
+    ensures { refusal_number result ≡ value_type_refusal (only_value_types v.now) c.now }
 {
     if 12 <= v.count {
         return Err(Refusal::Count);
@@ -78,7 +64,7 @@ fn check_value_type(v: ValueTypes, c: &[u8]) -> Result<(), Refusal>
     Ok(())
 }
 
-// ---- 0x30
+// ---- types
 
 // The name of the type that a content says.
 fn type_name(c: &[u8]) -> &[u8]
@@ -94,30 +80,6 @@ fn type_parents(c: &[u8]) -> &[u8]
     laws::past(fields::past_name(laws::past(c, 1)), 1)
 }
 
-// Strictly rising.
-fn rises(ns: &[u8]) -> bool
-    ensures { result ≡ rising ns.now }
-{
-    for i in 1..ns.len() {
-        if ns[i] <= ns[i - 1] {
-            return false;
-        }
-    }
-    true
-}
-
-// Each number is below n.
-fn all_below(ns: &[u8], n: usize) -> bool
-    ensures { result ≡ below n ns.now }
-{
-    for p in ns {
-        if n <= usize::from(*p) {
-            return false;
-        }
-    }
-    true
-}
-
 // Type p is among the first n, and an interface.
 fn is_interface(kinds: &[u8], n: usize, p: u8) -> bool
     ensures { result ≡ ltb p n && eqb (get_or kinds.now p 0) 2 }
@@ -126,58 +88,45 @@ fn is_interface(kinds: &[u8], n: usize, p: u8) -> bool
     (at < n) & (laws::byte(kinds, at) == 2)
 }
 
-// Each number is that of an interface among the first n types.
-fn all_interfaces(kinds: &[u8], n: usize, ns: &[u8]) -> bool
-    ensures { result ≡ interfaces kinds.now n ns.now }
-{
-    for p in ns {
-        if !is_interface(kinds, n, *p) {
-            return false;
-        }
-    }
-    true
-}
-
 // The parents are strictly rising.
 fn parents_rise(c: &[u8]) -> bool
     ensures { result ≡ rising (type_of c.now).parents }
 {
-    rises(type_parents(c))
+    type_parents(c).is_sorted_by(|a, b| a < b)
 }
 
 // Each parent is below n.
 fn parents_below(n: usize, c: &[u8]) -> bool
     ensures { result ≡ below n (type_of c.now).parents }
 {
-    all_below(type_parents(c), n)
+    type_parents(c).iter().all(|p| usize::from(*p) < n)
 }
 
 // Each parent is below n, and an interface.
 fn parents_interfaces(kinds: &[u8], n: usize, c: &[u8]) -> bool
     ensures { result ≡ interfaces kinds.now n (type_of c.now).parents }
 {
-    all_interfaces(kinds, n, type_parents(c))
+    type_parents(c).iter().all(|p| is_interface(kinds, n, *p))
 }
 
 // An interface with a parent that is none.
-fn kind_breaks(t: Types, c: &[u8]) -> bool
-    ensures { result ≡ kind_breaks t c.now }
+fn kind_breaks(t: &Types, c: &[u8]) -> bool
+    ensures { result ≡ kind_breaks t.now c.now }
 {
     (laws::byte(c, 0) == 2) & !parents_interfaces(&t.kinds, t.count, c)
 }
 
 // A type of this name stands already.
-fn type_named(t: Types, c: &[u8]) -> bool
-    requires { t.count ≤ 24 }
-    ensures { result ≡ type_named (only_types t) (type_of c.now).name }
+fn type_named(t: &Types, c: &[u8]) -> bool
+    requires { t.now.count ≤ 24 }
+    ensures { result ≡ type_named (only_types t.now) (type_of c.now).name }
 {
     is_named(&t.names, t.count, type_name(c))
 }
 
 // The first refusal of a type behind these.
-fn check_type(t: Types, c: &[u8]) -> Result<(), Refusal>
-    requires { t.count ≤ 24 }
-    ensures { refusal_number result ≡ type_refusal (only_types t) c.now }
+fn check_type(t: &Types, c: &[u8]) -> Result<(), Refusal>
+    ensures { refusal_number result ≡ type_refusal (only_types t.now) c.now }
 {
     if 24 <= t.count {
         return Err(Refusal::Count);
@@ -200,7 +149,7 @@ fn check_type(t: Types, c: &[u8]) -> Result<(), Refusal>
     Ok(())
 }
 
-// ---- 0x40 and 0x50
+// ---- attributes and associations
 
 // The owner and the value type are below the counts.
 fn attribute_known(values: usize, types: usize, c: &[u8]) -> bool
@@ -263,33 +212,18 @@ fn check_association(types: usize, n: usize, c: &[u8]) -> Result<(), Refusal>
 
 // ---- a field
 
-// The tag is none of a diagram file's, falls, comes again where it may not, or is not 0x10 where it is the first.
-fn is_misplaced(last: u8, tag: u8) -> bool
-    ensures { result ≡ misplaced 16 diagram_tags last tag }
+// The first refusal of a field behind one of the tag last, which is 0 where there is none, as `fields::is_misplaced` takes it.
+pub fn check_field(d: &StoredDiagram, last: u8, tag: u8, c: &[u8]) -> Result<(), Refusal>
+    ensures { refusal_number result ≡ diagram_refusal last (diagram_of d.now) tag c.now }
 {
-    !((16 == tag) | (32 == tag) | (48 == tag) | (64 == tag) | (80 == tag))
-        | ((tag < last) | (((tag == 16) & (last != 0)) | ((last == 0) & (tag != 16))))
-}
-
-// The first refusal of a field behind one of the tag last, which is 0 where there is none.
-pub fn check_field(d: StoredDiagram, last: u8, tag: u8, c: &[u8]) -> Result<(), Refusal>
-    requires { Counts d }
-    ensures { refusal_number result ≡ diagram_refusal last (diagram_of d) tag c.now }
-{
-    if is_misplaced(last, tag) {
+    if fields::is_misplaced(0x10, &[0x10, 0x20, 0x30, 0x40, 0x50], last, tag) {
         return Err(Refusal::Misplaced);
     }
-    if tag == 16 {
-        return check_edition(c);
+    match tag {
+        0x10 => check_edition(c),
+        0x20 => check_value_type(&d.values, c),
+        0x30 => check_type(&d.types, c),
+        0x40 => check_attribute(d.values.count, d.types.count, d.attributes.count, c),
+        _ => check_association(d.types.count, d.associations.count, c),
     }
-    if tag == 32 {
-        return check_value_type(d.values, c);
-    }
-    if tag == 48 {
-        return check_type(d.types, c);
-    }
-    if tag == 64 {
-        return check_attribute(d.values.count, d.types.count, d.attributes.count, c);
-    }
-    check_association(d.types.count, d.associations.count, c)
 }

@@ -2,21 +2,22 @@
 // that fit.
 #![tactic(auto)]
 
-ghost use Rattle.std.specs.Prelude.{◌≡◌, true, List, ℕ, ◌<◌, get_or};
+ghost use Rattle.std.specs.Prelude.{◌≡◌, true, List, ℕ};
 ghost use Rattle.growing.specs.Growth.{Nowhere};
+ghost use Rattle.worlds.specs.Coherent.{Slotted};
 ghost use Rattle.worlds.specs.Kept.{sheet};
 ghost use Rattle.worlds.specs.Asked.{Sane, Solution};
 ghost use Rattle.relaxing.specs.Relaxed.{freed, unforced};
 
-use worlds::{Lines, Query, Tables};
+use worlds::{Lines, Query, Types};
 
 // The lines without lower limits.
-fn without_lows(lines: Lines) -> Lines
-    ensures { result ≡ unforced lines }
+fn without_lows(lines: &Lines) -> Lines
+    ensures { result ≡ unforced lines.now }
 {
     Lines {
         columnlow: [0u8; 16],
-        ..lines
+        ..*lines
     }
 }
 
@@ -32,16 +33,23 @@ fn without_least(q: Query) -> Query
 }
 
 // Whether the seeds, of the given types, cannot stand together.
-pub fn is_stuck(tables: &Tables, q: Query, types: [u8; 8]) -> bool
-    requires { Sane q × ((o : ℕ) → get_or types o 0 < 24) }
-    ensures { result ≡ true → (singles n : ℕ) (lows : List ℕ) → Nowhere (Solution (sheet tables.now.usable singles tables.now.targets lows tables.now.highs tables.now.lines) q n) types q.seeds q.never n }
+pub fn is_stuck(
+    targets: &[u32; 768],
+    highs: &[u8; 768],
+    lines: &Lines,
+    usable: u32,
+    q: Query,
+    types: Types,
+) -> bool
+    requires { Slotted lines.now × Sane q }
+    ensures { result ≡ true → (singles n : ℕ) (lows : List ℕ) → Nowhere (Solution (sheet usable singles targets.now lows highs.now lines.now) q n) types.at q.seeds q.never n }
 {
     leaves::ends(
-        &tables.targets,
+        targets,
         &[0u8; 768],
-        &tables.highs,
-        without_lows(tables.lines),
-        tables.usable,
+        highs,
+        without_lows(lines),
+        usable,
         0,
         without_least(q),
         types,

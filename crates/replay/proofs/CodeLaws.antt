@@ -4,7 +4,7 @@ use Prim.Native.Nat.{ℕ}
 use mathlib.Core.List.{List, []}
 use mathlib.Core.Path.{◌≡◌, subst, sym}
 use Rattle.bench.specs.Calls.{Does}
-use Rattle.bench.specs.declared.Bench.{Bench}
+use Rattle.bench.specs.declared.parts.Bench.{Bench}
 use Rattle.bench.specs.declared.Replied.{Replied}
 use Rattle.coding.specs.CallBytes.{call_of}
 

@@ -11,9 +11,8 @@ use Rattle.laws.specs.Lists.{over}
 use Rattle.laws.proofs.ListLaws.{from_is}
 use Rattle.laws.proofs.OverLaws.{over-nil, put_on}
 use Rattle.steps.specs.Bench as steps
-use Rattle.bench.specs.Calls.{Valid}
 use Rattle.bench.specs.View.{bench_of, fresh_in}
-use Rattle.bench.specs.declared.Bench.{Bench}
+use Rattle.bench.specs.declared.parts.Bench.{Bench}
 use Rattle.bench.proofs.RunLaws.{fresh-stands}
 use Rattle.replay.specs.Replays.{Replayed, Replays}
 use Rattle.replay.specs.Turned.{Went}
@@ -27,17 +26,15 @@ lent xs d d' a n p = from_is d' a ∙ (ap (drop a) p ∙ drop_at xs (drop (lengt
 -- the loop's state: out₀ is what `replies` held at first, out what it holds, `rest` the calls that are left
 pub record Going (calls out₀ out : List ℕ) (b : Bench) (rest : List ℕ) (at : ℕ) : Type 0 where
   pub replies : List ℕ
-  pub valid : Valid b
   pub count : length replies ≡ at
   pub fits : at ≤ length out₀
   pub bytes : out ≡ over replies out₀
   pub size : length out ≡ length out₀
   pub goes : (more : List ℕ) → Replays (bench_of b) rest (drop at out₀) more → Replays steps.fresh calls out₀ (replies ++ more)
 
-pub begins : (calls out : List ℕ) (b : Bench) → b ≡ fresh_in → Valid b → Going calls out out b calls 0
-begins calls out b e v = record {
+pub begins : (calls out : List ℕ) (b : Bench) → b ≡ fresh_in → Going calls out out b calls 0
+begins calls out b e = record {
   replies = [];
-  valid = v;
   count = refl;
   fits = omega arith;
   bytes = sym (over-nil out);
@@ -55,23 +52,22 @@ module _ (calls out₀ out : List ℕ) (b : Bench) (rest : List ℕ) (at : ℕ) 
   room-is : room ≡ drop at out₀
   room-is = lent g.replies out₀ out at g.count g.bytes
 
-  pub room_for : (t : Turn) → Went b rest room t after → at + t.wrote ≤ length out₀
-  room_for t w = omega (arith, w.fits, w.count, ap length room-is, length-drop at out₀, g.fits)
+  pub room_for : (t : Turn) (e : Bench) → Went b rest room t e after → at + t.wrote ≤ length out₀
+  room_for t e w = omega (arith, w.fits, w.count, ap length room-is, length-drop at out₀, g.fits)
 
-  pub goes_on : (t : Turn) → Went b rest room t after → length whole ≡ length out → (next : List ℕ) → next ≡ drop t.used rest
-      → Going calls out₀ whole t.bench next (at + t.wrote)
-  goes_on t w s next e =
+  pub goes_on : (t : Turn) (e : Bench) → Went b rest room t e after → length whole ≡ length out → (next : List ℕ) → next ≡ drop t.used rest
+      → Going calls out₀ whole e next (at + t.wrote)
+  goes_on t e w s next q =
       let small : at + length w.reply ≤ length out₀ = omega (arith, w.fits, ap length room-is, length-drop at out₀, g.fits) in
       record {
         replies = g.replies ++ w.reply;
-        valid = w.valid;
         count = omega (arith, length-append g.replies w.reply, g.count, w.count);
         fits = omega (arith, small, w.count);
         bytes = put_on g.replies w.reply out₀ out after at g.count small g.bytes w.bytes;
         size = s ∙ g.size;
         goes = λ more r. subst (Replays steps.fresh calls out₀) (sym (append_assoc g.replies w.reply more))
             (g.goes (w.reply ++ more) (subst (λ (x : List ℕ). Replays (bench_of b) rest x (w.reply ++ more)) room-is
-            (w.on more (rw (room-is, drop-drop t.wrote at out₀, ← e) r))));
+            (w.on more (rw (room-is, drop-drop t.wrote at out₀, ← q) r))));
       }
 
   pub ends : Replays (bench_of b) rest room [] × (after ≡ room) → Replayed calls out₀ at whole

@@ -13,11 +13,11 @@ use Rattle.laws.specs.Lists.{over}
 use Rattle.laws.proofs.OverLaws.{over-mid}
 use Rattle.steps.specs.Bench as steps
 use Rattle.steps.specs.Bench.{Call, Outcome}
-use Rattle.bench.specs.Calls.{Does, DoesWith, Valid}
+use Rattle.bench.specs.Calls.{Does, DoesWith}
 use Rattle.steps.specs.Effect.{effect}
 use Rattle.steps.specs.Step.{Step}
 use Rattle.bench.specs.View.{bench_of, reply_of}
-use Rattle.bench.specs.declared.Bench.{Bench}
+use Rattle.bench.specs.declared.parts.Bench.{Bench}
 use Rattle.bench.specs.declared.Listed.{Listed}
 use Rattle.bench.specs.declared.Replied.{Replied}
 use Rattle.std.specs.Prelude.{Option, None, Some}
@@ -31,38 +31,37 @@ use Rattle.replay.specs.Replays.{Replays, full, goes, halts}
 use Rattle.replay.specs.Turned.{Turned, Went, Wrote}
 use Rattle.replay.specs.declared.Turn.{Turn}
 
-pub turned-halt : (b : Bench) (s room : List ℕ) {x : Option Next} → x ≡ next_of s (length room) → x ≡ None → Turned b s room None room
+pub turned-halt : (b : Bench) (s room : List ℕ) {x : Option Next} → x ≡ next_of s (length room) → x ≡ None → Turned b s room None b room
 turned-halt b s room e k = (halts (read-halt s room e k), refl)
 
 -- ---- a call whose outcome has the bytes xs, and that leaves the bench e
 
 module _ (b : Bench) (s room : List ℕ) (after : List ℕ) (c : Call) (o : Outcome) (k : ℕ)
     (reads-it : read_call s room ≡ call c (drop k s)) (step : Step (bench_of b) c o) (some : 0 < k) (little : k ≤ length s)
-    (e : Bench) (valid : Valid e) (left : bench_of e ≡ o.bench) (xs : List ℕ) (coded : outcome_bytes c o ≡ xs) where
-  turned-fits : (t : Turn) → t.bench ≡ e → t.used ≡ k → length xs ≤ length room → t.wrote ≡ length xs → after ≡ over xs room → Went b s room t after
-  turned-fits t eb used f w a = record {
+    (e : Bench) (left : bench_of e ≡ o.bench) (xs : List ℕ) (coded : outcome_bytes c o ≡ xs) where
+  turned-fits : (t : Turn) → t.used ≡ k → length xs ≤ length room → t.wrote ≡ length xs → after ≡ over xs room → Went b s room t e after
+  turned-fits t used f w a = record {
     reply = xs;
-    valid = subst Valid (sym eb) valid;
     some = omega (arith, used, some);
     little = omega (arith, used, little);
     count = w;
     fits = f;
     bytes = a;
     on = λ more r. subst (λ (y : List ℕ). Replays (bench_of b) s room (y ++ more)) coded
-        (goes o reads-it step (omega (arith, ap length coded, f)) (rw (coded) (rw (eb, left, used, w) at r)));
+        (goes o reads-it step (omega (arith, ap length coded, f)) (rw (coded) (rw (left, used, w) at r)));
   }
 
-  turned : (x : Option Turn) → Wrote e k xs room x after → Turned b s room x after
+  turned : (x : Option Turn) → Wrote k xs room x after → Turned b s room x e after
   turned (Some t) p = by (dec_le (length xs) (length room))
     where
-      by : Dec (length xs ≤ length room) → Went b s room t after
+      by : Dec (length xs ≤ length room) → Went b s room t e after
       by (yes h) =
-          let q = p.1.1.fits h in
+          let q = p.1.fits h in
           let w : t.wrote ≡ length xs = cc in
-          turned-fits t p.0 p.1.0 h w q.1
+          turned-fits t p.0 h w q.1
       by (no h) =
           let far : length room < length xs = omega (arith, h) in
-          let q = p.1.1.not-fits far in
+          let q = p.1.not-fits far in
           absurd (cc)
   turned None p = by (dec_le (length xs) (length room))
     where
@@ -85,22 +84,22 @@ module _ (b : Bench) (s room : List ℕ) {y : Option Next} (e : y ≡ next_of s 
   -- a call that is lent no buffer
   pub turned_plain : (x : Option Turn) (after : List ℕ) {file rest : List ℕ} {d : Replied} → n.code ≢ 7 → rest ≡ drop n.from s → file ≡ take n.len rest
       → ((buffer : List ℕ) → Does b (call_of n.code (record { byte = n.byte; file = file; buffer = buffer })) d [])
-      → Wrote d.bench n.used (reply_bytes (reply_of d.reply [])) room x after → Turned b s room x after
+      → Wrote n.used (reply_bytes (reply_of d.reply [])) room x after → Turned b s room x d.bench after
   unfolding outcome_bytes bytes_by
   turned_plain x after {d = d} not-lent er ef does q =
       let o = operands_of s room n in
       let c = call_of n.code o in
       let did : Does b c d [] = subst (λ (f : List ℕ). Does b (call_of n.code (record { byte = n.byte; file = f; buffer = o.buffer })) d []) (ef ∙ ap (take n.len) er) (does o.buffer) in
-      turned b s room after c _ n.used (read-call s room e n some) did.step all.some all.little d.bench did.valid refl
+      turned b s room after c _ n.used (read-call s room e n some) did.step all.some all.little d.bench refl
       (reply_bytes (reply_of d.reply [])) (rw (lends-none n.code o all.known not-lent)) x q
 
   -- compile: its list stands beside its reply
   pub turned-compile : (x : Option Turn) (after : List ℕ) {d : Listed} → n.code ≡ 4 → DoesWith b (steps.Compile n.byte) d
-      → Wrote d.bench n.used (reply_bytes (reply_of d.reply d.list)) room x after → Turned b s room x after
+      → Wrote n.used (reply_bytes (reply_of d.reply d.list)) room x after → Turned b s room x d.bench after
   unfolding call_of outcome_bytes bytes_by effect
   turned-compile x after {d} k does q =
       turned b s room after (steps.Compile n.byte) _ n.used (called 4 k) does.step all.some all.little
-      d.bench does.valid refl (reply_bytes (reply_of d.reply d.list)) refl x q
+      d.bench refl (reply_bytes (reply_of d.reply d.list)) refl x q
 
   pub lend-fits : n.code ≡ 7 → 5 + n.lend ≤ length room
   lend-fits k = subst (λ (j : ℕ). (row_at j).buffers * 5 + n.lend ≤ length room) k all.fits
@@ -108,7 +107,7 @@ module _ (b : Bench) (s room : List ℕ) {y : Option Next} (e : y ≡ next_of s 
   -- hand out: the buffer that it was lent lies behind its own first five bytes
   pub turned-hand-out : (after es mid : List ℕ) (k : ℕ) (m : Option ℕ) (d : Replied) → n.code ≡ 7 → k ≡ n.lend → length (put_mid 5 k room es) ≡ length room
       → Does b (steps.HandOut (take k (drop 5 room))) d es → mid ≡ put_mid 5 k room es → Puts (head_bytes (reply_of d.reply [])) mid m after
-      → Turned b s room (Some (record { bench = d.bench; used = n.used; wrote = 5 + n.lend })) after
+      → Turned b s room (Some (record { used = n.used; wrote = 5 + n.lend })) d.bench after
   unfolding call_of outcome_bytes bytes_by effect
   turned-hand-out after es mid k m d code kn len does em p =
       let fits = lend-fits code in
@@ -131,5 +130,5 @@ module _ (b : Bench) (s room : List ℕ) {y : Option Next} (e : y ≡ next_of s 
       (p.fits (omega (arith, five, total, fits))).1 ∙ ap (over hs) (em ∙ ap (λ (j : ℕ). put_mid 5 j room es) kn) ∙ over-mid hs es room 5 n.lend five size fits in
       turned-fits b s room after (steps.HandOut (take k (drop 5 room))) _ n.used
       (called 7 code ∙ ap (λ (j : ℕ). call (steps.HandOut (take j (drop 5 room))) (drop n.used s)) (sym kn)) does.step all.some all.little
-      d.bench does.valid refl (hs ++ es) refl (record { bench = d.bench; used = n.used; wrote = 5 + n.lend }) refl refl
+      d.bench refl (hs ++ es) refl (record { used = n.used; wrote = 5 + n.lend }) refl
       (omega (arith, whole, fits)) (sym whole) bytes

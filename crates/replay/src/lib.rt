@@ -2,81 +2,70 @@
 #![tactic(auto)]
 
 ghost use Rattle.std.specs.Prelude.{List, [], ◌≢◌, ◌≡◌, ℕ, ◌<◌, ◌≤◌, length};
-ghost use Rattle.bench.specs.Calls.{Does, Valid};
-ghost use Rattle.bench.specs.View.{reply_of};
+ghost use Rattle.bench.specs.Calls.{Does};
+ghost use Rattle.bench.specs.View.{left_by, reply_of};
 ghost use Rattle.coding.specs.CallBytes.{call_of, codes};
 ghost use Rattle.coding.specs.ReplyBytes.{reply_bytes};
 ghost use Rattle.replay.specs.Replays.{Replayed};
 ghost use Rattle.replay.specs.Turned.{Turned, Wrote};
 
-use bench::{Bench, Replied};
+use bench::{Bench, Reply};
 
-// What one call gave: the bench for the next, how many bytes of the calls it took, and how many its reply has.
+// What one call gave: how many bytes of the calls it took, and how many its reply has.
 #[derive(Clone, Copy)]
 pub struct Turn {
-    pub bench: Bench,
     pub used: usize,
     pub wrote: usize,
 }
 
-// Writes the reply of a call that took `used` bytes, with compile's list where it has one; none where it does not fit.
-fn finish(d: Replied, list: &[u8], used: usize, out: &mut [u8]) -> Option<Turn>
-    ensures { Wrote d.bench used (reply_bytes (reply_of d.reply list.now)) out.old result out.new }
+// Writes the reply to a call that took `used` bytes, with compile's list where it has one; none where it does not fit.
+fn finish(r: Reply, list: &[u8], used: usize, out: &mut [u8]) -> Option<Turn>
+    ensures { Wrote used (reply_bytes (reply_of r list.now)) out.old result out.new }
 {
-    let wrote = coding::say(out, d.reply, list)?;
-    Some(Turn {
-        bench: d.bench,
-        used,
-        wrote,
-    })
+    let wrote = coding::say(out, r, list)?;
+    Some(Turn { used, wrote })
 }
 
 // Runs the call of a code, one that is lent no buffer and gives no list.
-fn run_call(b: Bench, code: u8, byte: u8, file: &[u8]) -> Replied
-    requires { Valid b × ((1 ≤ code) × ((code < length codes) × ((code ≢ 4) × (code ≢ 7)))) }
-    ensures { (buffer : List ℕ) → Does b (call_of code (record { byte = byte; file = file.now; buffer = buffer })) result [] }
+fn run_call(b: &mut Bench, code: u8, byte: u8, file: &[u8]) -> Reply
+    requires { (1 ≤ code) × ((code < length codes) × ((code ≢ 4) × (code ≢ 7))) }
+    ensures { (buffer : List ℕ) → Does b.entry.now (call_of code (record { byte = byte; file = file.now; buffer = buffer })) (left_by b.exit.now result) [] }
 {
     match code {
-        1 => b.load(byte, file),
-        2 => b.clear(byte),
-        3 => b.judge(byte, file),
-        5 => b.evaluate(byte, file),
-        6 => b.compare(byte),
-        _ => b.load_text(byte, file),
+        1 => b.run_load(byte, file),
+        2 => b.run_clear(byte),
+        3 => b.run_judge(byte, file),
+        5 => b.run_evaluate(byte, file),
+        6 => b.run_compare(byte),
+        _ => b.run_load_text(byte, file),
     }
 }
 
 // Runs the call at the front of s; none where the list of calls stops.
-fn take_turn(b: Bench, s: &[u8], out: &mut [u8]) -> Option<Turn>
-    requires { Valid b }
-    ensures { Turned b s.now out.old result out.new }
+fn take_turn(b: &mut Bench, s: &[u8], out: &mut [u8]) -> Option<Turn>
+    ensures { Turned b.entry.now s.now out.old result b.exit.now out.new }
 {
     let Some(n) = coding::read_next(s, out.len()) else {
         return None;
     };
     if n.code == 7 {
         let lend = n.lend;
-        let d = b.hand_out(&mut out[5..5 + lend]);
+        let reply = b.run_hand_out(&mut out[5..5 + lend]);
         // It fits, since there is room for the buffer behind it.
-        let _head = coding::head(out, d.reply);
+        let _head = coding::head(out, reply);
         return Some(Turn {
-            bench: d.bench,
             used: n.used,
             wrote: 5 + lend,
         });
     }
     if n.code == 4 {
-        let d = b.compile(n.byte);
+        let d = b.run_compile(n.byte);
         let list = d.list;
-        let replied = Replied {
-            bench: d.bench,
-            reply: d.reply,
-        };
-        return finish(replied, &list, n.used, out);
+        return finish(d.reply, &list, n.used, out);
     }
     let file = laws::front(laws::past(s, n.from), n.len);
-    let d = run_call(b, n.code, n.byte, file);
-    finish(d, &[], n.used, out)
+    let reply = run_call(b, n.code, n.byte, file);
+    finish(reply, &[], n.used, out)
 }
 
 // Runs the calls, writes their replies to the front of `replies`, and returns how many bytes these are.
@@ -86,8 +75,7 @@ pub fn replay(calls: &[u8], replies: &mut [u8]) -> usize
     let mut b = bench::fresh();
     let mut rest = calls;
     let mut at = 0;
-    while let Some(t) = take_turn(b, rest, &mut replies[at..]) {
-        b = t.bench;
+    while let Some(t) = take_turn(&mut b, rest, &mut replies[at..]) {
         at += t.wrote;
         rest = laws::past(rest, t.used);
     }

@@ -14,7 +14,7 @@ use Rattle.laws.specs.Lists.{listed}
 use Rattle.laws.proofs.FirstLaws.{first-ext}
 use Rattle.laws.proofs.JoinedLaws.{get_or-each, length-each}
 use Rattle.laws.proofs.ConnectiveLaws.{both_under}
-use Rattle.fields.specs.Slot.{slot_name}
+use Rattle.fields.specs.Slot.{slot_name, slot_of}
 use Rattle.files.specs.Diagram.{ValueType, attribute_at, type_at, value_type_at}
 use Rattle.files.specs.Name.{Name, same_name}
 use Rattle.diagrams.specs.declared.StoredDiagram.{StoredDiagram}
@@ -23,7 +23,7 @@ use Rattle.diagrams.specs.View.{diagram_of, value_type_in}
 use Rattle.diagrams.proofs.NamedLaws.{attribute-named, role-count, role-named, type-named}
 use Rattle.diagrams.proofs.ViewLaws.{attribute-count, type-count, value-type-at, value-type-count}
 use Rattle.records.specs.Slots.{attribute_slot, code_of, is_code, is_constant, role_name, role_slot, type_index}
-use Rattle.resolving.specs.Lookup.{is_code_in, is_constant_in, slot_of}
+use Rattle.resolving.specs.Lookup.{is_code_in, is_constant_in}
 
 -- constant k % 8 of value type k / 8 is in slot k
 constant-in : (v : ValueTypes) (c : Name) (k : ℕ) → is_constant (value_type_in v (k / 8)) (k % 8) c ≡ is_constant_in v.constants (get_or v.sizes (k / 8) 0) c k

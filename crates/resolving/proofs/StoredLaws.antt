@@ -1,5 +1,5 @@
--- A value and a link stored, by the two ways of its slot, with the facts as the code has them: n is what is returned, and o and
--- i are the object and the slot as numbers to index with.
+-- A value and a link stored, by the two ways of its slot, with the facts as the code has them: n is what is returned, i is the
+-- slot, and o is the object.
 -- Assumes nothing.
 use Prim.Native.Nat.{◌*◌, ◌+◌, ◌^◌, ◌<◌, ◌≤◌, ℕ}
 use mathlib.Core.Path.{◌≡◌}
@@ -9,21 +9,20 @@ use borrow.Author.Tests.{le-ltb, lt-ltb}
 use Rattle.records.specs.declared.MemoryRecord.{MemoryRecord}
 use Rattle.resolving.specs.Stored.{link_stored, value_stored, with_mask_at, with_stray_link, with_stray_value, with_value_at}
 
-module _ (m : MemoryRecord) (s k : ℕ) {n : MemoryRecord} where
-  pub value-stray : (object code : ℕ) → k ≤ s → n ≡ with_stray_value m → n ≡ value_stored m s k object code
+module _ (m : MemoryRecord) (s k : ℕ) {n : MemoryRecord} {i : ℕ} (slot : i ≡ s) where
+  pub value-stray : (object code : ℕ) → k ≤ i → n ≡ with_stray_value m → n ≡ value_stored m s k object code
   unfolding value_stored
-  value-stray object code h e = rw (le-ltb s k h) e
+  value-stray object code h e = rw (← slot, le-ltb i k h) e
 
-  pub value_in : (object code : ℕ) {o i : ℕ} → s < k → o ≡ object → i ≡ s → n ≡ with_value_at m (o * 32 + i) (1 + code)
-      → n ≡ value_stored m s k object code
+  pub value_in : (object code : ℕ) {o p : ℕ} → i < k → o ≡ object → p ≡ o * 32 + i → n ≡ with_value_at m p (1 + code) → n ≡ value_stored m s k object code
   unfolding value_stored
-  value_in object code h p q e = rw (lt-ltb s k h, ← p, ← q) e
+  value_in object code h f q e = rw (← slot, lt-ltb i k h, ← f, ← q) e
 
-  pub link-stray : (from to : ℕ) → k ≤ s → n ≡ with_stray_link m → n ≡ link_stored m s k from to
+  pub link-stray : (from to : ℕ) → k ≤ i → n ≡ with_stray_link m → n ≡ link_stored m s k from to
   unfolding link_stored
-  link-stray from to h e = rw (le-ltb s k h) e
+  link-stray from to h e = rw (← slot, le-ltb i k h) e
 
-  pub link-in : (from to : ℕ) {o i x : ℕ} → s < k → o ≡ from → i ≡ s → x ≡ bit_or (get_or m.links (o * 32 + i) 0) (2 ^ to)
-      → n ≡ with_mask_at m (o * 32 + i) x → n ≡ link_stored m s k from to
+  pub link-in : (from to : ℕ) {o t p x : ℕ} → i < k → o ≡ from → t ≡ to → p ≡ o * 32 + i → x ≡ bit_or (get_or m.links p 0) (2 ^ t) → n ≡ with_mask_at m p x
+      → n ≡ link_stored m s k from to
   unfolding link_stored
-  link-in from to h p q b e = rw (lt-ltb s k h, ← p, ← q, ← b) e
+  link-in from to h f g q b e = rw (← slot, lt-ltb i k h, ← f, ← g, ← q, ← b) e

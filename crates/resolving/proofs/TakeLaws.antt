@@ -6,6 +6,7 @@ use mathlib.Core.List.{List}
 use mathlib.Core.Path.{◌∙◌, ◌≡◌, ap, ap₂, subst, sym}
 use lib.ListN.{length}
 use borrow.Author.Tests.{leb-false, leb-true, ltb-true, ne_eqb, not-false}
+use Rattle.fields.specs.Slot.{slot_of}
 use Rattle.laws.specs.Bounded.{first}
 use Rattle.laws.proofs.ConnectiveLaws.{both_left, both_right, refuse-passed}
 use Rattle.files.specs.Content.{byte, name_in}
@@ -20,7 +21,7 @@ use Rattle.diagrams.specs.Held.{Counts}
 use Rattle.diagrams.proofs.ViewLaws.{attribute-count}
 use Rattle.records.specs.declared.MemoryRecord.{MemoryRecord}
 use Rattle.records.specs.Slots.{attribute_slot, role_count}
-use Rattle.resolving.specs.Lookup.{is_code_in, slot_of}
+use Rattle.resolving.specs.Lookup.{is_code_in}
 use Rattle.resolving.specs.Stored.{StandsSoFar, Takes, link_stored, value_stored, with_type}
 use Rattle.resolving.proofs.LookupLaws.{attribute-slot, code-of, role-slot, type-index}
 use Rattle.resolving.proofs.LinkLaws.{link-stands}

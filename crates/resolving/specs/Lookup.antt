@@ -6,10 +6,6 @@ use Rattle.laws.specs.Connective.{both, either}
 use Rattle.fields.specs.Slot.{slot_name}
 use Rattle.files.specs.Name.{Name, same_name}
 
--- the first of the first k slots with the name w, or k
-unfoldable pub slot_of : List ℕ → ℕ → Name → ℕ
-slot_of names k w = first (λ i. same_name (slot_name names i) w) k
-
 -- code k is that of the constant c, where its value type has `size` constants
 unfoldable pub is_constant_in : List ℕ → ℕ → Name → ℕ → Bool
 is_constant_in constants size c k =

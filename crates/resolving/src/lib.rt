@@ -4,40 +4,20 @@
 ghost use Rattle.std.specs.Prelude.{◌≡◌, ◌^◌, ◌<◌, ◌≤◌};
 ghost use Rattle.std.specs.Int.Bits.{bit_or};
 ghost use Rattle.laws.specs.Bounded.{first};
-ghost use Rattle.fields.specs.Slot.{slot_name};
+ghost use Rattle.fields.specs.Slot.{slot_name, slot_of};
 ghost use Rattle.files.specs.Name.{same_name};
 ghost use Rattle.files.specs.Content.{name_in};
 ghost use Rattle.files.specs.RecordLayout.{value_of, link_of};
 ghost use Rattle.diagrams.specs.View.{diagram_of};
-ghost use Rattle.diagrams.specs.Held.{Counts, Held};
-ghost use Rattle.resolving.specs.Lookup.{slot_of, is_constant_in, is_code_in};
+ghost use Rattle.resolving.specs.Lookup.{is_constant_in, is_code_in};
 ghost use Rattle.resolving.specs.Stored.{with_type, with_value_at, with_mask_at, with_stray_value, with_stray_link, value_stored, link_stored, Takes};
 ghost use Rattle.resolving.specs.Resolves.{Resolves};
 
-use diagrams::{StoredDiagram, ValueTypes};
+use diagrams::{ReadDiagram, ValueTypes};
 use laws::Mask;
 use records::MemoryRecord;
 
 // ---- look-ups
-
-// Slot i has the name w.
-pub fn is_named(names: &[u8], i: u8, w: &[u8]) -> bool
-    ensures { result ≡ same_name (slot_name names.now i) w.now }
-{
-    fields::same_name(fields::slot_name(names, i), w)
-}
-
-// The first of the first k slots with the name w, or k: the record in memory stores k for a name that the diagram lacks.
-pub fn slot_of(names: &[u8], k: u8, w: &[u8]) -> u8
-    ensures { (result ≡ slot_of names.now k w.now) × (result ≤ k) }
-{
-    for i in 0..k {
-        if is_named(names, i, w) {
-            return i;
-        }
-    }
-    k
-}
 
 // Code k is that of the constant c, where its value type has `size` constants.
 fn is_constant(constants: &[u8], size: u8, c: &[u8], k: u8) -> bool
@@ -53,20 +33,16 @@ fn is_code(v: &ValueTypes, t: &[u8], c: &[u8], k: u8) -> bool
 {
     let i = k / 8;
     (usize::from(i) < v.count)
-        & (is_named(&v.names, i, t)
+        & (fields::is_named(&v.names, i, t)
             & is_constant(&v.constants, laws::byte(&v.sizes, usize::from(i)), c, k))
 }
 
-// The first code of the constant c of a value type t, or 96, which the record in memory stores for a value that the diagram lacks.
+// The first code of the constant c of a value type t, or 96, the number past the last code: a record in memory stores it for a value
+// that the diagram lacks.
 pub fn code_of(v: &ValueTypes, t: &[u8], c: &[u8]) -> u8
     ensures { (result ≡ first (is_code_in v.now.names v.now.sizes v.now.constants v.now.count t.now c.now) 96) × (result ≤ 96) }
 {
-    for k in 0..96 {
-        if is_code(v, t, c, k) {
-            return k;
-        }
-    }
-    96
+    (0..96).find(|k| is_code(v, t, c, *k)).unwrap_or(96)
 }
 
 // ---- one thing stored
@@ -132,68 +108,46 @@ fn put_object(m: MemoryRecord, names: &[u8], k: u8, c: &[u8]) -> MemoryRecord
     if 8 <= m.count {
         return m;
     }
-    let index = slot_of(names, k, fields::name_in(c));
+    let index = fields::slot_of(names, k, fields::name_in(c));
     with_type(m, index)
 }
 
-// A value's code at its object and slot, or the mark.
-fn put_code(m: MemoryRecord, s: u8, k: u8, object: u8, code: u8) -> MemoryRecord
+// 0x62: a value, by its attribute's name: its code at its object and slot, or the mark.
+fn put_value(m: MemoryRecord, names: &[u8], k: u8, code: u8, c: &[u8]) -> MemoryRecord
     requires { (k ≤ 32) × (code ≤ 96) }
-    ensures { object < 8 → result ≡ value_stored m s k object code }
+    ensures { (value_of c.now).object < 8 → result ≡ value_stored m (slot_of names.now k (value_of c.now).attribute) k (value_of c.now).object code }
 {
+    let object = laws::byte(c, 0);
+    let s = fields::slot_of(names, k, fields::name_in(laws::past(c, 1)));
     if k <= s {
         return with_stray_value(m);
     }
     if 8 <= object {
         return m;
     }
-    with_value(m, usize::from(object) * 32 + usize::from(s), 1 + code)
+    with_value(m, laws::place(object, s), 1 + code)
 }
 
-// A link's bit at its object and slot, or the mark.
-fn put_target(m: MemoryRecord, s: u8, k: u8, from: u8, to: u8) -> MemoryRecord
-    requires { k ≤ 32 }
-    ensures { from < 8 → to < 8 → result ≡ link_stored m s k from to }
-{
-    if k <= s {
-        return with_stray_link(m);
-    }
-    if 8 <= from {
-        return m;
-    }
-    if 8 <= to {
-        return m;
-    }
-    let i = usize::from(from) * 32 + usize::from(s);
-    with_mask(m, i, with_target(m.links[i], to))
-}
-
-// 0x62: a value, by its attribute's name, with the code that its value type and constant have.
-fn put_value(m: MemoryRecord, names: &[u8], k: u8, code: u8, c: &[u8]) -> MemoryRecord
-    requires { (k ≤ 32) × (code ≤ 96) }
-    ensures { (value_of c.now).object < 8 → result ≡ value_stored m (slot_of names.now k (value_of c.now).attribute) k (value_of c.now).object code }
-{
-    let s = slot_of(names, k, fields::name_in(laws::past(c, 1)));
-    put_code(m, s, k, laws::byte(c, 0), code)
-}
-
-// 0x63: a link, by its role's name.
+// 0x63: a link, by its role's name: its bit at its object and slot, or the mark.
 fn put_link(m: MemoryRecord, names: &[u8], k: u8, c: &[u8]) -> MemoryRecord
     requires { k ≤ 32 }
     ensures { (link_of c.now).from < 8 → (link_of c.now).to < 8 → result ≡ link_stored m (slot_of names.now k (link_of c.now).role) k (link_of c.now).from (link_of c.now).to }
 {
     let role = laws::past(c, 1);
-    let s = slot_of(names, k, fields::name_in(role));
-    put_target(
-        m,
-        s,
-        k,
-        laws::byte(c, 0),
-        laws::byte(fields::past_name(role), 0),
-    )
+    let from = laws::byte(c, 0);
+    let to = laws::byte(fields::past_name(role), 0);
+    let s = fields::slot_of(names, k, fields::name_in(role));
+    if k <= s {
+        return with_stray_link(m);
+    }
+    if (8 <= from) | (8 <= to) {
+        return m;
+    }
+    let i = laws::place(from, s);
+    with_mask(m, i, with_target(m.links[i], to))
 }
 
-// The code of the value in a content, or 96.
+// The code of the value in a content, or 96 where the diagram lacks it.
 fn value_code(v: &ValueTypes, c: &[u8]) -> u8
     ensures { (result ≡ first (is_code_in v.now.names v.now.sizes v.now.constants v.now.count (value_of c.now).value_type (value_of c.now).constant) 96) × (result ≤ 96) }
 {
@@ -202,10 +156,10 @@ fn value_code(v: &ValueTypes, c: &[u8]) -> u8
 }
 
 // One field of a record file stored.
-fn put_field(m: MemoryRecord, d: &StoredDiagram, tag: u8, c: &[u8]) -> MemoryRecord
-    requires { Counts d.now }
-    ensures { Takes (diagram_of d.now) tag c.now m result }
+fn put_field(m: MemoryRecord, read: &ReadDiagram, tag: u8, c: &[u8]) -> MemoryRecord
+    ensures { Takes (diagram_of read.now.stored) tag c.now m result }
 {
+    let d = &read.stored;
     match tag {
         0x60 => m,
         0x61 => put_object(m, &d.types.names, d.types.count as u8, c),
@@ -223,9 +177,8 @@ fn put_field(m: MemoryRecord, d: &StoredDiagram, tag: u8, c: &[u8]) -> MemoryRec
 }
 
 // What the diagram makes of an accepted record file.
-pub fn resolve(d: StoredDiagram, file: &[u8]) -> MemoryRecord
-    requires { Held d }
-    ensures { Resolves (diagram_of d) file.now result }
+pub fn resolve(d: ReadDiagram, file: &[u8]) -> MemoryRecord
+    ensures { Resolves (diagram_of d.stored) file.now result }
 {
     let mut m = records::empty_record();
     let mut rest = file;

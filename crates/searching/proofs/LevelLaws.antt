@@ -28,7 +28,7 @@ use Rattle.differing.proofs.FilledLaws.{filled-witness}
 use Rattle.searching.specs.Answer.{Level}
 use Rattle.searching.specs.Ready.{Ready}
 
-module _ {old new : Diagram} {dues : List ℕ} {t : Tables} {o : Others} (n : ℕ) (wo : WfDiagram old) (wn : WfDiagram new) (ready : Ready old new dues t o) where
+module _ {old new : Diagram} {t : Tables} {o : Others} (n : ℕ) (wo : WfDiagram old) (wn : WfDiagram new) (ready : Ready old new t o) where
   -- old's sheet with its own table
   abbrev own : Sheet
   own = worlds.sheet t.usable t.singles ready.own t.lows t.highs t.lines

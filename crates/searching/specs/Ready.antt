@@ -2,7 +2,6 @@
 -- Assumes nothing.
 use Rattle.std.specs.Prelude.{ℕ, List}
 use Rattle.files.specs.Diagram.{Diagram}
-use Rattle.type_tables.specs.TypeTables.{Dues}
 use Rattle.worlds.specs.Kept.{sheet}
 use Rattle.worlds.specs.Tables.{SheetOf}
 use Rattle.worlds.specs.declared.Others.{Others}
@@ -11,8 +10,7 @@ use Rattle.narrowing.specs.Narrow.{Narrows}
 use Rattle.differing.specs.Others.{TablesOf}
 
 -- the tables are old's own, with a table of targets that allows the same worlds in the place of its own
-pub record Ready (old new : Diagram) (dues : List ℕ) (t : Tables) (o : Others) : Type 0 where
-  pub dues-are : Dues old dues
+pub record Ready (old new : Diagram) (t : Tables) (o : Others) : Type 0 where
   pub own : List ℕ
   pub sheet-is : SheetOf old (sheet t.usable t.singles own t.lows t.highs t.lines)
   pub narrow-is : Narrows (sheet t.usable t.singles own t.lows t.highs t.lines) t.targets

@@ -3,27 +3,20 @@
 #![tactic(auto)]
 
 ghost use Rattle.std.specs.Prelude.{◌≤◌};
-ghost use Rattle.diagrams.specs.View.{diagram_of};
-ghost use Rattle.diagrams.specs.Held.{Held};
+ghost use Rattle.type_tables.specs.Releases.{new_of, old_of};
 ghost use Rattle.searching.specs.Answer.{Level};
 ghost use Rattle.searching.specs.Ready.{Ready};
 
-use diagrams::StoredDiagram;
 use records::MemoryRecord;
+use type_tables::Releases;
 use worlds::{Others, Tables};
 
-// A record of n objects, by the tables of both diagrams: old's own, and new's by old's types and role slots.
-pub fn search(
-    old: StoredDiagram,
-    new: StoredDiagram,
-    dues: &[u8; 768],
-    tables: &Tables,
-    others: &Others,
-    n: u8,
-) -> Option<MemoryRecord>
-    requires { Held old × Held new × Ready (diagram_of old) (diagram_of new) dues.now tables.now others.now × (n ≤ 8) }
-    ensures { Level (diagram_of old) (diagram_of new) n result }
+// A record of n objects, by the tables of both diagrams: old's own, and new's by old's types and role slots. What `Ready` says of them is
+// no part of a struct, since it speaks of a table of targets besides, which no struct keeps.
+pub fn search(by: &Releases, tables: &Tables, others: &Others, n: u8) -> Option<MemoryRecord>
+    requires { Ready (old_of by.now) (new_of by.now) tables.now others.now × (n ≤ 8) }
+    ensures { Level (old_of by.now) (new_of by.now) n result }
 {
     let site = aims::find_break(tables, others, n)?;
-    Some(type_values::with_values(old, new, dues, site.types, site.links, n))
+    Some(type_values::with_values(by, site.types, site.links, n))
 }

@@ -14,14 +14,13 @@ use Rattle.laws.specs.Connective.{both}
 use Rattle.laws.proofs.BoundedLaws.{any-ext}
 use Rattle.files.specs.Ancestor.{reaches}
 use Rattle.files.specs.Diagram.{type_at}
-use Rattle.fields.specs.Slot.{slot_name}
+use Rattle.fields.specs.Slot.{slot_name, slot_of}
 use Rattle.diagrams.specs.declared.StoredDiagram.{StoredDiagram}
 use Rattle.diagrams.specs.View.{diagram_of}
 use Rattle.diagrams.specs.Held.{Held}
 use Rattle.diagrams.proofs.ViewLaws.{type-count}
 use Rattle.diagrams.proofs.NamedLaws.{role-count, role-named, type-named}
 use Rattle.records.specs.Slots.{role_name, type_index}
-use Rattle.resolving.specs.Lookup.{slot_of}
 use Rattle.resolving.proofs.LookupLaws.{role-slot, type-index}
 use Rattle.tables.proofs.TableLaws.{set-reaches}
 use Rattle.type_tables.specs.RowsIn.{is_subtype}

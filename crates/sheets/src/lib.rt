@@ -5,46 +5,71 @@ ghost use Rattle.std.specs.Prelude.{◌≡◌, ℕ, ◌*◌, ◌+◌, ◌<◌, �
 ghost use Rattle.laws.specs.Bits.{Marks, bit};
 ghost use Rattle.laws.specs.Connective.{both};
 ghost use Rattle.diagrams.specs.View.{diagram_of};
-ghost use Rattle.diagrams.specs.Held.{Held};
+ghost use Rattle.sheets.specs.Pairs.{new_of, old_of};
 ghost use Rattle.type_tables.specs.RowsIn.{is_subtype, set_of};
 ghost use Rattle.worlds.specs.Tables.{LinesOf, MissingLinks, RowTables, SingleTypes, UsableTypes, single_missing};
 ghost use Rattle.worlds.specs.Coherent.{SourceTable};
-ghost use Rattle.type_tables.specs.TypeTables.{Dues};
 ghost use Rattle.sheets.specs.Named.{EndsBy, Images, SlotsBy, SubtypesBy};
 ghost use Rattle.sheets.specs.NamedIn.{is_image};
 
+use diagrams::{Associations, ReadDiagram};
 use laws::Mask;
+use places::Limits;
+use type_tables::Releases;
 
 mod lines;
 mod places;
 mod type_sets;
 
+// A diagram whose types and role slots are used, and one that is asked by them, which may be the same.
+#[derive(Clone, Copy)]
+pub struct Pair<'a> {
+    pub old: &'a ReadDiagram,
+    pub new: &'a ReadDiagram,
+}
+
 // The ends of a diagram's associations by another diagram: the types that an object at each end may have, and the slot of its role.
 #[derive(Clone, Copy)]
-struct Ends {
+struct Ends<'a> {
+    asked: &'a Associations,
     sets: [u32; 32],
+    // A number past the last slot where there is none: it is compared with bounds, and never looked up.
     slots: [u8; 32],
+}
+
+impl<'a> Ends<'a> {
+    // The ends of new's associations by old.
+    fn of(by: &Pair<'a>) -> Ends<'a>
+        ensures sets { EndsBy (old_of by.now) (new_of by.now) result.sets }
+        ensures slots { SlotsBy (old_of by.now) (new_of by.now) result.slots }
+        ensures asked { result.asked.now ≡ by.now.new.now.stored.associations }
+    {
+        let new = by.new;
+        Ends {
+            asked: &new.stored.associations,
+            sets: ends_by(by),
+            slots: slots_by(by),
+        }
+    }
 }
 
 // ---- names
 
-// The index in old of each type of d, by its name; past the last where there is none.
-pub fn images(old: diagrams::StoredDiagram, d: diagrams::StoredDiagram) -> [u8; 24]
-    requires { Held old × Held d }
-    ensures { Images (diagram_of old) (diagram_of d) result }
+// The index in old of each type of new, by its name; past the last where there is none: a number, which is compared with bounds.
+pub fn images(by: &Pair) -> [u8; 24]
+    ensures { Images (old_of by.now) (new_of by.now) result }
 {
-    let t = old.types;
-    let u = d.types;
+    let t = &by.old.stored.types;
+    let u = &by.new.stored.types;
     type_tables::places(&u.names, u.count as u8, &t.names, t.count as u8)
 }
 
-// Old's slot of the role of each end of d; past the last where there is none.
-pub fn slots_by(old: diagrams::StoredDiagram, d: diagrams::StoredDiagram) -> [u8; 32]
-    requires { Held old × Held d }
-    ensures { SlotsBy (diagram_of old) (diagram_of d) result }
+// Old's slot of the role of each end of new; past the last where there is none.
+pub fn slots_by(by: &Pair) -> [u8; 32]
+    ensures { SlotsBy (old_of by.now) (new_of by.now) result }
 {
-    let a = old.associations;
-    let b = d.associations;
+    let a = &by.old.stored.associations;
+    let b = &by.new.stored.associations;
     type_tables::places(&b.roles, (b.count * 2) as u8, &a.roles, (a.count * 2) as u8)
 }
 
@@ -55,7 +80,7 @@ fn is_shown(images: &[u8; 24], chosen: u32, k: u8, i: u8) -> bool
     requires { i < 24 }
     ensures { result ≡ both (ltb (get_or images.now i 0) k) (bit i chosen) }
 {
-    (images[usize::from(i)] < k) & chosen.has(i as u32)
+    (images[usize::from(i)] < k) & chosen.has(u32::from(i))
 }
 
 // Which of k types are images of the first m types that are chosen.
@@ -66,7 +91,7 @@ fn images_of(images: &[u8; 24], chosen: u32, m: u8, k: u8) -> u32
     let mut mask: u32 = 0;
     for i in 0..m {
         if is_shown(images, chosen, k, i) {
-            mask = mask.with(laws::byte(images, usize::from(i)) as u32);
+            mask = mask.with(u32::from(laws::byte(images, usize::from(i))));
         }
     }
     mask
@@ -80,27 +105,25 @@ fn subtypes_at(images: &[u8; 24], sets: &[u32; 24], m: u8, k: u8, x: u8) -> u32
     images_of(images, type_tables::subtypes_of(sets, x), m, k)
 }
 
-// The same for each x of m types.
+// The same for each x of m types. A loop, since no type stands past them.
 fn subtypes_all(images: &[u8; 24], sets: &[u32; 24], m: u8, k: u8) -> [u32; 24]
     requires { (m ≤ 24) × (k ≤ 32) }
     ensures { (x : ℕ) → x < m → Marks (is_image images.now (is_subtype sets.now x) m) k (get_or result x 0) }
 {
     let mut r = [0u32; 24];
     for x in 0..m {
-        let mask = subtypes_at(images, sets, m, k, x);
-        r[usize::from(x)] = mask;
+        r[usize::from(x)] = subtypes_at(images, sets, m, k, x);
     }
     r
 }
 
-// The types of old whose objects are instances of each type of d.
-pub fn subtypes_by(old: diagrams::StoredDiagram, d: diagrams::StoredDiagram) -> [u32; 24]
-    requires { Held old × Held d }
-    ensures { SubtypesBy (diagram_of old) (diagram_of d) result }
+// The types of old whose objects are instances of each type of new.
+pub fn subtypes_by(by: &Pair) -> [u32; 24]
+    ensures { SubtypesBy (old_of by.now) (new_of by.now) result }
 {
-    let found = images(old, d);
-    let t = old.types;
-    let u = d.types;
+    let found = images(by);
+    let t = &by.old.stored.types;
+    let u = &by.new.stored.types;
     subtypes_all(&found, &u.sets, u.count as u8, t.count as u8)
 }
 
@@ -113,13 +136,12 @@ fn ends_of(subtypes: &[u32; 24], types: &[u8; 32]) -> [u32; 32]
     types.map(|t| type_tables::set_of(subtypes, t))
 }
 
-// The types of old whose objects are instances of the type of each end of d.
-pub fn ends_by(old: diagrams::StoredDiagram, d: diagrams::StoredDiagram) -> [u32; 32]
-    requires { Held old × Held d }
-    ensures { EndsBy (diagram_of old) (diagram_of d) result }
+// The types of old whose objects are instances of the type of each end of new.
+pub fn ends_by(by: &Pair) -> [u32; 32]
+    ensures { EndsBy (old_of by.now) (new_of by.now) result }
 {
-    let subtypes = subtypes_by(old, d);
-    let a = d.associations;
+    let subtypes = subtypes_by(by);
+    let a = &by.new.stored.associations;
     ends_of(&subtypes, &a.types)
 }
 
@@ -133,25 +155,16 @@ pub struct Rows {
     pub highs: [u8; 768],
 }
 
-// The rows that d asks for, by the types and slots of old.
-pub fn rows_by(old: diagrams::StoredDiagram, d: diagrams::StoredDiagram) -> Rows
-    requires { Held old × Held d }
-    ensures { RowTables (diagram_of old) (diagram_of d) result.targets result.lows result.highs }
+// The rows that new asks for, by the types and slots of old.
+pub fn rows_by(by: &Pair) -> Rows
+    ensures { RowTables (old_of by.now) (new_of by.now) result.targets result.lows result.highs }
 {
-    let ends = Ends {
-        sets: ends_by(old, d),
-        slots: slots_by(old, d),
-    };
-    let t = old.types;
-    let a = d.associations;
-    let n = (a.count * 2) as u8;
-    let k = t.count as u8;
-    let limits = places::limits_of(&ends, &a, n, k);
-    let targets = places::targets_of(&ends, &a, n, k);
-    let lows = limits.lows;
-    let highs = limits.highs;
+    let ends = Ends::of(by);
+    let n = (ends.asked.count * 2) as u8;
+    let k = by.old.stored.types.count as u8;
+    let Limits { lows, highs } = places::limits_of(&ends, n, k);
     Rows {
-        targets,
+        targets: places::targets_of(&ends, n, k),
         lows,
         highs,
     }
@@ -174,64 +187,51 @@ pub fn sources_of(targets: &[u32; 768]) -> [u32; 768]
 
 // ---- associations
 
-// What d asks by its associations, by the types and slots of old.
-pub fn lines_by(old: diagrams::StoredDiagram, d: diagrams::StoredDiagram) -> worlds::Lines
-    requires { Held old × Held d }
-    ensures { LinesOf (diagram_of old) (diagram_of d) result }
+// What new asks by its associations, by the types and slots of old.
+pub fn lines_by(by: &Pair) -> worlds::Lines
+    ensures { LinesOf (old_of by.now) (new_of by.now) result }
 {
-    let ends = Ends {
-        sets: ends_by(old, d),
-        slots: slots_by(old, d),
-    };
-    let a = d.associations;
-    lines::lines_of(&ends, &a, a.count)
+    let ends = Ends::of(by);
+    lines::lines_of(&ends, ends.asked.count)
 }
 
 // ---- sets of types
 
 // The types that an object can have, by what each type asks of the values.
-pub fn usable_types(old: diagrams::StoredDiagram, dues: &[u8; 768]) -> u32
-    requires { Held old × Dues (diagram_of old) dues.now }
-    ensures { UsableTypes (diagram_of old) result }
+pub fn usable_types(by: &Releases) -> u32
+    ensures { UsableTypes (diagram_of by.now.old.now.stored) result }
 {
-    let t = old.types;
-    type_sets::usable_of(&t.kinds, dues, t.count as u8)
+    let t = &by.old.stored.types;
+    type_sets::usable_of(&t.kinds, by.dues, t.count as u8)
 }
 
-// The types of old that have the name of a singleton class of d.
-pub fn single_types(old: diagrams::StoredDiagram, d: diagrams::StoredDiagram) -> u32
-    requires { Held old × Held d }
-    ensures { SingleTypes (diagram_of old) (diagram_of d) result }
+// The types of old that have the name of a singleton class of new.
+pub fn single_types(by: &Pair) -> u32
+    ensures { SingleTypes (old_of by.now) (new_of by.now) result }
 {
-    let found = images(old, d);
-    let t = old.types;
-    let u = d.types;
+    let found = images(by);
+    let t = &by.old.stored.types;
+    let u = &by.new.stored.types;
     let chosen = type_sets::singles_of(&u.kinds, u.count as u8);
     images_of(&found, chosen, u.count as u8, t.count as u8)
 }
 
-// A singleton class of d has a name that no type of old has.
-pub fn single_missing(old: diagrams::StoredDiagram, d: diagrams::StoredDiagram) -> bool
-    requires { Held old × Held d }
-    ensures { result ≡ single_missing (diagram_of old) (diagram_of d) }
+// A singleton class of new has a name that no type of old has.
+pub fn single_missing(by: &Pair) -> bool
+    ensures { result ≡ single_missing (old_of by.now) (new_of by.now) }
 {
-    let found = images(old, d);
-    let t = old.types;
-    let u = d.types;
+    let found = images(by);
+    let t = &by.old.stored.types;
+    let u = &by.new.stored.types;
     let k = t.count as u8;
     let chosen = type_sets::singles_of(&u.kinds, u.count as u8);
-    images_of(&found, chosen, u.count as u8, k + 1).has(k as u32)
+    images_of(&found, chosen, u.count as u8, k + 1).has(u32::from(k))
 }
 
-// The types of old that d asks for links of a role for which old has no slot.
-pub fn missing_links(old: diagrams::StoredDiagram, d: diagrams::StoredDiagram) -> u32
-    requires { Held old × Held d }
-    ensures { MissingLinks (diagram_of old) (diagram_of d) result }
+// The types of old that new asks for links of a role for which old has no slot.
+pub fn missing_links(by: &Pair) -> u32
+    ensures { MissingLinks (old_of by.now) (new_of by.now) result }
 {
-    let ends = Ends {
-        sets: ends_by(old, d),
-        slots: slots_by(old, d),
-    };
-    let a = d.associations;
-    type_sets::missing_of(&ends, &a, (a.count * 2) as u8)
+    let ends = Ends::of(by);
+    type_sets::missing_of(&ends, (ends.asked.count * 2) as u8)
 }

@@ -3,7 +3,6 @@ ghost use Rattle.std.specs.Prelude.{◌≡◌, ◌*◌, ◌+◌, ◌<◌, ◌≤
 ghost use Rattle.sheets.specs.LinesBy.{end_if, lines_in, no_lines, with_column, with_mirror, with_whole};
 
 use crate::Ends;
-use diagrams::Associations;
 
 // The right end of association j, or the left one.
 fn end_if(right: bool, j: usize) -> usize
@@ -14,11 +13,11 @@ fn end_if(right: bool, j: usize) -> usize
 }
 
 // With what association j asks by rule 7.
-fn with_column(x: worlds::Lines, ends: &Ends, asked: &Associations, j: usize) -> worlds::Lines
+fn with_column(x: worlds::Lines, ends: &Ends, j: usize) -> worlds::Lines
     requires { j < 16 }
-    ensures { result ≡ with_column ends.now.sets ends.now.slots asked.now.arrows asked.now.lows asked.now.ups x j }
+    ensures { result ≡ with_column ends.now.sets ends.now.slots ends.now.asked.now.arrows ends.now.asked.now.lows ends.now.asked.now.ups x j }
 {
-    let arrow = asked.arrows[j];
+    let arrow = ends.asked.arrows[j];
     let right = arrows::counted_right(arrow);
     let on = right | arrows::counted_left(arrow);
     let to = end_if(right, j);
@@ -26,8 +25,8 @@ fn with_column(x: worlds::Lines, ends: &Ends, asked: &Associations, j: usize) ->
     let slot = type_tables::pick(on, ends.slots[to], 0);
     let sources = type_tables::pick(on, ends.sets[from], 0);
     let targets = type_tables::pick(on, ends.sets[to], 0);
-    let low = type_tables::capped(9, asked.lows[from]);
-    let high = type_tables::capped(8, asked.ups[from]);
+    let low = type_tables::capped(9, ends.asked.lows[from]);
+    let high = type_tables::capped(8, ends.asked.ups[from]);
     let mut y = x;
     y.columnslot[j] = slot;
     y.columnfrom[j] = sources;
@@ -38,11 +37,11 @@ fn with_column(x: worlds::Lines, ends: &Ends, asked: &Associations, j: usize) ->
 }
 
 // By rule 8.
-fn with_mirror(x: worlds::Lines, ends: &Ends, asked: &Associations, j: usize) -> worlds::Lines
+fn with_mirror(x: worlds::Lines, ends: &Ends, j: usize) -> worlds::Lines
     requires { j < 16 }
-    ensures { result ≡ with_mirror ends.now.sets ends.now.slots asked.now.arrows x j }
+    ensures { result ≡ with_mirror ends.now.sets ends.now.slots ends.now.asked.now.arrows x j }
 {
-    let on = arrows::is_mirrored(asked.arrows[j]);
+    let on = arrows::is_mirrored(ends.asked.arrows[j]);
     let right = type_tables::pick(on, ends.slots[j * 2 + 1], 0);
     let left = type_tables::pick(on, ends.slots[j * 2], 0);
     let from = type_tables::pick(on, ends.sets[j * 2], 0);
@@ -56,11 +55,11 @@ fn with_mirror(x: worlds::Lines, ends: &Ends, asked: &Associations, j: usize) ->
 }
 
 // By rule 9.
-fn with_whole(x: worlds::Lines, ends: &Ends, asked: &Associations, j: usize) -> worlds::Lines
+fn with_whole(x: worlds::Lines, ends: &Ends, j: usize) -> worlds::Lines
     requires { j < 16 }
-    ensures { result ≡ with_whole ends.now.sets ends.now.slots asked.now.forms x j }
+    ensures { result ≡ with_whole ends.now.sets ends.now.slots ends.now.asked.now.forms x j }
 {
-    let on = asked.forms[j] == 1;
+    let on = ends.asked.forms[j] == 1;
     let slot = type_tables::pick(on, ends.slots[j * 2 + 1], 0);
     let from = type_tables::pick(on, ends.sets[j * 2], 0);
     let to = type_tables::pick(on, ends.sets[j * 2 + 1], 0);
@@ -92,15 +91,15 @@ fn no_lines() -> worlds::Lines
 }
 
 // What n associations ask.
-pub fn lines_of(ends: &Ends, asked: &Associations, n: usize) -> worlds::Lines
+pub fn lines_of(ends: &Ends, n: usize) -> worlds::Lines
     requires { n ≤ 16 }
-    ensures { result ≡ lines_in ends.now.sets ends.now.slots asked.now.arrows asked.now.forms asked.now.lows asked.now.ups n }
+    ensures { result ≡ lines_in ends.now.sets ends.now.slots ends.now.asked.now.arrows ends.now.asked.now.forms ends.now.asked.now.lows ends.now.asked.now.ups n }
 {
     let mut x = no_lines();
     for j in 0..n {
-        x = with_column(x, ends, asked, j);
-        x = with_mirror(x, ends, asked, j);
-        x = with_whole(x, ends, asked, j);
+        x = with_column(x, ends, j);
+        x = with_mirror(x, ends, j);
+        x = with_whole(x, ends, j);
     }
     x
 }

@@ -6,7 +6,6 @@ ghost use Rattle.laws.specs.Connective.{both};
 ghost use Rattle.sheets.specs.RowsBy.{Stepped, high_at, leads_at, low_at, mask_at, source_in, target_at};
 
 use crate::Ends;
-use diagrams::Associations;
 use laws::Mask;
 
 // The lower and the upper limit at each place.
@@ -17,11 +16,11 @@ pub struct Limits {
 }
 
 // The types whose links go to end e, by the types of each end.
-pub fn source_at(ends: &Ends, asked: &Associations, e: u8) -> u32
+pub fn source_at(ends: &Ends, e: u8) -> u32
     requires { e < 32 }
-    ensures { result ≡ source_in ends.now.sets asked.now.arrows e }
+    ensures { result ≡ source_in ends.now.sets ends.now.asked.now.arrows e }
 {
-    if type_tables::is_carried(&asked.arrows, e) {
+    if type_tables::is_carried(&ends.asked.arrows, e) {
         return ends.sets[usize::from(e / 2 * 2 + (1 - e % 2))];
     }
     0u32
@@ -32,10 +31,11 @@ fn is_among(set: u32, s: u8, t: u8) -> bool
     requires { t < 32 }
     ensures { result ≡ both (ltb s 32) (bit t set) }
 {
-    (s < 32) & set.has(t as u32)
+    (s < 32) & set.has(u32::from(t))
 }
 
-// The larger of each lower limit and this one, the smaller of each upper limit and this one, in slot s of each type of the set.
+// The larger of each lower limit and this one, the smaller of each upper limit and this one, in slot s of each type of the set. Apart
+// from `mask_slot`, since what a step does is stated of lists of numbers, and not of a type of elements.
 fn limit_slot(
     lows: &mut [u8; 768],
     highs: &mut [u8; 768],
@@ -50,26 +50,24 @@ fn limit_slot(
 {
     for t in 0..k {
         if is_among(set, s, t) {
-            let at = usize::from(t) * 32 + usize::from(s);
-            let m = lows[at].max(low);
-            lows[at] = m;
-            let n = highs[at].min(high);
-            highs[at] = n;
+            let at = laws::place(t, s);
+            lows[at] = lows[at].max(low);
+            highs[at] = highs[at].min(high);
         }
     }
 }
 
 // The limits for k types by n ends.
-pub fn limits_of(ends: &Ends, asked: &Associations, n: u8, k: u8) -> Limits
+pub fn limits_of(ends: &Ends, n: u8, k: u8) -> Limits
     requires { (n ≤ 32) × (k ≤ 24) }
-    ensures { ((x : ℕ) → x < 768 → get_or result.lows x 0 ≡ low_at asked.now.lows (leads_at ends.now.sets asked.now.arrows ends.now.slots k x) n) × ((x : ℕ) → x < 768 → get_or result.highs x 0 ≡ high_at asked.now.ups (leads_at ends.now.sets asked.now.arrows ends.now.slots k x) n) }
+    ensures { ((x : ℕ) → x < 768 → get_or result.lows x 0 ≡ low_at ends.now.asked.now.lows (leads_at ends.now.sets ends.now.asked.now.arrows ends.now.slots k x) n) × ((x : ℕ) → x < 768 → get_or result.highs x 0 ≡ high_at ends.now.asked.now.ups (leads_at ends.now.sets ends.now.asked.now.arrows ends.now.slots k x) n) }
 {
     let mut least = [0u8; 768];
     let mut most = [8u8; 768];
     for e in 0..n {
-        let set = source_at(ends, asked, e);
-        let low = type_tables::capped(9, asked.lows[usize::from(e)]);
-        let high = type_tables::capped(8, asked.ups[usize::from(e)]);
+        let set = source_at(ends, e);
+        let low = type_tables::capped(9, ends.asked.lows[usize::from(e)]);
+        let high = type_tables::capped(8, ends.asked.ups[usize::from(e)]);
         limit_slot(
             &mut least,
             &mut most,
@@ -93,7 +91,7 @@ pub fn mask_slot(masks: &mut [u32; 768], set: u32, s: u8, more: u32, keep: u32, 
 {
     for t in 0..k {
         if is_among(set, s, t) {
-            let at = usize::from(t) * 32 + usize::from(s);
+            let at = laws::place(t, s);
             masks[at] = (masks[at] | more) & keep;
         }
     }
@@ -103,18 +101,17 @@ pub fn mask_slot(masks: &mut [u32; 768], set: u32, s: u8, more: u32, keep: u32, 
 fn masks_of(
     start: [u32; 768],
     ends: &Ends,
-    asked: &Associations,
     more: u32,
     keeps: &[u32; 32],
     n: u8,
     k: u8,
 ) -> [u32; 768]
     requires { (n ≤ 32) × (k ≤ 24) }
-    ensures { (x : ℕ) → x < 768 → get_or result x 0 ≡ mask_at more keeps.now (get_or start x 0) (leads_at ends.now.sets asked.now.arrows ends.now.slots k x) n }
+    ensures { (x : ℕ) → x < 768 → get_or result x 0 ≡ mask_at more keeps.now (get_or start x 0) (leads_at ends.now.sets ends.now.asked.now.arrows ends.now.slots k x) n }
 {
     let mut r = start;
     for e in 0..n {
-        let set = source_at(ends, asked, e);
+        let set = source_at(ends, e);
         mask_slot(
             &mut r,
             set,
@@ -128,11 +125,11 @@ fn masks_of(
 }
 
 // The types that a target may have: of the places with an end, those in the set of each end.
-pub fn targets_of(ends: &Ends, asked: &Associations, n: u8, k: u8) -> [u32; 768]
+pub fn targets_of(ends: &Ends, n: u8, k: u8) -> [u32; 768]
     requires { (n ≤ 32) × (k ≤ 24) }
-    ensures { (x u : ℕ) → x < 768 → u < 24 → bit u (get_or result x 0) ≡ target_at ends.now.sets (leads_at ends.now.sets asked.now.arrows ends.now.slots k x) n u }
+    ensures { (x u : ℕ) → x < 768 → u < 24 → bit u (get_or result x 0) ≡ target_at ends.now.sets (leads_at ends.now.sets ends.now.asked.now.arrows ends.now.slots k x) n u }
 {
     let all = [16777215u32; 32];
-    let led = masks_of([0u32; 768], ends, asked, 16777215, &all, n, k);
-    masks_of(led, ends, asked, 0, &ends.sets, n, k)
+    let led = masks_of([0u32; 768], ends, 16777215, &all, n, k);
+    masks_of(led, ends, 0, &ends.sets, n, k)
 }

@@ -4,10 +4,12 @@
 use Prim.Native.Nat.{◌+◌, ◌-◌, ◌<◌, ◌≤◌, suc, zero, ℕ}
 use native.Mathlib.Decide.{dec_lt}
 use native.Mathlib.Omega.{arith}
-use mathlib.Core.Bool.{Bool, cond, false, true}
-use mathlib.Core.Logic.{◌≢◌, ◌⊎◌, inl, inr}
+use mathlib.Core.Bool.{Bool, cond, false, false≢true, true}
+use mathlib.Core.Logic.{◌≢◌, ◌⊎◌, ⊎_elim, inl, inr}
 use mathlib.Core.Path.{◌∙◌, ◌≡◌, refl, subst, sym}
+use lib.Dec.{eqb}
 use lib.ListN.{length}
+use borrow.Author.Tests.{eq-eqb, eqb-true}
 use Rattle.laws.specs.Bounded.{first}
 use Rattle.files.specs.Diagram.{Diagram, attribute_at}
 use Rattle.files.specs.Name.{Name}
@@ -18,7 +20,7 @@ use Rattle.records.specs.Slots.{code_of, is_code, own_attribute}
 use Rattle.records.specs.Written.{IsValue, value_in}
 use Rattle.records.proofs.SlotLaws.{code-value}
 use Rattle.memory_rules.specs.Stands.{Stands}
-use Rattle.tables.specs.Tables.{Coded}
+use Rattle.tables.specs.Tables.{Coded, Codes}
 use Rattle.laws.proofs.FirstLaws.{first_holds, first-le}
 
 -- one more than a code
@@ -67,3 +69,15 @@ stands-coded {d} {r} {m} h = record {
       let e : value_in m o s ≡ value_byte d r o s = h.represents.values o s small slot in
       subst (Kept d) (sym e) (byte-kept d r o s (λ z. nz (e ∙ z)));
 }
+
+-- ---- the two forms
+
+pub coded-codes : {d : Diagram} {m : MemoryRecord} → Coded d m → Codes d m
+coded-codes c = record { few = c.few; known = λ o s l k n p. ⊎_elim (λ v. v) (λ e. absurd (p e)) (c.codes o s l k n) }
+
+pub codes-coded : {d : Diagram} {m : MemoryRecord} → Codes d m → Coded d m
+codes-coded {d} {m} c = record { few = c.few; codes = λ o s l k n. go o s l k n (eqb (value_in m o s) 97) refl }
+  where
+    go : (o s : ℕ) → o < m.count → s < length d.attributes → value_in m o s ≢ 0 → (b : Bool) → eqb (value_in m o s) 97 ≡ b → IsValue d (value_in m o s - 1) ⊎ (value_in m o s ≡ 97)
+    go o s l k n true e = inr (eqb-true _ _ e)
+    go o s l k n false e = inl (c.known o s l k n (λ q. false≢true (sym e ∙ eq-eqb _ _ q)))

@@ -27,3 +27,8 @@ pub record AttributeSlots (d : Diagram) (slots : List ℕ) : Type 0 where
 pub record Coded (d : Diagram) (m : MemoryRecord) : Type 0 where
   pub few : m.count ≤ 8
   pub codes : (o s : ℕ) → o < m.count → s < length d.attributes → value_in m o s ≢ 0 → IsValue d (value_in m o s - 1) ⊎ (value_in m o s ≡ 97)
+
+-- the same with one proof at most: a code that is not past the last one is a value
+pub record Codes (d : Diagram) (m : MemoryRecord) : Type 0 where
+  pub few : m.count ≤ 8
+  pub known : (o s : ℕ) → o < m.count → s < length d.attributes → value_in m o s ≢ 0 → value_in m o s ≢ 97 → IsValue d (value_in m o s - 1)

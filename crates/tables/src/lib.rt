@@ -6,12 +6,12 @@ ghost use Rattle.laws.specs.Bits.{Marks};
 ghost use Rattle.files.specs.Name.{same_name};
 ghost use Rattle.fields.specs.Slot.{slot_name};
 ghost use Rattle.diagrams.specs.View.{diagram_of};
-ghost use Rattle.diagrams.specs.Held.{Held};
 ghost use Rattle.tables.specs.Numbers.{set_at, counts_as, slot_at};
-ghost use Rattle.tables.specs.Tables.{Instances, RoleSlots, AttributeSlots};
+ghost use Rattle.tables.specs.Tables.{Instances, RoleSlots, AttributeSlots, Coded, Codes};
 
-use diagrams::Types;
+use diagrams::{ReadDiagram, Types};
 use laws::Mask;
+use records::MemoryRecord;
 
 // What the rules are judged by: for each type the mask of its instances; for each attribute, or for each end, the slot of its name.
 #[derive(Clone, Copy)]
@@ -22,102 +22,155 @@ pub struct Tables {
 
 // ---- instances, by the sets of the diagram's types and the objects' types
 
-// The set of types that object o counts as, empty where its type is unknown.
-pub fn type_set(t: &Types, types: &[u8; 8], o: u8) -> u32
-    requires { (t.now.count ≤ 24) × (o < 8) }
-    ensures { result ≡ set_at t.now.sets t.now.count types.now o }
-{
-    let i = usize::from(types[usize::from(o)]);
-    if i < t.count { t.sets[i] } else { 0 }
+// The types of a diagram, and of each object the index of its type.
+#[derive(Clone, Copy)]
+pub struct Typed<'a> {
+    pub types: &'a Types,
+    pub objects: &'a [u8; 8],
+    ghost few: { types.now.count ≤ 24 },
 }
 
-// Object o counts as type k.
-fn counts_as(t: &Types, types: &[u8; 8], k: u8, o: u8) -> bool
-    requires { (t.now.count ≤ 24) × ((k < 32) × (o < 8)) }
-    ensures { result ≡ counts_as t.now.sets t.now.count types.now k o }
-{
-    type_set(t, types, o).has(k as u32)
-}
-
-// The objects that count as type k.
-fn mask_of(t: &Types, types: &[u8; 8], k: u8) -> u8
-    requires { (t.now.count ≤ 24) × (k < 32) }
-    ensures { Marks (counts_as t.now.sets t.now.count types.now k) 8 result }
-{
-    let mut mask: u8 = 0;
-    for o in 0u8..8 {
-        if counts_as(t, types, k, o) {
-            mask = mask.with(o);
+impl<'a> Typed<'a> {
+    // The set of types that object o counts as, empty where its type is unknown.
+    pub fn type_set(&self, o: u8) -> u32
+        requires { o < 8 }
+        ensures { result ≡ set_at self.now.types.now.sets self.now.types.now.count self.now.objects.now o }
+    {
+        let i = usize::from(self.objects[usize::from(o)]);
+        if i < self.types.count {
+            self.types.sets[i]
+        } else {
+            0
         }
     }
-    mask
-}
 
-// The objects that count as each type.
-fn masks_of(t: &Types, types: &[u8; 8]) -> [u8; 24]
-    requires { t.now.count ≤ 24 }
-    ensures { (k : ℕ) → k < 24 → Marks (counts_as t.now.sets t.now.count types.now k) 8 (get_or result k 0) }
-{
-    let mut masks = [0u8; 24];
-    for k in 0u8..24 {
-        masks[usize::from(k)] = mask_of(t, types, k);
+    // Object o counts as type k.
+    fn counts_as(&self, k: u8, o: u8) -> bool
+        requires { (k < 32) × (o < 8) }
+        ensures { result ≡ counts_as self.now.types.now.sets self.now.types.now.count self.now.objects.now k o }
+    {
+        self.type_set(o).has(u32::from(k))
     }
-    masks
+
+    // The objects that count as type k.
+    fn mask_of(&self, k: u8) -> u8
+        requires { k < 32 }
+        ensures { Marks (counts_as self.now.types.now.sets self.now.types.now.count self.now.objects.now k) 8 result }
+    {
+        let mut mask: u8 = 0;
+        for o in 0u8..8 {
+            if self.counts_as(k, o) {
+                mask = mask.with(o);
+            }
+        }
+        mask
+    }
+
+    // The objects that count as each type.
+    fn masks(&self) -> [u8; 24]
+        ensures { (k : ℕ) → k < 24 → Marks (counts_as self.now.types.now.sets self.now.types.now.count self.now.objects.now k) 8 (get_or result k 0) }
+    {
+        std::array::from_fn(|k| self.mask_of(k as u8))
+    }
 }
 
 // The instances of each type.
-pub fn instance_masks(d: diagrams::StoredDiagram, m: records::MemoryRecord) -> [u8; 24]
-    requires { Held d × (m.count ≤ 8) }
-    ensures { Instances (diagram_of d) m result }
+pub fn instance_masks(d: ReadDiagram, m: MemoryRecord) -> [u8; 24]
+    requires { m.count ≤ 8 }
+    ensures { Instances (diagram_of d.stored) m result }
 {
-    masks_of(&d.types, &m.types)
+    let typed = Typed {
+        types: &d.stored.types,
+        objects: &m.types,
+    };
+    typed.masks()
 }
 
-// ---- slots
+// ---- slots: counts and indices are at most 32, as `as u8` keeps them
 
-// Names i and j are the same.
-fn same_names(names: &[u8; 544], i: u8, j: u8) -> bool
-    ensures { result ≡ same_name (slot_name names.now i) (slot_name names.now j) }
-{
-    fields::same_name(fields::slot_name(names, i), fields::slot_name(names, j))
-}
-
-// The first of n names that is the same as name i.
-fn slot_at(names: &[u8; 544], n: u8, i: u8) -> u8
-    ensures { result ≡ slot_at names.now n i }
-{
-    for t in 0..n {
-        if same_names(names, t, i) {
-            return t;
-        }
-    }
-    n
-}
-
-// The first of n names that is the same as each.
+// The first of n names that is the same as each. A loop, since only n of the 32 places are asked for.
 fn slots_of(names: &[u8; 544], n: u8) -> [u8; 32]
     requires { n ≤ 32 }
     ensures { (i : ℕ) → i < n → get_or result i 0 ≡ slot_at names.now n i }
 {
     let mut slots = [0u8; 32];
     for i in 0..n {
-        slots[usize::from(i)] = slot_at(names, n, i);
+        slots[usize::from(i)] = fields::slot_of(names, n, fields::slot_name(names, i));
     }
     slots
 }
 
 // The slot of each end's role name.
-pub fn role_slots(d: diagrams::StoredDiagram) -> [u8; 32]
-    requires { Held d }
-    ensures { RoleSlots (diagram_of d) result }
+pub fn role_slots(d: ReadDiagram) -> [u8; 32]
+    ensures { RoleSlots (diagram_of d.stored) result }
 {
-    slots_of(&d.associations.roles, (d.associations.count * 2) as u8)
+    slots_of(
+        &d.stored.associations.roles,
+        (d.stored.associations.count * 2) as u8,
+    )
 }
 
 // The slot of each attribute's name.
-pub fn attribute_slots(d: diagrams::StoredDiagram) -> [u8; 32]
-    requires { Held d }
-    ensures { AttributeSlots (diagram_of d) result }
+pub fn attribute_slots(d: ReadDiagram) -> [u8; 32]
+    ensures { AttributeSlots (diagram_of d.stored) result }
 {
-    slots_of(&d.attributes.names, d.attributes.count as u8)
+    slots_of(&d.stored.attributes.names, d.stored.attributes.count as u8)
+}
+
+// ---- what the rules are judged by
+
+// A record in memory with the diagram that it is judged by, the table of instances and that of the attributes' slots.
+#[derive(Clone, Copy)]
+pub struct Values<'a> {
+    pub diagram: &'a ReadDiagram,
+    pub memory: &'a MemoryRecord,
+    pub tables: Tables,
+    ghost codes: { Codes (diagram_of diagram.now.stored) memory.now },
+    ghost instances: { Instances (diagram_of diagram.now.stored) memory.now tables.masks },
+    ghost slots: { AttributeSlots (diagram_of diagram.now.stored) tables.slots },
+}
+
+impl<'a> Values<'a> {
+    pub fn new(diagram: &'a ReadDiagram, memory: &'a MemoryRecord, masks: [u8; 24]) -> Self
+        requires { Coded (diagram_of diagram.now.stored) memory.now × Instances (diagram_of diagram.now.stored) memory.now masks }
+        ensures diagram { result.diagram.now ≡ diagram.now }
+        ensures memory { result.memory.now ≡ memory.now }
+    {
+        Values {
+            diagram,
+            memory,
+            tables: Tables {
+                masks,
+                slots: attribute_slots(*diagram),
+            },
+        }
+    }
+}
+
+// A record in memory with the diagram that it is judged by, the table of instances and that of the ends' slots.
+#[derive(Clone, Copy)]
+pub struct Roles<'a> {
+    pub diagram: &'a ReadDiagram,
+    pub memory: &'a MemoryRecord,
+    pub tables: Tables,
+    ghost few: { memory.now.count ≤ 8 },
+    ghost instances: { Instances (diagram_of diagram.now.stored) memory.now tables.masks },
+    ghost slots: { RoleSlots (diagram_of diagram.now.stored) tables.slots },
+}
+
+impl<'a> Roles<'a> {
+    pub fn new(diagram: &'a ReadDiagram, memory: &'a MemoryRecord, masks: [u8; 24]) -> Self
+        requires { (memory.now.count ≤ 8) × Instances (diagram_of diagram.now.stored) memory.now masks }
+        ensures diagram { result.diagram.now ≡ diagram.now }
+        ensures memory { result.memory.now ≡ memory.now }
+    {
+        Roles {
+            diagram,
+            memory,
+            tables: Tables {
+                masks,
+                slots: role_slots(*diagram),
+            },
+        }
+    }
 }

@@ -1,4 +1,4 @@
--- Names collected in a list: one more where it is asked for, and the loop over an outline that collects the names of a kind.
+-- Names collected in a list: the loop over an outline that collects the names of a kind.
 -- Assumes nothing.
 use mathlib.Core.Path.{◌≡◌, ap, ap₂, refl, subst, sym, ◌∙◌}
 use mathlib.Core.Bool.{Bool, false, true}
@@ -18,7 +18,7 @@ use Rattle.texts.specs.TextChecks.{names_of_kind}
 use Rattle.text_rows.specs.RowAt.{declarations_by}
 use Rattle.text_outlines.specs.declared.Outlined.{Outlined}
 use Rattle.text_outlines.specs.Outline.{Outlines}
-use Rattle.name_lists.specs.declared.Names.{Names}
+use Rattle.name_lists.specs.declared.list.Names.{Names}
 use Rattle.name_lists.specs.Names.{names_in}
 use Rattle.name_lists.proofs.NamesLaws.{names-length}
 use Rattle.text_parts.specs.declared.Kind.TheVariants.{Types}
@@ -26,15 +26,6 @@ use Rattle.text_parts.specs.declared.Kind.{Kind}
 use Rattle.text_parts.specs.Sort.{of_kind}
 use Rattle.text_checks.specs.Kinds.{name_as}
 use Rattle.text_checks.proofs.OutlineLaws.{outline-end, outline-upto, test_at}
-
--- ---- one name more
-
-module _ (ns : List Name) (on : Bool) (w : Name) {b : Bool} (q : b ≡ on) where
-  pub named-on : {v : Name} {ms : List Name} → b ≡ true → v ≡ w → ms ≡ ns ++ (v ∷ []) → ms ≡ ns ++ only on w
-  named-on t e f = f ∙ ap (λ (x : Name). ns ++ (x ∷ [])) e ∙ ap (λ (x : Bool). ns ++ only x w) (sym t ∙ q)
-
-  pub named-off : b ≡ false → ns ≡ ns ++ only on w
-  named-off t = sym (append-nil ns) ∙ ap (λ (x : Bool). ns ++ only x w) (sym t ∙ q)
 
 -- ---- picked lists: what is picked of the first k stands at the front
 
@@ -69,12 +60,20 @@ module _ (kind : Kind) (body : List ℕ) where
   collected-begin q = q
 
   module _ (k : ℕ) (r : Names) (e : names_in r ≡ names_to kind body k) where
-    pub collected-next : {b : Bool} {w : Name} {ms : List Name} → b ≡ of_kind kind (declaration_at (declarations_by body) k) → w ≡ name_at body k
+    collected-next : {b : Bool} {w : Name} {ms : List Name} → b ≡ of_kind kind (declaration_at (declarations_by body) k) → w ≡ name_at body k
         → ms ≡ names_in r ++ only b w → ms ≡ names_to kind body (k + 1)
     collected-next p n q =
         q ∙ ap₂ (λ (x : Bool) (y : Name). names_in r ++ only x y) p n
         ∙ ap (λ (xs : List Name). xs ++ name_as kind (declaration_at (declarations_by body) k)) e
         ∙ sym (picked_more (test_at (of_kind kind) body) (name_at body) k)
+
+    -- as the code adds it, or passes it
+    module _ {b : Bool} (p : b ≡ of_kind kind (declaration_at (declarations_by body) k)) where
+      pub collected-push : {w : Name} {ms : List Name} → b ≡ true → w ≡ name_at body k → ms ≡ names_in r ++ (w ∷ []) → ms ≡ names_to kind body (k + 1)
+      collected-push {w} t n q = collected-next p n (q ∙ ap (λ (x : Bool). names_in r ++ only x w) (sym t))
+
+      pub collected-pass : b ≡ false → names_in r ≡ names_to kind body (k + 1)
+      collected-pass t = collected-next p refl (sym (append-nil (names_in r)) ∙ ap (λ (x : Bool). names_in r ++ only x (name_at body k)) (sym t))
 
     module _ {o : List Outlined} {n most : ℕ} (t : Outlines body o n) (h : k ≤ n) where
       -- it stops where there are enough

@@ -14,7 +14,7 @@ use Rattle.laws.proofs.ConnectiveLaws.{either_left, either-right}
 use Rattle.texts.specs.Declaration.{Declaration}
 use Rattle.texts.specs.Declared.{types_before, used_types, value_types_of}
 use Rattle.texts.specs.TextChecks.{is_overfull}
-use Rattle.name_lists.specs.declared.Names.{Names}
+use Rattle.name_lists.specs.declared.list.Names.{Names}
 use Rattle.name_lists.specs.Names.{names_in}
 use Rattle.name_lists.proofs.NamesLaws.{names-length}
 use Rattle.text_parts.specs.declared.Kind.TheVariants.{Associations, Types}

@@ -2,7 +2,7 @@
 -- Assumes nothing.
 use mathlib.Core.Path.{◌≡◌, ap, ap₂, refl, subst, sym, ◌∙◌}
 use mathlib.Core.Bool.{Bool, not}
-use mathlib.Core.List.{List, [], ◌∷◌, ◌++◌}
+use mathlib.Core.List.{List, [], ◌∷◌, ◌++◌, append-nil}
 use mathlib.Core.Logic.{⊎_elim}
 use Prim.Native.Nat.{ℕ, ◌+◌, ◌<◌, ◌≤◌}
 use native.Mathlib.Nat.{ne_of_lt}
@@ -27,7 +27,7 @@ use Rattle.texts.specs.TextChecks.{names_of_kind}
 use Rattle.text_rows.specs.RowAt.{declarations_by}
 use Rattle.text_outlines.specs.declared.Outlined.{Outlined}
 use Rattle.text_outlines.specs.Outline.{Outlines}
-use Rattle.name_lists.specs.declared.Names.{Names}
+use Rattle.name_lists.specs.declared.list.Names.{Names}
 use Rattle.name_lists.specs.Names.{names_in}
 use Rattle.name_lists.proofs.NamesLaws.{names-length}
 use Rattle.text_parts.specs.declared.Kind.TheVariants.{Enumerations}
@@ -64,7 +64,7 @@ pub taken-begin : (ws : List Name) (n : ℕ) (r₀ : Names) → r₀.count ≤ 1
 taken-begin ws n r₀ h = record { up_to = omega arith; few = h; same = refl }
 
 module _ {ws : List Name} {n : ℕ} {r₀ : Names} {i : ℕ} {r : Names} (t : Taken ws n r₀ i r) where
-  pub taken_next : {w : Name} {f : ℕ} {r' : Names} → n ≡ length ws → i < n → (r.count ≡ 13 → ⊥) → w ≡ get_or ws i []
+  taken_next : {w : Name} {f : ℕ} {r' : Names} → n ≡ length ws → i < n → (r.count ≡ 13 → ⊥) → w ≡ get_or ws i []
       → f ≡ first (λ j. same_name (get_or (names_in r) j []) w) r.count → names_in r' ≡ names_in r ++ only (eqb f r.count) w → r'.count ≤ r.count + 1
       → Taken ws n r₀ (i + 1) r'
   unfolding with_names
@@ -78,6 +78,15 @@ module _ {ws : List Name} {n : ℕ} {r₀ : Names} {i : ℕ} {r : Names} (t : Ta
         few = omega (arith, t.few);
         same = t.same ∙ ap (with_names (names_in r)) next ∙ ap (λ (xs : List Name). with_names xs (drop (i + 1) ws)) is;
       }
+
+  -- as the code adds the name, or passes it
+  module _ {w : Name} {f : ℕ} (m : n ≡ length ws) (h : i < n) (u : r.count ≡ 13 → ⊥) (e : w ≡ get_or ws i [])
+      (q : f ≡ first (λ j. same_name (get_or (names_in r) j []) w) r.count) where
+    pub taken-push : {r' : Names} → f ≡ r.count → names_in r' ≡ names_in r ++ (w ∷ []) → r'.count ≡ r.count + 1 → Taken ws n r₀ (i + 1) r'
+    taken-push {r'} g a c = taken_next m h u e q (a ∙ ap (λ (b : Bool). names_in r ++ only b w) (sym (eq-eqb f r.count g))) (omega arith)
+
+    pub taken-pass : (f ≡ r.count → ⊥) → Taken ws n r₀ (i + 1) r
+    taken-pass g = taken_next m h u e q (sym (append-nil (names_in r)) ∙ ap (λ (b : Bool). names_in r ++ only b w) (sym (ne_eqb f r.count g))) (omega arith)
 
   pub taken-full : r.count ≡ 13 → names_in r ≡ take 13 (with_names (names_in r₀) ws)
   taken-full e =

@@ -4,12 +4,11 @@ use mathlib.Core.Path.{◌≡◌, ap, ap₂, sym, ◌∙◌}
 use mathlib.Core.Bool.{Bool, false, not, true, ◌||◌}
 use mathlib.Core.List.{List, []}
 use Prim.Native.Nat.{ℕ, ◌+◌, ◌<◌, ◌≤◌}
-use native.Mathlib.Omega.{arith}
 use lib.ListN.{get_or, length}
 use Rattle.laws.specs.Bounded.{any}
 use Rattle.laws.specs.Connective.{both, either}
 use Rattle.laws.proofs.ConnectiveLaws.{or-is-either}
-use Rattle.laws.proofs.LoopLaws.{any-begin, any-done, any_found, any_next}
+use Rattle.laws.proofs.LoopLaws.{any_found, any_next}
 use Rattle.files.specs.Name.{Name}
 use Rattle.texts.specs.Declaration.{Declaration, declaration_at, is_type}
 use Rattle.texts.specs.TextChecks.{has_unknown, has_unknown_end, has_unknown_parent, is_declared}
@@ -28,33 +27,9 @@ use Rattle.text_checks.proofs.OutlineLaws.{outline-below, outline-end}
 abbrev pub unknown_at : Kind → List Declaration → ℕ → List Name → ℕ → Bool
 unknown_at kind ds k ws i = not (is_declared (of_kind kind) ds k (get_or ws i []))
 
--- a loop over the names ws leaves at the first that is unknown: none before i is
-pub record Known (kind : Kind) (ds : List Declaration) (k : ℕ) (ws : List Name) (n i : ℕ) : Type 0 where
-  pub up_to : i ≤ n
-  pub none : any (unknown_at kind ds k ws) i ≡ false
-
-pub known-begin : (kind : Kind) (ds : List Declaration) (k : ℕ) (ws : List Name) (n : ℕ) → Known kind ds k ws n 0
-known-begin kind ds k ws n = record { up_to = omega arith; none = any-begin (unknown_at kind ds k ws) }
-
-module _ {kind : Kind} {ds : List Declaration} {k : ℕ} {ws : List Name} {n i : ℕ} (l : Known kind ds k ws n i) where
-  pub known_next : {v : Name} {b : Bool} → i < n → v ≡ get_or ws i [] → b ≡ is_declared (of_kind kind) ds k v → not b ≡ false → Known kind ds k ws n (i + 1)
-  known_next h e q t = record {
-    up_to = omega arith;
-    none = any_next (unknown_at kind ds k ws) i l.none (ap not (q ∙ ap (is_declared (of_kind kind) ds k) e)) t;
-  }
-
-  pub known-not : {v : Name} {b : Bool} → n ≡ length ws → i < n → v ≡ get_or ws i [] → b ≡ is_declared (of_kind kind) ds k v → not b ≡ true → true ≡ unknown_in kind ds k ws
-  unfolding unknown_in
-  known-not m h e q t =
-      let g : i < length ws = omega arith in
-      any_found (unknown_at kind ds k ws) (length ws) i g (ap not (q ∙ ap (is_declared (of_kind kind) ds k) e)) t
-
-  pub known-done : n ≡ length ws → n ≤ i → false ≡ unknown_in kind ds k ws
-  unfolding unknown_in
-  known-done m h =
-      let f : i ≤ length ws = omega (arith, l.up_to) in
-      let g : length ws ≤ i = omega arith in
-      any-done (unknown_at kind ds k ws) (length ws) i f g l.none
+pub not-declared : (kind : Kind) (ds : List Declaration) (k : ℕ) (ws : List Name) (i : ℕ) {v : Name} {b : Bool} → v ≡ get_or ws i [] → b ≡ is_declared (of_kind kind) ds k v
+    → not b ≡ unknown_at kind ds k ws i
+not-declared kind ds k ws i e q = ap not (q ∙ ap (is_declared (of_kind kind) ds k) e)
 
 -- both lists of parents
 pub parents-unknown : (ds : List Declaration) (k : ℕ) (d : Declaration) {p q : Bool} → d ≡ declaration_at ds k → p ≡ unknown_in Classes ds k d.superclasses

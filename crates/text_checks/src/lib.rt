@@ -3,7 +3,6 @@
 #![tactic(auto)]
 
 ghost use Rattle.std.specs.Prelude.{◌≡◌, ℕ, ◌+◌, ◌≤◌, ◌<◌, ltb, length, take, get_or, [], ◌++◌};
-ghost use Rattle.laws.specs.Lists.{only};
 ghost use Rattle.texts.specs.Declaration.{declaration_at, is_type};
 ghost use Rattle.texts.specs.Declared.{types_before, used_types};
 ghost use Rattle.texts.specs.WellFormedDeclaration.{ShortNames};
@@ -16,7 +15,7 @@ ghost use Rattle.text_checks.specs.Overlong.{has_many, has_overlong};
 ghost use Rattle.text_checks.specs.ValueNames.{value_names, with_names};
 
 use name_lists::Names;
-use text_outlines::Outline;
+use text_outlines::{CompleteOutline, Outline};
 use text_parts::Kind;
 use text_rows::Scanned;
 
@@ -71,12 +70,7 @@ fn is_declared_in_outline(o: &Outline, k: usize, kind: Kind, w: &[u8]) -> bool
     requires { (k ≤ o.now.count) × (k ≤ 52) }
     ensures { result ≡ is_declared (of_kind kind) (declarations_by o.now.body.now) k w.now }
 {
-    for j in 0..k {
-        if is_named_in_outline(o, j, kind, w) {
-            return true;
-        }
-    }
-    false
+    (0..k).any(|j| is_named_in_outline(o, j, kind, w))
 }
 
 // One of the first k declarations is of that kind and has the name w.
@@ -96,27 +90,17 @@ fn has_unknown_class(o: &Outline, k: usize, row: &Scanned) -> bool
     ensures { result ≡ unknown_in Kind.Classes (declarations_by o.now.body.now) k (declaration_by row.now.rest.now).superclasses }
 {
     let count = text_parts::superclass_count(row);
-    for i in 0..count {
-        if !is_declared(o, k, Kind::Classes, text_parts::superclass(row.rest, i)) {
-            return true;
-        }
-    }
-    false
+    (0..count).any(|i| !is_declared(o, k, Kind::Classes, text_parts::superclass(row.rest, i)))
 }
 
 // A superinterface in the row is none of the interfaces among them.
-// Not one with the function above: the list of names would be a ghost value of its contract, and what gives name i a closure.
+// One function for both would take what gives name i as a closure, and be no shorter.
 fn has_unknown_interface(o: &Outline, k: usize, row: &Scanned) -> bool
     requires { k ≤ o.now.count }
     ensures { result ≡ unknown_in Kind.Interfaces (declarations_by o.now.body.now) k (declaration_by row.now.rest.now).interfaces }
 {
     let count = text_parts::interface_count(row);
-    for i in 0..count {
-        if !is_declared(o, k, Kind::Interfaces, text_parts::interface(row.rest, i)) {
-            return true;
-        }
-    }
-    false
+    (0..count).any(|i| !is_declared(o, k, Kind::Interfaces, text_parts::interface(row.rest, i)))
 }
 
 // The row, of declaration k, has a parent that is not declared before as its keyword calls for.
@@ -157,25 +141,23 @@ pub fn has_unknown(o: &Outline) -> bool
 // ---- 4
 
 // How many declarations are of that kind.
-pub fn kind_count(o: &Outline, kind: Kind) -> usize
-    requires { o.now.count ≤ 52 }
-    ensures { result ≡ kind_count kind (declarations_by o.now.body.now) }
+pub fn kind_count(o: &CompleteOutline, kind: Kind) -> usize
+    ensures { result ≡ kind_count kind (declarations_by o.now.outline.now.body.now) }
 {
     let mut count = 0;
-    for k in 0..o.count {
-        count += usize::from(o.is_kind(k, kind));
+    for k in 0..o.outline.count {
+        count += usize::from(o.outline.is_kind(k, kind));
     }
     count
 }
 
 // There are more than 32 attributes.
-fn has_many_attributes(o: &Outline) -> bool
-    requires { o.now.count ≤ 52 }
-    ensures { result ≡ ltb 32 (length (used_types (declarations_by o.now.body.now))) }
+fn has_many_attributes(o: &CompleteOutline) -> bool
+    ensures { result ≡ ltb 32 (length (used_types (declarations_by o.now.outline.now.body.now))) }
 {
     let mut used: usize = 0;
-    for k in 0..o.count {
-        let attributes = o.attribute_count(k);
+    for k in 0..o.outline.count {
+        let attributes = o.outline.attribute_count(k);
         if 32 < attributes {
             return true;
         }
@@ -188,22 +170,16 @@ fn has_many_attributes(o: &Outline) -> bool
 }
 
 // Some declaration has more constants or parents than it may have.
-fn has_overlong(o: &Outline) -> bool
-    requires { o.now.count ≤ 52 }
-    ensures { result ≡ has_overlong (declarations_by o.now.body.now) }
+fn has_overlong(o: &CompleteOutline) -> bool
+    ensures { result ≡ has_overlong (declarations_by o.now.outline.now.body.now) }
 {
-    for k in 0..o.count {
-        if (8 < o.constant_count(k)) | (4 < o.parent_count(k)) {
-            return true;
-        }
-    }
-    false
+    (0..o.outline.count).any(|k| (8 < o.outline.constant_count(k))
+        | (4 < o.outline.parent_count(k)))
 }
 
 // Some count is over 01's limits, that of the value types left out.
-pub fn has_many(o: &Outline) -> bool
-    requires { o.now.count ≤ 52 }
-    ensures { result ≡ has_many (declarations_by o.now.body.now) }
+pub fn has_many(o: &CompleteOutline) -> bool
+    ensures { result ≡ has_many (declarations_by o.now.outline.now.body.now) }
 {
     (24 < kind_count(o, Kind::Types))
         | (has_many_attributes(o) | ((16 < kind_count(o, Kind::Associations)) | has_overlong(o)))
@@ -211,36 +187,27 @@ pub fn has_many(o: &Outline) -> bool
 
 // ---- names
 
-// With the name w where it is asked for.
-fn with_name(names: Names, on: bool, w: &[u8]) -> Names
-    requires { (names.count < 24) × (length w.now ≤ 16) }
-    ensures { (names_in result ≡ names_in names ++ only on w.now) × (result.count ≤ names.count + 1) }
-{
-    if on {
-        return name_lists::push_name(names, w);
-    }
-    names
-}
-
 // The names of the declarations of that kind, in order: the first ones, as many as there is room for.
-fn names_of_kind(o: &Outline, kind: Kind, most: usize) -> Names
-    requires { ShortNames (declarations_by o.now.body.now) × ((o.now.count ≤ 52) × (most ≤ 24)) }
-    ensures { (names_in result ≡ take most (names_of_kind (of_kind kind) (declarations_by o.now.body.now))) × (result.count ≤ most) }
+fn names_of_kind(o: &CompleteOutline, kind: Kind, most: usize) -> Names
+    requires { ShortNames (declarations_by o.now.outline.now.body.now) × (most ≤ 24) }
+    ensures { (names_in result ≡ take most (names_of_kind (of_kind kind) (declarations_by o.now.outline.now.body.now))) × (result.count ≤ most) }
 {
     let mut names = name_lists::no_names();
-    for k in 0..o.count {
+    for k in 0..o.outline.count {
         if names.count == most {
             return names;
         }
-        names = with_name(names, o.is_kind(k, kind), o.name(k));
+        if o.outline.is_kind(k, kind) {
+            names = name_lists::push_name(names, o.outline.name(k));
+        }
     }
     names
 }
 
 // The names of the types, in order.
-pub fn type_names(o: &Outline) -> Names
-    requires { ShortNames (declarations_by o.now.body.now) × ((o.now.count ≤ 52) × (types_before (declarations_by o.now.body.now) (length (declarations_by o.now.body.now)) ≤ 24)) }
-    ensures { (names_in result ≡ names_of_kind is_type (declarations_by o.now.body.now)) × (result.count ≤ 24) }
+pub fn type_names(o: &CompleteOutline) -> Names
+    requires { ShortNames (declarations_by o.now.outline.now.body.now) × (types_before (declarations_by o.now.outline.now.body.now) (length (declarations_by o.now.outline.now.body.now)) ≤ 24) }
+    ensures { names_in result ≡ names_of_kind is_type (declarations_by o.now.outline.now.body.now) }
 {
     names_of_kind(o, Kind::Types, 24)
 }
@@ -256,19 +223,25 @@ fn with_types_of(names: Names, s: &[u8], count: usize) -> Names
             return r;
         }
         let w = text_parts::attribute_type(s, i);
-        r = with_name(r, name_lists::find_name(r, w) == r.count, w);
+        if name_lists::find_name(r, w) == r.count {
+            r = name_lists::push_name(r, w);
+        }
     }
     r
 }
 
 // The names of the value types, the first 13 of them.
-pub fn value_names(o: &Outline) -> Names
-    requires { ShortNames (declarations_by o.now.body.now) × (o.now.count ≤ 52) }
-    ensures { (names_in result ≡ take 13 (value_names (declarations_by o.now.body.now))) × (result.count ≤ 13) }
+pub fn value_names(o: &CompleteOutline) -> Names
+    requires { ShortNames (declarations_by o.now.outline.now.body.now) }
+    ensures { (names_in result ≡ take 13 (value_names (declarations_by o.now.outline.now.body.now))) × (result.count ≤ 13) }
 {
     let mut names = names_of_kind(o, Kind::Enumerations, 13);
-    for k in 0..o.count {
-        names = with_types_of(names, o.declaration(k), o.attribute_count(k));
+    for k in 0..o.outline.count {
+        names = with_types_of(
+            names,
+            o.outline.declaration(k),
+            o.outline.attribute_count(k),
+        );
     }
     names
 }

@@ -25,9 +25,9 @@ use Rattle.std.specs.Prelude.{Result, Err}
 use Rattle.fields.specs.Refusal.{number_of}
 use Rattle.fields.specs.declared.Refusal.{Refusal}
 use Rattle.fields.specs.declared.Refusal.TheVariants.{Count, Grammar, Undeclared}
-use Rattle.diagrams.specs.declared.StoredDiagram.{StoredDiagram}
+use Rattle.diagrams.specs.declared.ReadDiagram.{ReadDiagram}
 use Rattle.loading.specs.Loads.{Loads}
-use Rattle.name_lists.specs.declared.Names.{Names}
+use Rattle.name_lists.specs.declared.list.Names.{Names}
 use Rattle.name_lists.specs.Names.{names_in}
 use Rattle.text_rows.specs.RowAt.{RowEnds, declarations_by}
 use Rattle.text_outlines.specs.declared.Outlined.{Outlined}
@@ -43,7 +43,7 @@ use Rattle.text_loading.proofs.ReadLaws.{not-true, read-file, read-forbidden, re
 -- ---- refusals
 
 says-refused : {s : List ℕ} (e : Refusal) → read_text s ≡ refused (number_of e) → LoadsText s (Err e)
-says-refused e f = record { says = sym f; held = tt }
+says-refused e f = record { says = sym f }
 
 not-not : (b : Bool) → not b ≡ false → b ≡ true
 not-not true e = refl
@@ -100,10 +100,10 @@ put_front {xs} {d} {d'} {n} p = ap₂ take p.length-is p.bytes ∙ take-append_s
 pub put_count : {xs d d' : List ℕ} {n : ℕ} → Put xs d n d' → n ≡ length (take n d')
 put_count p = p.length-is ∙ sym (ap length (put_front p))
 
-pub says-read : {s body : List ℕ} {l : Result StoredDiagram Refusal} → Read s body → Known body → is_overfull (declarations_by body) ≡ false → Loads (write_diagram (declared (declarations_by body))) l → LoadsText s l
-says-read r k f m = record { says = m.says ∙ sym (read-file r k.allowed k.known f); held = m.held }
+pub says-read : {s body : List ℕ} {l : Result ReadDiagram Refusal} → Read s body → Known body → is_overfull (declarations_by body) ≡ false → Loads (write_diagram (declared (declarations_by body))) l → LoadsText s l
+says-read r k f m = record { says = m.says ∙ sym (read-file r k.allowed k.known f) }
 
-pub loads-at : {xs file : List ℕ} {l : Result StoredDiagram Refusal} → file ≡ xs → Loads file l → Loads xs l
+pub loads-at : {xs file : List ℕ} {l : Result ReadDiagram Refusal} → file ≡ xs → Loads file l → Loads xs l
 loads-at {xs} {file} {l} e m = subst (λ (x : List ℕ). Loads x l) e m
 
 pub ruleset replies = (says-untaken, ends_of, read_of, known_of, says-forbidden, says-unknown)

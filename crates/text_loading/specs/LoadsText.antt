@@ -1,13 +1,12 @@
 -- What reading a text into memory promises.
 -- Assumes nothing.
-use Rattle.std.specs.Prelude.{ℕ, List, ◌≡◌, Result, IfOk}
+use Rattle.std.specs.Prelude.{ℕ, List, ◌≡◌, Result}
 use Rattle.fields.specs.Refusal.{answer_of}
 use Rattle.fields.specs.declared.Refusal.{Refusal}
-use Rattle.diagrams.specs.Held.{Held}
 use Rattle.diagrams.specs.View.{diagram_of}
-use Rattle.diagrams.specs.declared.StoredDiagram.{StoredDiagram}
+use Rattle.diagrams.specs.declared.ReadDiagram.{ReadDiagram}
 use Rattle.texts.specs.ReadText.{read_text}
 
-pub record LoadsText (text : List ℕ) (r : Result StoredDiagram Refusal) : Type 0 where
-  pub says : answer_of diagram_of r ≡ read_text text
-  pub held : IfOk r Held
+-- that what is accepted is held stands with the diagram itself
+pub record LoadsText (text : List ℕ) (r : Result ReadDiagram Refusal) : Type 0 where
+  pub says : answer_of (λ d. diagram_of d.stored) r ≡ read_text text

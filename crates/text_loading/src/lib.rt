@@ -2,7 +2,7 @@
 // file is read.
 #![tactic(auto)]
 
-ghost use Rattle.std.specs.Prelude.{◌≡◌, ◌≤◌};
+ghost use Rattle.std.specs.Prelude.{◌≡◌};
 ghost use Rattle.files.specs.DiagramBytes.{write_diagram};
 ghost use Rattle.loading.specs.Loads.{Loads};
 ghost use Rattle.texts.specs.Declared.{declared};
@@ -13,15 +13,15 @@ ghost use Rattle.text_writing.specs.Pieces.{Writable};
 ghost use Rattle.text_loading.specs.LoadsText.{LoadsText};
 ghost use Rattle.text_loading.specs.Read.{Known, Read};
 
-use diagrams::StoredDiagram;
+use diagrams::ReadDiagram;
 use fields::Refusal;
 use name_lists::Names;
-use text_outlines::Outline;
+use text_outlines::{CompleteOutline, Outline};
 
 // The diagram of a body that passes these checks, with the names of its value types.
-fn read_declared<'a>(o: &'a Outline<'a>, values: Names) -> Result<StoredDiagram, Refusal>
-    requires { Writable (declarations_by o.now.body.now) × ((o.now.count ≤ 52) × ((values.count ≤ 24) × (names_in values ≡ value_names (declarations_by o.now.body.now)))) }
-    ensures { Loads (write_diagram (declared (declarations_by o.now.body.now))) result }
+fn read_declared(o: &CompleteOutline, values: Names) -> Result<ReadDiagram, Refusal>
+    requires { Writable (declarations_by o.now.outline.now.body.now) × (names_in values ≡ value_names (declarations_by o.now.outline.now.body.now)) }
+    ensures { Loads (write_diagram (declared (declarations_by o.now.outline.now.body.now))) result }
 {
     let types = text_checks::type_names(o);
     let mut file = [0; 4096];
@@ -30,7 +30,7 @@ fn read_declared<'a>(o: &'a Outline<'a>, values: Names) -> Result<StoredDiagram,
 }
 
 // What is read of a text whose body passes the checks 23 and 24.
-fn read_known<'a>(text: &[u8], o: &'a Outline<'a>) -> Result<StoredDiagram, Refusal>
+fn read_known(text: &[u8], o: &Outline) -> Result<ReadDiagram, Refusal>
     requires { Read text.now o.now.body.now × Known o.now.body.now }
     ensures { LoadsText text.now result }
 {
@@ -38,18 +38,19 @@ fn read_known<'a>(text: &[u8], o: &'a Outline<'a>) -> Result<StoredDiagram, Refu
     if 52 < o.count {
         return Err(Refusal::Count);
     }
-    if text_checks::has_many(o) {
+    let complete = CompleteOutline { outline: o };
+    if text_checks::has_many(&complete) {
         return Err(Refusal::Count);
     }
     // The value types last: they take long where there are many attributes.
-    let values = text_checks::value_names(o);
+    let values = text_checks::value_names(&complete);
     if 12 < values.count {
         return Err(Refusal::Count);
     }
-    read_declared(o, values)
+    read_declared(&complete, values)
 }
 
-pub fn read_text(text: &[u8]) -> Result<StoredDiagram, Refusal>
+pub fn read_text(text: &[u8]) -> Result<ReadDiagram, Refusal>
     ensures { LoadsText text.now result }
 {
     if !text_rows::is_accepted(text) {

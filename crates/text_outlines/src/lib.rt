@@ -1,7 +1,7 @@
 // The outline of a text's body, made in one walk, so that what comes after goes from declaration to declaration without another.
 #![tactic(auto)]
 
-ghost use Rattle.std.specs.Prelude.{◌≡◌, [], ◌<◌, length};
+ghost use Rattle.std.specs.Prelude.{◌≡◌, [], ◌<◌, ◌≤◌, length};
 ghost use Rattle.texts.specs.Declaration.{declaration_at};
 ghost use Rattle.texts.specs.Declared.{parent_names};
 ghost use Rattle.texts.specs.TextChecks.{has_forbidden};
@@ -45,6 +45,13 @@ pub struct Outline<'a> {
     ghost forbids: { forbidden ≡ has_forbidden (declarations_by body.now) },
 }
 
+// An outline that has all declarations of its body.
+#[derive(Clone, Copy)]
+pub struct CompleteOutline<'a> {
+    pub outline: &'a Outline<'a>,
+    ghost complete: { outline.now.count ≤ 52 },
+}
+
 // ---- the walk
 
 // Where the name of the declaration at the front of the row stands in the body.
@@ -52,7 +59,10 @@ fn name_in(body: &[u8], row: &Scanned) -> Option<Word>
     requires { Suffix body.now row.now.rest.now }
     ensures { word_or body.now result [] ≡ (declaration_by row.now.rest.now).name }
 {
-    let w = text_parts::name_at(row)?;
+    if text_parts::is_nameless(row) {
+        return None;
+    }
+    let w = text_parts::name_at(row.rest)?;
     let name = laws::past(row.rest, w.start);
     Some(Word {
         start: body.len() - name.len(),
@@ -110,12 +120,12 @@ impl<'a> Outline<'a> {
         laws::past(self.body, self.declarations[k].start)
     }
 
-    // Its row.
-    pub fn row(&self, k: usize) -> Scanned<'a>
+    // What it is.
+    pub fn what(&self, k: usize) -> Option<Sort>
         requires { (k < self.now.count) × (k < 52) }
-        ensures { declaration_by result.rest.now ≡ declaration_at (declarations_by self.now.body.now) k }
+        ensures { number_of result ≡ (declaration_at (declarations_by self.now.body.now) k).what }
     {
-        text_rows::scan_row(self.declaration(k))
+        self.declarations[k].what
     }
 
     // It is of that kind.
@@ -123,7 +133,7 @@ impl<'a> Outline<'a> {
         requires { (k < self.now.count) × (k < 52) }
         ensures { result ≡ of_kind kind (declaration_at (declarations_by self.now.body.now) k) }
     {
-        text_parts::is_kind(self.declarations[k].what, kind)
+        text_parts::is_kind(self.what(k), kind)
     }
 
     // Its name; an association has none.

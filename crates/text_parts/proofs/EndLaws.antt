@@ -10,7 +10,7 @@ use lib.Dec.{eqb}
 use lib.ListN.{get_or, length}
 use Rattle.files.specs.Name.{Name}
 use Rattle.texts.specs.Declaration.{lowered, value}
-use Rattle.texts.specs.Table.{Symbol, declaration_in, end_for, limits_in, passes, role_in, words_for}
+use Rattle.texts.specs.Table.{declaration_in, end_for, limits_in, passes, role_in, words_for}
 use Rattle.text_rows.specs.RowAt.{declaration_by, row_at}
 use Rattle.text_parts.specs.Ends.{Capped, capped_upper, end_on, role_given, role_word, role_words, type_words}
 use Rattle.text_parts.specs.declared.Limits.{Limits as CappedLimits}
@@ -23,35 +23,26 @@ either-word : (roles : List Name) (type : Name) (none : Bool)
 either-word roles type true = refl
 either-word roles type false = refl
 
+type-is : (right : Bool) (s : List ℕ) → (end_on right (declaration_by s)).type ≡ get_or (type_words right (row_at s)) 0 []
+unfolding declaration_by declaration_in end_for
+type-is true s = refl
+type-is false s = refl
+
 -- the word that is written, or else the type's name lowered
 pub role-is : (right : Bool) (s : List ℕ) → (end_on right (declaration_by s)).role ≡ cond (role_given right (row_at s)) (role_word right (row_at s)) (lowered (role_word right (row_at s)))
 unfolding declaration_by declaration_in end_for role_in role_word role_given
 role-is true s = either-word (role_words true (row_at s)) (get_or (type_words true (row_at s)) 0 []) (eqb (length (role_words true (row_at s))) 0)
 role-is false s = either-word (role_words false (row_at s)) (get_or (type_words false (row_at s)) 0 []) (eqb (length (role_words false (row_at s))) 0)
 
-module _ (row : List Symbol) {right : Bool} where
-  pub given-right : {n : ℕ} → right ≡ true → n ≡ length (words_for 37 37 37 row) → not (eqb n 0) ≡ role_given right row
-  unfolding role_given
-  given-right t e = rw (t, e)
+-- as the code tells it
+module _ (right : Bool) (s : List ℕ) where
+  pub role-written : {w : Name} → (length (role_words right (row_at s)) ≡ 0 → ⊥) → w ≡ get_or (role_words right (row_at s)) 0 [] → w ≡ role_word right (row_at s)
+  unfolding role_word role_given
+  role-written h e = e ∙ rw (ne_eqb _ 0 h)
 
-  pub given-left : {n : ℕ} → right ≡ false → n ≡ length (words_for 33 33 33 row) → not (eqb n 0) ≡ role_given right row
-  unfolding role_given
-  given-left t e = rw (t, e)
-
-  module _ {given : Bool} {w : Name} (is : given ≡ role_given right row) (g : given ≡ true) where
-    pub word-right : right ≡ true → w ≡ get_or (words_for 37 37 37 row) 0 [] → w ≡ role_word right row
-    unfolding role_word
-    word-right t e = rw (sym is ∙ g, t, e)
-
-    pub word-left : right ≡ false → w ≡ get_or (words_for 33 33 33 row) 0 [] → w ≡ role_word right row
-    unfolding role_word
-    word-left t e = rw (sym is ∙ g, t, e)
-
--- where no role is written
-pub word-type : (s : List ℕ) (right : Bool) {given : Bool} {w : Name} → given ≡ role_given right (row_at s) → given ≡ false → w ≡ (end_on right (declaration_by s)).type → w ≡ role_word right (row_at s)
-unfolding declaration_by declaration_in end_for role_word
-word-type s true is g e = rw (sym is ∙ g, e)
-word-type s false is g e = rw (sym is ∙ g, e)
+  pub role-type : {w : Name} → length (role_words right (row_at s)) ≡ 0 → w ≡ (end_on right (declaration_by s)).type → w ≡ role_word right (row_at s)
+  unfolding role_word role_given
+  role-type h e = e ∙ type-is right s ∙ rw (eq-eqb _ 0 h)
 
 -- ---- limits
 
@@ -91,11 +82,6 @@ module _ (s : List ℕ) {right : Bool} {r : CappedLimits} where
 -- for `search`
 pub ruleset ends = (
   rules,
-  given-right,
-  given-left,
-  word-right,
-  word-left,
-  word-type,
   limits-free,
   limits-one,
   limits-from,

@@ -1,6 +1,5 @@
 pub mod EndLaws
 pub mod ForbiddenLaws
-pub mod ParentLaws
 pub mod ValueLaws
 pub mod WhatLaws
 pub mod CountLaws

@@ -1,6 +1,7 @@
 -- The ends of an association in a text: which states of the table their parts lead to, and their limits as the code has them.
 -- Assumes nothing.
-use Rattle.std.specs.Prelude.{min, ℕ, Bool, cond, false, not, true, List, [], ◌≡◌, eqb, get_or, length}
+use Rattle.std.specs.Prelude.{min, ℕ, Bool, cond, false, not, true, List, [], ◌≡◌, eqb, get_or, length, Option, None, Some}
+use Rattle.std.specs.Borrow.{Bor}
 use Rattle.files.specs.Diagram.{Limits, Upper, at_most, no_limit}
 use Rattle.files.specs.Name.{Name}
 use Rattle.texts.specs.Declaration.{Declaration, DeclaredEnd}
@@ -20,6 +21,11 @@ capped_upper no_limit = 255
 pub record Capped (l : Limits) (r : CappedLimits) : Type 0 where
   pub low-is : r.low ≡ min l.low 101
   pub up_is : r.up ≡ capped_upper l.up
+
+-- the first of some words, if there is one
+abbrev pub IsFirst : List Name → Option (Bor (List ℕ)) → Type 0
+IsFirst ws None = length ws ≡ 0
+IsFirst ws (Some w) = (length ws ≡ 0 → ⊥) × (w.now ≡ get_or ws 0 [])
 
 -- ---- roles
 

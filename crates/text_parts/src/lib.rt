@@ -1,7 +1,7 @@
 // The parts of the declaration at the front of what is left of a text.
 #![tactic(auto)]
 
-ghost use Rattle.std.specs.Prelude.{◌≡◌, [], min, ◌*◌, ◌+◌, ◌-◌, ◌≤◌, get_or, length};
+ghost use Rattle.std.specs.Prelude.{◌≡◌, true, [], min, ◌*◌, ◌+◌, ◌-◌, ◌≤◌, get_or, length};
 ghost use Rattle.files.specs.Diagram.{Limits as FileLimits};
 ghost use Rattle.texts.specs.Declaration.{Declaration, value};
 ghost use Rattle.texts.specs.Declared.{parent_names};
@@ -9,7 +9,7 @@ ghost use Rattle.texts.specs.Table.{limits_in, passes, words_for};
 ghost use Rattle.texts.specs.TextChecks.{ends_forbidden, limits_forbidden};
 ghost use Rattle.text_rows.specs.Noted.{word_or};
 ghost use Rattle.text_rows.specs.RowAt.{declaration_by, row_at};
-ghost use Rattle.text_parts.specs.Ends.{Capped, end_on, role_given, role_word};
+ghost use Rattle.text_parts.specs.Ends.{Capped, IsFirst, end_on, role_word, role_words};
 ghost use Rattle.text_parts.specs.Sort.{kind_test, number_of, of_kind, sort_number};
 
 use text_rows::{Scanned, Word};
@@ -92,7 +92,7 @@ pub fn what(row: &Scanned) -> Option<Sort>
     }
 }
 
-// The number, 7 for none.
+// The number, 7 for none: who writes a declaration's field puts the number of whatever the row is.
 pub fn number(what: Option<Sort>) -> u8
     ensures { (result ≡ number_of what) × (result ≤ 7) }
 {
@@ -112,14 +112,18 @@ pub fn is_kind(what: Option<Sort>, kind: Kind) -> bool
     }
 }
 
-// Where the name of the type or enumeration stands; an association has none, and is not read for it.
-pub fn name_at(row: &Scanned) -> Option<Word>
-    ensures { word_or row.now.rest.now result [] ≡ (declaration_by row.now.rest.now).name }
+// It has no name, as an association has none.
+pub fn is_nameless(row: &Scanned) -> bool
+    ensures { result ≡ true → [] ≡ (declaration_by row.now.rest.now).name }
 {
-    if (row.count_for(8) == 0) & ((row.count_for(17) == 0) & (row.count_for(21) == 0)) {
-        return None;
-    }
-    text_rows::word_at(row.rest, 8, 17, 21, 0)
+    (row.count_for(8) == 0) & ((row.count_for(17) == 0) & (row.count_for(21) == 0))
+}
+
+// Where the name of the type or enumeration stands.
+pub fn name_at(s: &[u8]) -> Option<Word>
+    ensures { word_or s.now result [] ≡ (declaration_by s.now).name }
+{
+    text_rows::word_at(s, 8, 17, 21, 0)
 }
 
 // The name of the type or enumeration.
@@ -200,14 +204,11 @@ pub fn constant(s: &[u8], i: usize) -> &[u8]
 pub fn arrow(row: &Scanned) -> u8
     ensures { (result ≡ (declaration_by row.now.rest.now).arrow) × (result ≤ 4) }
 {
-    let Some(class) = row.class_for(35) else {
-        return 0;
-    };
-    match class {
-        0 => 3,
-        1 => 1,
-        2 => 2,
-        3 => 4,
+    match row.class_for(35) {
+        Some(0) => 3,
+        Some(1) => 1,
+        Some(2) => 2,
+        Some(3) => 4,
         _ => 0,
     }
 }
@@ -222,27 +223,35 @@ pub fn end_type<'a>(row: &Scanned<'a>, right: bool) -> &'a [u8]
     row.first_for(31)
 }
 
-// A role is written at the end.
-pub fn is_role_given(row: &Scanned, right: bool) -> bool
-    ensures { result ≡ role_given right (row_at row.now.rest.now) }
+// The first word of the row that leads to the state q, if one does.
+fn first_word<'a>(row: &Scanned<'a>, q: u8) -> Option<&'a [u8]>
+    requires { q ≤ 46 }
+    ensures { IsFirst (words_for q q q (row_at row.now.rest.now)) result }
+{
+    if row.count_for(q) == 0 {
+        return None;
+    }
+    Some(row.first_for(q))
+}
+
+// The role that is written at the end, if one is.
+pub fn written_role<'a>(row: &Scanned<'a>, right: bool) -> Option<&'a [u8]>
+    ensures { IsFirst (role_words right (row_at row.now.rest.now)) result }
 {
     if right {
-        return row.count_for(37) != 0;
+        return first_word(row, 37);
     }
-    row.count_for(33) != 0
+    first_word(row, 33)
 }
 
 // The role that is written, or else the type's name.
 pub fn role_word<'a>(row: &Scanned<'a>, right: bool) -> &'a [u8]
     ensures { result.now ≡ role_word right (row_at row.now.rest.now) }
 {
-    if is_role_given(row, right) {
-        if right {
-            return row.first_for(37);
-        }
-        return row.first_for(33);
+    match written_role(row, right) {
+        Some(role) => role,
+        None => end_type(row, right),
     }
-    end_type(row, right)
 }
 
 // A digit behind digits of the value v, 101 where the value is above 100.
@@ -270,20 +279,20 @@ fn limits_for(row: &Scanned, low: u8, dots: u8, up: u8) -> Limits
     requires { (low ≤ 46) × ((dots ≤ 46) × (up ≤ 46)) }
     ensures { Capped (limits_in (words_for low low low (row_at row.now.rest.now)) (passes dots (row_at row.now.rest.now)) (words_for up up up (row_at row.now.rest.now))) result }
 {
-    if row.count_for(low) == 0 {
+    let Some(first) = first_word(row, low) else {
         return Limits { low: 0, up: 255 };
+    };
+    let n = value_of(first);
+    if !row.is_passed(dots) {
+        return Limits { low: n, up: n };
     }
-    let n = value_of(row.first_for(low));
-    if row.is_passed(dots) {
-        if row.count_for(up) == 0 {
-            return Limits { low: n, up: 255 };
-        }
-        return Limits {
+    match first_word(row, up) {
+        Some(last) => Limits {
             low: n,
-            up: value_of(row.first_for(up)),
-        };
+            up: value_of(last),
+        },
+        None => Limits { low: n, up: 255 },
     }
-    Limits { low: n, up: n }
 }
 
 pub fn end_limits(row: &Scanned, right: bool) -> Limits

@@ -16,11 +16,11 @@ use borrow.Author.Tests.{eq-eqb, leb-false, leb-true, ne_eqb}
 use Rattle.laws.proofs.ConnectiveLaws.{known}
 use Rattle.texts.specs.Token.{is_blank, token_at, tokens}
 use Rattle.texts.specs.Table.{Symbol, onto, row_from, rows_from, symbol}
-use Rattle.text_rows.specs.declared.tokens.Front.{Front}
+use Rattle.text_rows.specs.declared.Passed.{Passed}
 use Rattle.text_rows.specs.Front.{unblank}
+use Rattle.text_rows.specs.Passes.{Passed_at}
 use Rattle.text_rows.specs.RowAt.{RowEnd, RowEnds}
-use Rattle.text_rows.proofs.RowLaws.{Step, rest-tokens, row_on, to-next, tokens-on}
-use Rattle.text_rows.proofs.TokenLaws.{size-least, tokens-end, tokens-unblank}
+use Rattle.text_rows.proofs.RowLaws.{rest-shorter, row_on, to-next, tokens-none, tokens-on}
 
 -- ---- t is s behind some of its first bytes
 
@@ -43,8 +43,15 @@ unblank-behind (x ∷ s) = go (unblank-behind s) (is_blank x)
 pub behind-unblank : (s t u : List ℕ) → Behind s t → u ≡ unblank t → Behind s u
 behind-unblank s t u b e = behind-drop s t u (unblank-behind t).count b (e ∙ (unblank-behind t).is)
 
-pub behind-self : (s u : List ℕ) → u ≡ unblank s → Behind s u
-behind-self s u e = behind-unblank s s u (record { count = 0; is = refl }) e
+pub behind-self : (s : List ℕ) → Behind s s
+behind-self s = record { count = 0; is = refl }
+
+-- so is what stands from the next token on, and behind it
+pub behind-start : {s t : List ℕ} {q : ℕ} {p : Passed} → Passed_at t q p → Behind s t → Behind s p.start.now
+behind-start {s} {t} {q} {p} h b = behind-unblank s t p.start.now b h.start-is
+
+pub behind-after : {s t : List ℕ} {q : ℕ} {p : Passed} → Passed_at t q p → Behind s t → Behind s p.after.now
+behind-after {s} {t} {q} {p} h b = behind-drop s p.start.now p.after.now p.front.size (behind-start h b) h.after-is
 
 -- by how many, the lengths tell
 pub behind-is : (s t : List ℕ) → Behind s t → (length t ≤ length s) × (t ≡ drop (length s - length t) s)
@@ -74,47 +81,40 @@ pub record Continues (q : ℕ) (s : List ℕ) (n : ℕ) (t : List ℕ) : Type 0 
   pub none : rows_from n (tokens t) ≡ [] → rows_from q (tokens s) ≡ []
   pub more : (rs : List (List Symbol)) → rows_from n (tokens t) ≡ row_from n (tokens t) ∷ rs → rows_from q (tokens s) ≡ row_from q (tokens s) ∷ rs
 
-pub continues-self : (q : ℕ) (s t : List ℕ) → t ≡ unblank s → Continues q s q t
-continues-self q s t e =
-    let k : tokens t ≡ tokens s = ap tokens e ∙ tokens-unblank s in
-    record { none = λ h. ap (rows_from q) (sym k) ∙ h; more = λ rs h. rw (sym k) h }
+pub continues-self : (q : ℕ) (s : List ℕ) → Continues q s q s
+continues-self q s = record { none = λ h. h; more = λ rs h. h }
 
-module _ {q₀ : ℕ} {s r : List ℕ} {f : Front} {q n : ℕ} (h : Step r f q n) (c : Continues q₀ s q r) {p : List ℕ} (past : p ≡ drop f.size r) where
+module _ {q₀ : ℕ} {s r : List ℕ} {q : ℕ} {p : Passed} (h : Passed_at r q p) (c : Continues q₀ s q r) where
   rows_on : rows_from q (tokens r)
-      ≡ cond (eqb n 3) ((symbol n (token_at r) ∷ []) ∷ rows_from n (tokens (drop f.size r))) (onto (symbol n (token_at r)) (rows_from n (tokens (drop f.size r))))
+      ≡ cond (eqb p.state 3) ((symbol p.state (token_at p.start.now) ∷ []) ∷ rows_from p.state (tokens p.after.now)) (onto (symbol p.state (token_at p.start.now)) (rows_from p.state (tokens p.after.now)))
   unfolding rows_from
   rows_on = rw (tokens-on h, to-next h)
 
   -- the row goes on
-  pub continues-next : (n ≡ 3 → ⊥) → {t : List ℕ} → t ≡ unblank p → Continues q₀ s n t
-  continues-next u {t} on =
-      let k = rest-tokens h past on in
-      let a : rows_from q (tokens r) ≡ onto (symbol n (token_at r)) (rows_from n (tokens t)) = rows_on ∙ rw (ne_eqb n 3 u, k) in
-      let b : row_from q (tokens r) ≡ symbol n (token_at r) ∷ row_from n (tokens t) = row_on h ∙ rw (ne_eqb n 3 u, k) in
+  pub continues-next : (p.state ≡ 3 → ⊥) → Continues q₀ s p.state p.after.now
+  continues-next u =
+      let a : rows_from q (tokens r) ≡ onto (symbol p.state (token_at p.start.now)) (rows_from p.state (tokens p.after.now)) = rows_on ∙ rw (ne_eqb p.state 3 u) in
+      let b : row_from q (tokens r) ≡ symbol p.state (token_at p.start.now) ∷ row_from p.state (tokens p.after.now) = row_on h ∙ rw (ne_eqb p.state 3 u) in
       record {
-        none = λ e. c.none (a ∙ ap (onto (symbol n (token_at r))) e);
-        more = λ rs e. c.more rs (a ∙ ap (onto (symbol n (token_at r))) e ∙ ap (λ (x : List Symbol). x ∷ rs) (sym b));
+        none = λ e. c.none (a ∙ ap (onto (symbol p.state (token_at p.start.now))) e);
+        more = λ rs e. c.more rs (a ∙ ap (onto (symbol p.state (token_at p.start.now))) e ∙ ap (λ (x : List Symbol). x ∷ rs) (sym b));
       }
 
   -- the row ends behind the token
-  pub row_ends : n ≡ 3 → Behind s r → RowEnd q₀ s p
+  pub row_ends : p.state ≡ 3 → Behind s r → RowEnd q₀ s p.after.now
   row_ends t g =
-      let b = behind-is s r g in
-      let d = behind-is s p (behind-drop s r p f.size g past) in
-      let l : length p ≡ length r - f.size = ap (λ (x : List ℕ). length x) past ∙ length-drop f.size r in
-      let some = h.some in
-      let m = size-least r some in
-      let z = h.is.size_is in
-      let v = b.0 in
-      let e : row_from q (tokens r) ≡ symbol n (token_at r) ∷ [] = row_on h ∙ rw (eq-eqb n 3 t) in
-      let a : rows_from q (tokens r) ≡ (symbol n (token_at r) ∷ []) ∷ rows_from 3 (tokens p) = rows_on ∙ rw (eq-eqb n 3 t, t, past) in
+      let b = (behind-is s r g).0 in
+      let d = behind-is s p.after.now (behind-after h g) in
+      let l = rest-shorter h in
+      let e : row_from q (tokens r) ≡ symbol p.state (token_at p.start.now) ∷ [] = row_on h ∙ rw (eq-eqb p.state 3 t) in
+      let a : rows_from q (tokens r) ≡ (symbol p.state (token_at p.start.now) ∷ []) ∷ rows_from 3 (tokens p.after.now) = rows_on ∙ rw (eq-eqb p.state 3 t, t) in
       record {
         shorter = omega arith;
         is_end = d.1;
-        one_more = c.more (rows_from 3 (tokens p)) (a ∙ rw e);
+        one_more = c.more (rows_from 3 (tokens p.after.now)) (a ∙ rw e);
       }
 
-  pub ends-some : n ≡ 3 → Behind s r → (b : Bor (List ℕ)) → b.now ≡ p → RowEnds q₀ s (Some b)
+  pub ends-some : p.state ≡ 3 → Behind s r → (b : Bor (List ℕ)) → b.now ≡ p.after.now → RowEnds q₀ s (Some b)
   ends-some t g b i =
       record {
         none_left = λ e. cc;
@@ -122,10 +122,10 @@ module _ {q₀ : ℕ} {s r : List ℕ} {f : Front} {q n : ℕ} (h : Step r f q n
       }
 
 -- no row ends
-pub ends-none : (q₀ : ℕ) (s r : List ℕ) (q : ℕ) → Continues q₀ s q r → length r ≤ 0 → RowEnds q₀ s None
+pub ends-none : (q₀ : ℕ) (s r : List ℕ) (q : ℕ) → Continues q₀ s q r → unblank r ≡ [] → RowEnds q₀ s None
 unfolding rows_from
 ends-none q₀ s r q c h =
     record {
-      none_left = λ y. c.none (rw (tokens-end r h));
+      none_left = λ y. c.none (rw (tokens-none r q h));
       ends = λ t e. cc;
     }

@@ -11,15 +11,16 @@ use Rattle.laws.proofs.ConnectiveLaws.{known}
 use Rattle.texts.specs.Token.{Token, class_of, token_at, tokens}
 use Rattle.texts.specs.Table.{Symbol, row_from, symbol, word_if}
 use Rattle.text_rows.specs.declared.Noted.{Noted}
-use Rattle.text_rows.specs.declared.tokens.Front.{Front}
+use Rattle.text_rows.specs.declared.Passed.{Passed}
 use Rattle.text_rows.specs.Front.{unblank}
 use Rattle.text_rows.specs.Noted.{is_word_class, noted, unpassed}
+use Rattle.text_rows.specs.Passes.{Passed_at}
 use Rattle.text_rows.specs.RowAt.{row_at}
 use Rattle.text_rows.specs.Scan.{Scans}
 use Rattle.text_rows.proofs.BoundLaws.{count-bound}
-use Rattle.text_rows.proofs.EndLaws.{Behind, Continues, behind-is}
+use Rattle.text_rows.proofs.EndLaws.{Behind, Continues, behind-is, behind-start}
 use Rattle.text_rows.proofs.EntryLaws.{Entry, Stands, entry-begin, entry-class, entry-count, entry_other, entry-own, entry-word}
-use Rattle.text_rows.proofs.RowLaws.{Step, rest-tokens, row-begin, row-none, row_on}
+use Rattle.text_rows.proofs.RowLaws.{row-none, row_on}
 use Rattle.text_rows.proofs.TokenLaws.{word-passed, word-taken}
 
 -- what is known of each state, with the symbols that are left
@@ -34,11 +35,12 @@ get_or-unpassed zero x = refl
 get_or-unpassed (suc n) zero = refl
 get_or-unpassed (suc n) (suc x) = get_or-unpassed n x
 
-pub scanned-begin : (s t : List ℕ) → t ≡ unblank s → ScannedTo s (replicate 47 unpassed) (row_from 3 (tokens t))
-scanned-begin s t e =
+pub scanned-begin : (s : List ℕ) → ScannedTo s (replicate 47 unpassed) (row_from 3 (tokens s))
+unfolding row_at
+scanned-begin s =
     record {
       long = refl;
-      entry = λ x h. rw (get_or-unpassed 47 x, row-begin s t e) (entry-begin s (row_from 3 (tokens t)) x);
+      entry = λ x h. rw (get_or-unpassed 47 x) (entry-begin s (row_from 3 (tokens s)) x);
     }
 
 -- ---- all tokens are passed
@@ -53,7 +55,7 @@ scanned-all c =
       word-is = λ x h. entry-word (c.entry x h);
     }
 
-pub scanned-end : {s : List ℕ} {states : List Noted} (r : List ℕ) (q : ℕ) → length r ≤ 0 → ScannedTo s states (row_from q (tokens r)) → Scans s states
+pub scanned-end : {s : List ℕ} {states : List Noted} (r : List ℕ) (q : ℕ) → unblank r ≡ [] → ScannedTo s states (row_from q (tokens r)) → Scans s states
 scanned-end {s} {states} r q none c = scanned-all (subst (ScannedTo s states) (row-none r q none) c)
 
 -- ---- a token is passed
@@ -88,41 +90,40 @@ module _ {s : List ℕ} {states : List Noted} {left : List Symbol} {t : Token} {
   scanned-count = let a = (entry-own (eq-eqb q q refl) stands (c.entry q low)).count-is in omega (arith, count-bound q q q s)
 
 -- as the code has it
-module _ {s : List ℕ} {states : List Noted} {r : List ℕ} {f : Front} {q n : ℕ} (h : Step r f q n) (low : n ≤ 46) (behind : Behind s r)
+module _ {s : List ℕ} {states : List Noted} {r : List ℕ} {q : ℕ} {p : Passed} (h : Passed_at r q p) (behind : Behind s r)
     (c : ScannedTo s states (row_from q (tokens r))) where
   -- the token is a word, and which one
-  front-word : (ws : List (List ℕ)) → word_if true (token_at r) ws ≡ cond (is_word_class f.class) (take f.size (drop (length s - length r) s) ∷ ws) ws
+  front-word : (ws : List (List ℕ)) → word_if true (token_at p.start.now) ws ≡ cond (is_word_class p.front.class) (take p.front.size (drop (length s - length p.start.now) s) ∷ ws) ws
   unfolding both
-  front-word ws = go (is_word_class f.class) (ap is_word_class h.is.class-is)
+  front-word ws = go (is_word_class p.front.class) (ap is_word_class h.tells.class-is)
     where
-      go : (b : Bool) → b ≡ is_word_class (class_of (token_at r)) → word_if true (token_at r) ws ≡ cond b (take f.size (drop (length s - length r) s) ∷ ws) ws
-      go true e = word-taken true r ws (sym e) ∙ rw (h.is.size_is, sym (behind-is s r behind).1)
-      go false e = word-passed true r ws (sym e)
+      go : (b : Bool) → b ≡ is_word_class (class_of (token_at p.start.now)) → word_if true (token_at p.start.now) ws ≡ cond b (take p.front.size (drop (length s - length p.start.now) s) ∷ ws) ws
+      go true e = word-taken true p.start.now ws (sym e) ∙ rw (h.tells.size_is, sym (behind-is s p.start.now (behind-start h behind)).1)
+      go false e = word-passed true p.start.now ws (sym e)
 
-  stands : Stands s (token_at r) f.class (length s - length r) f.size
-  stands = record { class-is = h.is.class-is; class-small = h.is.class-small; word-is = front-word }
+  stands : Stands s (token_at p.start.now) p.front.class (length s - length p.start.now) p.front.size
+  stands = record { class-is = h.tells.class-is; class-small = h.tells.class-small; word-is = front-word }
 
-  here : ScannedTo s states (symbol n (token_at r) ∷ cond (eqb n 3) [] (row_from n (tokens (drop f.size r))))
+  here : ScannedTo s states (symbol p.state (token_at p.start.now) ∷ cond (eqb p.state 3) [] (row_from p.state (tokens p.after.now)))
   here = subst (ScannedTo s states) (row_on h) c
 
-  pub scanned-room : (get_or states n unpassed).count + one (is_word_class f.class) ≤ length s
-  scanned-room = scanned-count low here stands
+  pub scanned-room : (get_or states p.state unpassed).count + one (is_word_class p.front.class) ≤ length s
+  scanned-room = scanned-count h.state-small here stands
 
-  module _ {states' : List Noted} (is : states' ≡ set states n (noted (get_or states n unpassed) f.class (length s - length r) f.size)) where
-    behind-it : ScannedTo s states' (cond (eqb n 3) [] (row_from n (tokens (drop f.size r))))
-    behind-it = rw is (scanned-on low here stands)
+  module _ {states' : List Noted} (is : states' ≡ set states p.state (noted (get_or states p.state unpassed) p.front.class (length s - length p.start.now) p.front.size)) where
+    behind-it : ScannedTo s states' (cond (eqb p.state 3) [] (row_from p.state (tokens p.after.now)))
+    behind-it = rw is (scanned-on h.state-small here stands)
 
-    pub scanned-stop : n ≡ 3 → Scans s states'
-    scanned-stop t = scanned-all (subst (ScannedTo s states') (rw (eq-eqb n 3 t)) behind-it)
+    pub scanned-stop : p.state ≡ 3 → Scans s states'
+    scanned-stop t = scanned-all (subst (ScannedTo s states') (rw (eq-eqb p.state 3 t)) behind-it)
 
-    pub scanned-next : (n ≡ 3 → ⊥) → {p t : List ℕ} → p ≡ drop f.size r → t ≡ unblank p → ScannedTo s states' (row_from n (tokens t))
-    scanned-next u past on = subst (ScannedTo s states') (rw (ne_eqb n 3 u) (ap (row_from n) (rest-tokens h past on))) behind-it
+    pub scanned-next : (p.state ≡ 3 → ⊥) → ScannedTo s states' (row_from p.state (tokens p.after.now))
+    scanned-next u = subst (ScannedTo s states') (rw (ne_eqb p.state 3 u)) behind-it
 
 -- ---- the loop
 
 -- what it keeps, in state q with r unread
 pub record Walks (s r : List ℕ) (q : ℕ) (states : List Noted) : Type 0 where
-  pub bare : unblank r ≡ r
   pub low : q ≤ 46
   pub behind : Behind s r
   pub continues : Continues 3 s q r

@@ -1,4 +1,5 @@
 pub mod Front
+pub mod Passes
 pub mod RowAt
 pub mod Noted
 pub mod Scan

@@ -9,9 +9,12 @@ ghost use Rattle.texts.specs.Table.{accepts, class_for, has_long_from, passes, w
 ghost use Rattle.text_rows.specs.RowAt.{RowEnds, row_at};
 ghost use Rattle.text_rows.specs.Scan.{Scans};
 ghost use Rattle.text_rows.specs.Noted.{is_word_class, noted, word_or};
+ghost use Rattle.text_rows.specs.Passes.{Passes};
 
 mod table; // table.rt: the state that a token leads to
 mod tokens; // tokens.rt: the word or mark at the front
+
+use tokens::Front;
 
 // ---- words
 
@@ -32,46 +35,64 @@ pub fn word_of(s: &[u8], word: Option<Word>) -> &[u8]
     }
 }
 
-// ---- the whole text
+// ---- a walk over the tokens
+
+// A token: what stands from its first byte on, its class and size, the state that it leads to, and what stands behind it.
+#[derive(Clone, Copy)]
+pub(crate) struct Passed<'a> {
+    start: &'a [u8],
+    front: Front,
+    state: u8,
+    after: &'a [u8],
+}
+
+// The token that comes next in the state q, behind the blanks at the front, if there is one.
+fn next_token(s: &[u8], q: u8) -> Option<Passed<'_>>
+    requires { q ≤ 46 }
+    ensures { Passes s.now q result }
+{
+    let start = tokens::unblanked(s);
+    if start.is_empty() {
+        return None;
+    }
+    let front = tokens::token_at(start);
+    Some(Passed {
+        start,
+        front,
+        state: table::next_state(q, front.class),
+        after: laws::past(start, front.size),
+    })
+}
 
 // The table accepts the text, and no name has more than 16 bytes.
 pub fn is_accepted(text: &[u8]) -> bool
     ensures { result ≡ both (accepts 0 (tokens text.now)) (not (has_long_from 0 (tokens text.now))) }
 {
-    let mut rest = tokens::unblanked(text);
+    let mut rest = text;
     let mut q: u8 = 0;
-    while 0 < rest.len() {
-        let f = tokens::token_at(rest);
-        let n = table::next_state(q, f.class);
-        if table::is_name_state(n) & (16 < f.size) {
+    while let Some(token) = next_token(rest, q) {
+        if table::is_name_state(token.state) & (16 < token.front.size) {
             return false;
         }
-        let after = tokens::unblanked(laws::past(rest, f.size));
-        rest = after;
-        q = n;
+        rest = token.after;
+        q = token.state;
     }
     q == 45
 }
-
-// ---- one row
 
 // What stands behind the row from state q: behind the token that leads to state 3, if one does.
 pub fn row_end(s: &[u8], q: u8) -> Option<&[u8]>
     requires { q ≤ 46 }
     ensures { RowEnds q s.now result }
 {
-    let mut rest = tokens::unblanked(s);
+    let mut rest = s;
     let mut state = q;
-    while 0 < rest.len() {
-        let f = tokens::token_at(rest);
-        let n = table::next_state(state, f.class);
-        let after = laws::past(rest, f.size);
-        if n == 3 {
-            return Some(after);
+    while let Some(token) = next_token(rest, state) {
+        if token.state == 3 {
+            return Some(token.after);
         }
-        let next = tokens::unblanked(after);
-        rest = next;
-        state = n;
+        rest = token.after;
+        state = token.state;
     }
     None
 }
@@ -93,13 +114,20 @@ const UNPASSED: Noted = Noted {
     first: None,
 };
 
+// A token of that class is a word.
+fn is_word_class(class: u8) -> bool
+    ensures { result ≡ is_word_class class }
+{
+    (16 <= class) & (class <= 27)
+}
+
 impl Noted {
     // With one more token of that class, at that byte and of so many bytes.
     fn with_token(self, class: u8, at: usize, size: usize) -> Noted
         requires { self.count + one (is_word_class class) ≤ 0xFFFFFFFFFFFFFFFF }
         ensures { result ≡ noted self class at size }
     {
-        let word = (16 <= class) & (class <= 27);
+        let word = is_word_class(class);
         Noted {
             class: self.class.or(Some(class)),
             count: self.count + usize::from(word),
@@ -123,26 +151,21 @@ pub fn scan_row<'a>(s: &'a [u8]) -> Scanned<'a>
     ensures { result.rest.now ≡ s.now }
 {
     let mut states = [UNPASSED; 47];
-    let mut rest = tokens::unblanked(s);
+    let mut rest = s;
     let mut state: u8 = 3;
-    while 0 < rest.len() {
-        let f = tokens::token_at(rest);
-        let n = table::next_state(state, f.class);
-        let at = s.len() - rest.len();
-        let k = usize::from(n);
-        let known = states[k];
-        states[k] = known.with_token(f.class, at, f.size);
-        let after = laws::past(rest, f.size);
-        if n == 3 {
+    while let Some(token) = next_token(rest, state) {
+        let at = s.len() - token.start.len();
+        let k = usize::from(token.state);
+        states[k] = states[k].with_token(token.front.class, at, token.front.size);
+        if token.state == 3 {
             return Scanned {
                 rest: s,
                 states,
-                after: Some(after),
+                after: Some(token.after),
             };
         }
-        let next = tokens::unblanked(after);
-        rest = next;
-        state = n;
+        rest = token.after;
+        state = token.state;
     }
     Scanned {
         rest: s,
@@ -199,34 +222,30 @@ impl<'a> Scanned<'a> {
 fn is_wanted(q: u8, class: u8, a: u8, b: u8, c: u8) -> bool
     ensures { result ≡ both (either (eqb q a) (either (eqb q b) (eqb q c))) (is_word_class class) }
 {
-    ((q == a) | ((q == b) | (q == c))) & ((16 <= class) & (class <= 27))
+    ((q == a) | ((q == b) | (q == c))) & is_word_class(class)
 }
 
 // Where word i of those that lead to one of three states stands, if there is one.
 pub fn word_at(s: &[u8], a: u8, b: u8, c: u8, i: usize) -> Option<Word>
     ensures { word_or s.now result [] ≡ get_or (words_for a b c (row_at s.now)) i [] }
 {
-    let mut rest = tokens::unblanked(s);
+    let mut rest = s;
     let mut state: u8 = 3;
     let mut left = i;
-    while 0 < rest.len() {
-        let f = tokens::token_at(rest);
-        let n = table::next_state(state, f.class);
-        let wanted = is_wanted(n, f.class, a, b, c);
+    while let Some(token) = next_token(rest, state) {
+        let wanted = is_wanted(token.state, token.front.class, a, b, c);
         if wanted & (left == 0) {
-            let start = s.len() - rest.len();
             return Some(Word {
-                start,
-                size: f.size,
+                start: s.len() - token.start.len(),
+                size: token.front.size,
             });
         }
         left = left.saturating_sub(usize::from(wanted));
-        if n == 3 {
+        if token.state == 3 {
             return None;
         }
-        let after = tokens::unblanked(laws::past(rest, f.size));
-        rest = after;
-        state = n;
+        rest = token.after;
+        state = token.state;
     }
     None
 }

@@ -22,7 +22,7 @@ fn by_byte(s: &[u8], i: usize, b: u8, yes: Option<u8>, no: Option<u8>) -> Option
 fn is_blank(b: u8) -> bool
     ensures { result ≡ is_blank b }
 {
-    (b == 0x20) | ((b == 0x09) | ((b == 0x0A) | (b == 0x0D)))
+    (b == b' ') | ((b == b'\t') | ((b == b'\n') | (b == b'\r')))
 }
 
 // What follows the blanks at the front.
@@ -37,10 +37,7 @@ pub(crate) fn unblanked(s: &[u8]) -> &[u8]
 fn is_name_byte(b: u8) -> bool
     ensures { result ≡ name_byte b }
 {
-    if ((65 <= b) & (b <= 90)) | ((97 <= b) & (b <= 122)) {
-        return true;
-    }
-    fields::name_byte(b)
+    b.is_ascii_alphabetic() || fields::name_byte(b)
 }
 
 // The length of the longest run of name bytes at the front.
@@ -92,12 +89,7 @@ fn is_word(k: u8, w: &[u8]) -> bool
 fn is_integer(w: &[u8]) -> bool
     ensures { result ≡ is_integer w.now }
 {
-    for b in w {
-        if !b.is_ascii_digit() {
-            return false;
-        }
-    }
-    true
+    w.iter().all(|b| b.is_ascii_digit())
 }
 
 // The class of w, if it is a known word.
@@ -154,13 +146,11 @@ fn mark_size(i: u8) -> usize
     requires { i < 16 }
     ensures { result ≡ length (get_or marks i []) }
 {
-    if i < 1 {
-        return 3;
+    match i {
+        0 => 3,
+        1..=6 => 2,
+        _ => 1,
     }
-    if i < 7 {
-        return 2;
-    }
-    1
 }
 
 // The token at the front, where no blank stands there.

@@ -13,7 +13,7 @@ use Rattle.field_writers.specs.Put.{Put, head}
 use Rattle.texts.specs.Declaration.{Declaration}
 use Rattle.texts.specs.Declared.{declared}
 use Rattle.texts.proofs.TextSizeLaws.{text-size}
-use Rattle.name_lists.specs.declared.Names.{Names}
+use Rattle.name_lists.specs.declared.list.Names.{Names}
 use Rattle.name_lists.specs.Names.{names_in}
 use Rattle.name_lists.proofs.NamesLaws.{names-length}
 use Rattle.text_checks.specs.ValueNames.{value_names}

@@ -9,7 +9,7 @@ use Rattle.files.specs.DiagramBytes.{value_type_bytes}
 use Rattle.files.specs.Field.{field}
 use Rattle.files.specs.Name.{Name}
 use Rattle.fields.specs.Slot.{slot_name}
-use Rattle.name_lists.specs.declared.Names.{Names}
+use Rattle.name_lists.specs.declared.list.Names.{Names}
 use Rattle.name_lists.specs.Names.{names_in}
 use Rattle.name_lists.proofs.NamesLaws.{names_at}
 use Rattle.text_fields.specs.Fields.{plain_of}

@@ -17,7 +17,7 @@ ghost use Rattle.name_lists.specs.Names.{names_in};
 ghost use Rattle.text_writing.specs.Pieces.{Writable, WritableBody, association_piece, attributes_and_associations_part, attributes_piece, declared_part, enumeration_piece, plain_piece, type_piece, types_to_associations_part, value_types_part};
 
 use name_lists::Names;
-use text_outlines::Outline;
+use text_outlines::{CompleteOutline, Outline};
 use text_parts::Kind;
 
 // The outline of a body whose diagram has a file, and the names of its types and value types.
@@ -27,9 +27,7 @@ struct Named<'a> {
     types: Names,
     values: Names,
     ghost writable: { WritableBody outline.now.body.now outline.now.count },
-    ghost types_few: { types.count ≤ 24 },
     ghost types_named: { names_in types ≡ names_of_kind is_type (declarations_by outline.now.body.now) },
-    ghost values_few: { values.count ≤ 24 },
     ghost values_named: { names_in values ≡ value_names (declarations_by outline.now.body.now) },
 }
 
@@ -37,7 +35,7 @@ struct Named<'a> {
 
 // The field of the plain value type with name i.
 fn put_plain_at(out: &mut [u8], values: &Names, i: usize) -> usize
-    requires { (values.now.count ≤ 24) × ((i < values.now.count) × (160 ≤ length out.old)) }
+    requires { (i < values.now.count) × (160 ≤ length out.old) }
     ensures { Put (field 0x20 (value_type_bytes (plain_of (get_or (names_in values.now) i [])))) out.old result out.new }
 {
     let names = values.names;
@@ -46,7 +44,7 @@ fn put_plain_at(out: &mut [u8], values: &Names, i: usize) -> usize
 
 // The value types from number e on.
 fn put_plain_types(out: &mut [u8], values: &Names, e: usize) -> usize
-    requires { (values.now.count ≤ 24) × ((e ≤ values.now.count) × (length (joined (plain_piece (names_in values.now) e) (values.now.count - e)) + 160 ≤ length out.old)) }
+    requires { (e ≤ values.now.count) × (length (joined (plain_piece (names_in values.now) e) (values.now.count - e)) + 160 ≤ length out.old) }
     ensures { Put (joined (plain_piece (names_in values.now) e) (values.now.count - e)) out.old result out.new }
 {
     let end = values.count - e;
@@ -74,8 +72,7 @@ impl Named<'_> {
         ensures { Put (enumeration_piece (declarations_by self.now.outline.now.body.now) k) out.old result out.new }
     {
         if self.outline.is_kind(k, Kind::Enumerations) {
-            let row = self.outline.row(k);
-            return text_fields::put_enumeration(out, &row);
+            return text_fields::put_enumeration(out, self.outline.declaration(k));
         }
         0
     }
@@ -86,8 +83,7 @@ impl Named<'_> {
         ensures { Put (type_piece (declarations_by self.now.outline.now.body.now) k) out.old result out.new }
     {
         if self.outline.is_kind(k, Kind::Types) {
-            let row = self.outline.row(k);
-            return text_fields::put_type(out, &row, self.types, own);
+            return text_fields::put_type(out, self.outline.declaration(k), self.types, own);
         }
         0
     }
@@ -98,8 +94,7 @@ impl Named<'_> {
         ensures { Put (attributes_piece (declarations_by self.now.outline.now.body.now) k) out.old result out.new }
     {
         if 0 < self.outline.attribute_count(k) {
-            let row = self.outline.row(k);
-            return text_fields::put_attributes(out, &row, self.values, own);
+            return text_fields::put_attributes(out, self.outline.declaration(k), self.values, own);
         }
         0
     }
@@ -110,8 +105,7 @@ impl Named<'_> {
         ensures { Put (association_piece (declarations_by self.now.outline.now.body.now) k) out.old result out.new }
     {
         if self.outline.is_kind(k, Kind::Associations) {
-            let row = self.outline.row(k);
-            return text_fields::put_association(out, &row, self.types);
+            return text_fields::put_association(out, self.outline.declaration(k), self.types);
         }
         0
     }
@@ -134,7 +128,10 @@ impl Named<'_> {
         requires { length (value_types_part (declarations_by self.now.outline.now.body.now)) + 160 ≤ length out.old }
         ensures { Put (value_types_part (declarations_by self.now.outline.now.body.now)) out.old result out.new }
     {
-        let count = text_checks::kind_count(self.outline, Kind::Enumerations);
+        let complete = CompleteOutline {
+            outline: self.outline,
+        };
+        let count = text_checks::kind_count(&complete, Kind::Enumerations);
         let a = self.put_enumerations(out);
         a + put_plain_types(&mut out[a..], &self.values, count)
     }
@@ -204,13 +201,13 @@ impl Named<'_> {
 }
 
 // The whole file.
-pub fn put_diagram<'a>(out: &mut [u8], o: &'a Outline<'a>, types: Names, values: Names) -> usize
-    requires { Writable (declarations_by o.now.body.now) × ((o.now.count ≤ 52) × ((types.count ≤ 24) × ((names_in types ≡ names_of_kind is_type (declarations_by o.now.body.now)) × ((values.count ≤ 24) × ((names_in values ≡ value_names (declarations_by o.now.body.now)) × (4096 ≤ length out.old)))))) }
-    ensures { (result ≤ 3936) × Put (write_diagram (declared (declarations_by o.now.body.now))) out.old result out.new }
+pub fn put_diagram(out: &mut [u8], o: &CompleteOutline, types: Names, values: Names) -> usize
+    requires { Writable (declarations_by o.now.outline.now.body.now) × ((names_in types ≡ names_of_kind is_type (declarations_by o.now.outline.now.body.now)) × ((names_in values ≡ value_names (declarations_by o.now.outline.now.body.now)) × (4096 ≤ length out.old))) }
+    ensures { (result ≤ 3936) × Put (write_diagram (declared (declarations_by o.now.outline.now.body.now))) out.old result out.new }
 {
     field_writers::put_head(out, 0x10, 1, 1);
     let named = Named {
-        outline: o,
+        outline: o.outline,
         types,
         values,
     };

@@ -2,7 +2,7 @@
 -- the functions that make it, one law for each.
 -- Assumes nothing.
 use Prim.Native.Nat.{◌%◌, ◌*◌, ◌+◌, ◌/◌, ◌<◌, ◌≤◌, suc, zero, ℕ}
-use native.Mathlib.Nat.{le_antisymm, le_of_suc-le, le_refl}
+use native.Mathlib.Nat.{le_of_suc-le, le_refl}
 use native.Mathlib.Numerals.{add-one}
 use native.Mathlib.Omega.{arith}
 use mathlib.Core.Bool.{Bool, cond, false, true}
@@ -39,10 +39,6 @@ pub joined-apart : {e : ℕ} (v : ℕ) → e ≢ 0 → e ≢ 1 + v → 255 ≡ j
 unfolding joined
 joined-apart {e} v n q = sym (ap₂ (λ (a b : Bool). cond a (1 + v) (cond b e 255)) (ne_eqb e 0 n) (ne_eqb e (1 + v) q))
 
--- a read at an index that is known, below a bound
-pub read_small : (l : List ℕ) (i n : ℕ) {w b : ℕ} → w ≡ i → b ≡ get_or l w 0 → get_or l i 0 < n → b < n
-read_small l i n e q h = subst (λ (k : ℕ). k < n) (sym (q ∙ ap (λ (k : ℕ). get_or l k 0) e)) h
-
 module _ (set : ℕ) (owners types slots : List ℕ) (s : ℕ) where
   pub more-declared : (a e : ℕ) {b : Bool} {w v x : ℕ} → b ≡ declares_in set owners slots s a → b ≡ true → w ≡ a → v ≡ get_or types w 0 → x ≡ joined e v
       → x ≡ due_more set owners types slots s a e
@@ -61,9 +57,6 @@ module _ (set : ℕ) (owners types slots : List ℕ) (s : ℕ) where
   pub due-next : (a : ℕ) {e x : ℕ} → e ≡ due_in set owners types slots s a → x ≡ due_more set owners types slots s a e → x ≡ due_in set owners types slots s (a + 1)
   unfolding due_in
   due-next a q x = x ∙ ap (due_more set owners types slots s a) q ∙ ap (due_in set owners types slots s) (sym (add-one a))
-
-  pub due-done : (n a : ℕ) {e : ℕ} → a ≤ n → n ≤ a → e ≡ due_in set owners types slots s a → e ≡ due_in set owners types slots s n
-  due-done n a h l e = e ∙ ap (due_in set owners types slots s) (le_antisymm h l)
 
 -- ---- the diagram's
 

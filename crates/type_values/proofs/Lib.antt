@@ -12,3 +12,4 @@ pub mod ChosenLaws
 pub mod FilledLaws
 pub mod BreaksLaws
 pub mod FilledInLaws
+pub mod FromFnLaws

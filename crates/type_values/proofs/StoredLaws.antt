@@ -16,7 +16,7 @@ use Rattle.laws.proofs.ConnectiveLaws.{both_left, both_of, both_right, known, sa
 use Rattle.laws.proofs.FirstLaws.{first-ext}
 use Rattle.laws.proofs.JoinedLaws.{get_or-each, length-each}
 use Rattle.laws.proofs.SearchLaws.{both-no, both_yes}
-use Rattle.fields.specs.Slot.{slot_name}
+use Rattle.fields.specs.Slot.{slot_name, slot_of, constant_name}
 use Rattle.files.specs.Diagram.{ValueType, attribute_at, type_at, value_type_at}
 use Rattle.files.specs.Name.{Name, same_name}
 use Rattle.files.proofs.NameLaws.{key-same}
@@ -25,14 +25,13 @@ use Rattle.diagrams.specs.Held.{Held}
 use Rattle.diagrams.specs.View.{diagram_of, value_type_in}
 use Rattle.diagrams.proofs.ViewLaws.{attribute-count, type-count, value-type-at, value-type-count}
 use Rattle.diagrams.proofs.NamedLaws.{attribute-named, type-named, value-type-named}
-use Rattle.resolving.specs.Lookup.{slot_of}
 use Rattle.resolving.proofs.LookupLaws.{attribute-slot, type-index}
 use Rattle.records.specs.Written.{constant_known}
 use Rattle.rules.specs.ValueRules.{belongs}
 use Rattle.type_values.specs.Bad.{coded_value}
 use Rattle.type_values.specs.Lacking.{first_lacking, lacking, same_type, shared}
 use Rattle.type_values.specs.Tables.{AttributePlaces, Lackings, SameTypes, TypePlaces}
-use Rattle.type_values.specs.Numbers.{constant_in, constant_name, known_in, lacking_in, shared_in}
+use Rattle.type_values.specs.Numbers.{constant_in, known_in, lacking_in, shared_in}
 use Rattle.type_values.proofs.SharedLaws.{belongs-shared, coded-same, same-name}
 
 module _ (d : StoredDiagram) where

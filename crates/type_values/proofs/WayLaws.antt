@@ -3,28 +3,19 @@
 use Prim.Native.Nat.{◌%◌, ◌*◌, ◌+◌, ◌-◌, ◌/◌, ◌<◌, ◌≤◌, ℕ}
 use native.Mathlib.Omega.{arith}
 use mathlib.Core.Bool.{Bool, ◌&&◌, ◌||◌, cond, false, not, true}
-use mathlib.Core.List.{List, []}
+use mathlib.Core.List.{List}
 use mathlib.Core.Logic.{◌≢◌}
 use mathlib.Core.Path.{◌∙◌, ◌≡◌, ap, ap₂, refl, sym}
 use lib.Dec.{eqb, ltb}
-use lib.ListN.{get_or, length, take}
+use lib.ListN.{get_or, length}
 use borrow.Author.Tests.{le-ltb, lt-ltb, ne_eqb}
 use Rattle.laws.specs.Bounded.{all}
 use Rattle.laws.specs.Connective.{both, either}
 use Rattle.laws.proofs.ConnectiveLaws.{both_of, and-is-both, or-is-either}
 use Rattle.laws.proofs.SearchLaws.{both-no, both-right-no, both_yes}
-use Rattle.fields.specs.Slot.{slot_name}
+use Rattle.fields.specs.Slot.{constant_name}
 use Rattle.files.specs.Name.{Name}
-use Rattle.type_values.specs.Numbers.{chosen_in, constant_in, constant_name, due_by, good_in, kept_in, known_in, lacking_in, shared_in, slot_asked_in, slot_kept_in, value_at_in}
-
-module _ (constants : List ℕ) (size k : ℕ) where
-  pub constant-some : {w : Name} → w ≡ slot_name constants k → k % 8 < size → w ≡ constant_name constants size k
-  unfolding constant_name
-  constant-some e l = e ∙ sym (ap (λ (b : Bool). cond b (slot_name constants k) []) (lt-ltb (k % 8) size l))
-
-  pub constant-none : {w : Name} → w ≡ take 0 constants → size ≤ k % 8 → w ≡ constant_name constants size k
-  unfolding constant_name
-  constant-none e l = e ∙ sym (ap (λ (b : Bool). cond b (slot_name constants k) []) (le-ltb (k % 8) size l))
+use Rattle.type_values.specs.Numbers.{chosen_in, constant_in, due_by, good_in, kept_in, known_in, lacking_in, shared_in, slot_asked_in, slot_kept_in, value_at_in}
 
 module _ (sizes constants : List ℕ) (n v : ℕ) (w : Name) where
   pub shared-past : n ≤ v → false ≡ shared_in sizes constants n v w

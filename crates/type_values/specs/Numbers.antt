@@ -1,9 +1,9 @@
 -- The same by numbers of the arrays, before anything is said of a diagram.
 -- Assumes nothing.
-use Rattle.std.specs.Prelude.{◌%◌, ◌*◌, ◌+◌, ◌-◌, ◌/◌, ℕ, Bool, cond, not, true, List, [], eqb, ltb, get_or, length}
+use Rattle.std.specs.Prelude.{◌%◌, ◌*◌, ◌+◌, ◌-◌, ◌/◌, ℕ, Bool, cond, not, true, List, eqb, ltb, get_or, length}
 use Rattle.laws.specs.Bounded.{all, any}
 use Rattle.laws.specs.Connective.{both, either}
-use Rattle.fields.specs.Slot.{slot_name}
+use Rattle.fields.specs.Slot.{slot_name, constant_name}
 use Rattle.files.specs.Name.{Name, same_name}
 
 -- ---- constants
@@ -20,10 +20,6 @@ shared_in sizes constants n v w =
 -- of `size` constants, c is one, or it is the unnamed value
 unfoldable pub known_in : ℕ → ℕ → Bool
 known_in size c = either (ltb c size) (both (eqb size 0) (eqb c 0))
-
--- the name of constant k % 8 of value type k / 8, which has `size`
-unfoldable pub constant_name : List ℕ → ℕ → ℕ → Name
-constant_name constants size k = cond (ltb (k % 8) size) (slot_name constants k) []
 
 -- constant c of value type v does not belong to value type j of the others
 unfoldable pub lacking_in : List ℕ → ℕ → List ℕ → List ℕ → ℕ → ℕ → ℕ → ℕ → Bool

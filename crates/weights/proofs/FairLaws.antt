@@ -8,9 +8,10 @@ use native.Mathlib.Omega.{arith}
 use mathlib.Core.Bool.{Bool, ◌&&◌, cond, false, true}
 use mathlib.Core.List.{List}
 use mathlib.Core.Path.{◌∙◌, ◌≡◌, ap, refl, subst, sym}
-use lib.Dec.{eqb}
+use Rattle.std.specs.Bool.{then_some}
+use lib.Dec.{eqb, ltb}
 use lib.ListN.{get_or}
-use borrow.Author.Tests.{eqb-true}
+use borrow.Author.Tests.{eqb-true, ltb-true}
 use Rattle.laws.specs.Bits.{bit}
 use Rattle.laws.specs.Bounded.{tally}
 use Rattle.laws.proofs.BoundedLaws.{any_at, any_of}
@@ -24,11 +25,11 @@ use Rattle.worlds.specs.Coherent.{Slotted, SourceTable}
 use Rattle.worlds.specs.Kept.{Allowed, sheet, whole_by, whole_of}
 use Rattle.weights.specs.declared.Count.TheVariants.{Flat, High, Low, Parts}
 use Rattle.weights.specs.Numbers.{in_mask, line_number, number_at, whole_low, whole_row}
-use Rattle.weights.specs.Scales.{column_least, column_most, columns_scale, mirror_scale, own_of, row_least, row_most, rows_scale, together, whole_scale}
+use Rattle.weights.specs.Scales.{column_least, column_most, columns_scale, mirror_scale, own_in, own_of, parts_scale, row_least, row_most, rows_scale, together, whole_scale}
 use Rattle.weights.specs.Sums.{sum}
 use Rattle.weights.proofs.BalanceLaws.{columns-balance, parts-balance, rows-balance}
 use Rattle.weights.proofs.NumberLaws.{in-mask, number-flat, number-high, number-low, number-parts}
-use Rattle.weights.proofs.OwnLaws.{column-least, column-most, low-asked, row-least, row-most}
+use Rattle.weights.proofs.OwnLaws.{column-least, column-most, row-least, row-most}
 use Rattle.weights.proofs.SumLaws.{sum-ext}
 
 -- the first object has a limit of its own
@@ -161,31 +162,31 @@ module _ (usable singles : ℕ) (targets lows highs sources : List ℕ) (x : Lin
   parts o = tally (λ p. whole_of x w p o) w.size
 
   -- by one line: where it counts, all links in its slot go to parts
-  line-parts : (slotted : Slotted x) (o limit j : ℕ) → o < w.size → j < 16 → limit ≤ target_count w q.row o
-      → whole_row targets lows x.wholeslot x.wholefrom x.wholeto q.row limit (w.kind o) j ≤ parts o
+  line-parts : (slotted : Slotted x) (r o limit j : ℕ) → o < w.size → j < 16 → limit ≤ target_count w r o
+      → whole_row targets lows x.wholeslot x.wholefrom x.wholeto r limit (w.kind o) j ≤ parts o
   unfolding whole_row line_number whole_of
-  line-parts slotted o limit j k l f =
+  line-parts slotted r o limit j k l f =
       let s = get_or x.wholeslot j 0 in
       let from = get_or x.wholefrom j 0 in
       let to = get_or x.wholeto j 0 in
       let target = get_or targets (w.kind o * 32 + s) 0 in
       let low = get_or lows (w.kind o * 32 + s) 0 in
-      where-least (bit (w.kind o) from && in_mask target to) (cond (eqb q.row s) (max low limit) low) (parts o) (λ e.
-      le_trans (links s low (allowed.rows.limited s o (slotted.whole j l) k).least (eqb q.row s) refl)
+      where-least (bit (w.kind o) from && in_mask target to) (cond (eqb r s) (max low limit) low) (parts o) (λ e.
+      le_trans (links s low (allowed.rows.limited s o (slotted.whole j l) k).least (eqb r s) refl)
       (tally-mono (λ p. w.link s o p) (λ p. whole_of x w p o) w.size (λ p i h.
       any_of (whole_by x w p o) 16 j l (and_both (bit (w.kind o) from) (bit (w.kind p) to && w.link s o p) (and_left (bit (w.kind o) from) (in_mask target to) e)
       (and_both (bit (w.kind p) to) (w.link s o p)
       (in-mask target to (and_right (bit (w.kind o) from) (in_mask target to) e) (w.kind p) (allowed.rows.allowed s o p (slotted.whole j l) k i h)) h)))))
     where
-      links : (s low : ℕ) → low ≤ target_count w s o → (b : Bool) → eqb q.row s ≡ b → cond b (max low limit) low ≤ target_count w s o
-      links s low m true e = max-le m (subst (λ (r : ℕ). limit ≤ target_count w r o) (eqb-true q.row s e) f)
+      links : (s low : ℕ) → low ≤ target_count w s o → (b : Bool) → eqb r s ≡ b → cond b (max low limit) low ≤ target_count w s o
+      links s low m true e = max-le m (subst (λ (z : ℕ). limit ≤ target_count w z o) (eqb-true r s e) f)
       links s low m false e = m
 
-  all-parts : (slotted : Slotted x) (o limit n : ℕ) → o < w.size → n ≤ 16 → limit ≤ target_count w q.row o
-      → whole_low targets lows x.wholeslot x.wholefrom x.wholeto q.row limit (w.kind o) n ≤ parts o
+  all-parts : (slotted : Slotted x) (r o limit n : ℕ) → o < w.size → n ≤ 16 → limit ≤ target_count w r o
+      → whole_low targets lows x.wholeslot x.wholefrom x.wholeto r limit (w.kind o) n ≤ parts o
   unfolding whole_low
-  all-parts slotted o limit zero k l f = zero-le
-  all-parts slotted o limit (suc n) k l f = max-le (all-parts slotted o limit n k (omega arith) f) (line-parts slotted o limit n k l f)
+  all-parts slotted r o limit zero k l f = zero-le
+  all-parts slotted r o limit (suc n) k l f = max-le (all-parts slotted r o limit n k (omega arith) f) (line-parts slotted r o limit n k l f)
 
   parts-of : (to : ℕ) → ((j t : ℕ) → j < 16 → bit t (get_or x.wholeto j 0) ≡ true → bit t to ≡ true) → (o p : ℕ) → whole_of x w p o ≡ true → bit (w.kind p) to ≡ true
   unfolding whole_of
@@ -199,24 +200,35 @@ module _ (usable singles : ℕ) (targets lows highs sources : List ℕ) (x : Lin
   same-limit true = refl
   same-limit false = refl
 
+  -- of wholes whose first has at least `first` targets in slot r
+  parts-at : (r first from to : ℕ) → first ≤ target_count w r 0 → Slotted x → ((j t : ℕ) → j < 16 → bit t (get_or x.wholeto j 0) ≡ true → bit t to ≡ true)
+      → let z = parts_scale r first from to in
+      together targets lows highs x z.a w ≤ together targets lows highs x z.b w
+  unfolding parts_scale
+  parts-at r first from to f slotted joined =
+      let least : ℕ → ℕ = λ o. whole_low targets lows x.wholeslot x.wholefrom x.wholeto r (cond (eqb o 0) first 0) (w.kind o) 16 in
+      sums-le
+      (λ o. number_at targets lows highs x.wholeslot x.wholefrom x.wholeto (record { count = Parts; mask = from; to = 0; slot = r; limit = 0; first = first }) o (w.kind o))
+      (λ o. cond (bit (w.kind o) from) (least o) 0)
+      (λ p. number_at targets lows highs x.wholeslot x.wholefrom x.wholeto (record { count = Flat; mask = to; to = 0; slot = r; limit = 1; first = 1 }) p (w.kind p))
+      (λ p. cond (bit (w.kind p) to) 1 0)
+      w.size
+      (λ o. number-parts targets lows highs x.wholeslot x.wholefrom x.wholeto from 0 r 0 first (cond (eqb o 0) first 0) (w.kind o))
+      (λ p. number-flat targets lows highs x.wholeslot x.wholefrom x.wholeto to 0 r 1 1 (cond (eqb p 0) 1 1) (w.kind p)
+      ∙ ap (λ (m : ℕ). cond (bit (w.kind p) to) m 0) (same-limit (eqb p 0)))
+      (parts-balance w.size (whole_of x w) (λ o. cond (bit (w.kind o) from) (least o) 0) (λ p. bit (w.kind p) to)
+      (λ o k. where-least (bit (w.kind o) from) (least o) (parts o) (λ e. all-parts slotted r o (cond (eqb o 0) first 0) 16 k (omega arith)
+      (limit-cases (λ (o m : ℕ). m ≤ target_count w r o) first 0 f (λ o. zero-le) o)))
+      (λ p k. allowed.wholes.at p k)
+      (λ o p k l e. parts-of to joined o p e))
+
   pub whole-at : (from to : ℕ) → Slotted x → ((j t : ℕ) → j < 16 → bit t (get_or x.wholeto j 0) ≡ true → bit t to ≡ true)
       → let r = whole_scale (own_of q) from to in
       together targets lows highs x r.a w ≤ together targets lows highs x r.b w
   unfolding whole_scale
-  whole-at from to slotted joined =
-      let first = cond (own_of q).asked q.low 0 in
-      let least : ℕ → ℕ = λ o. whole_low targets lows x.wholeslot x.wholefrom x.wholeto q.row (cond (eqb o 0) first 0) (w.kind o) 16 in
-      sums-le
-      (λ o. number_at targets lows highs x.wholeslot x.wholefrom x.wholeto (record { count = Parts; mask = from; to = 0; slot = q.row; limit = 0; first = first }) o (w.kind o))
-      (λ o. cond (bit (w.kind o) from) (least o) 0)
-      (λ p. number_at targets lows highs x.wholeslot x.wholefrom x.wholeto (record { count = Flat; mask = to; to = 0; slot = q.row; limit = 1; first = 1 }) p (w.kind p))
-      (λ p. cond (bit (w.kind p) to) 1 0)
-      w.size
-      (λ o. number-parts targets lows highs x.wholeslot x.wholefrom x.wholeto from 0 q.row 0 first (cond (eqb o 0) first 0) (w.kind o))
-      (λ p. number-flat targets lows highs x.wholeslot x.wholefrom x.wholeto to 0 q.row 1 1 (cond (eqb p 0) 1 1) (w.kind p)
-      ∙ ap (λ (m : ℕ). cond (bit (w.kind p) to) m 0) (same-limit (eqb p 0)))
-      (parts-balance w.size (whole_of x w) (λ o. cond (bit (w.kind o) from) (least o) 0) (λ p. bit (w.kind p) to)
-      (λ o k. where-least (bit (w.kind o) from) (least o) (parts o) (λ e. all-parts slotted o (cond (eqb o 0) first 0) 16 k (omega arith)
-      (limit-cases (λ (o m : ℕ). m ≤ target_count w q.row o) first 0 (low-asked q w asked) (λ o. zero-le) o)))
-      (λ p k. allowed.wholes.at p k)
-      (λ o p k l e. parts-of to joined o p e))
+  whole-at from to slotted joined = go (ltb 0 q.seeds) refl
+    where
+      go : (b : Bool) → ltb 0 q.seeds ≡ b → let r = whole_scale (then_some b (own_in q)) from to in
+          together targets lows highs x r.a w ≤ together targets lows highs x r.b w
+      go true e = parts-at q.row q.low from to (asked.row (ltb-true 0 q.seeds e)).least slotted joined
+      go false e = parts-at 0 0 from to zero-le slotted joined

@@ -1,7 +1,8 @@
 -- What is lacking among the first objects: where the numbers of all objects balance, what those of the first k objects lack comes from
 -- further objects, and each has at most the largest gain of a type.
 -- Assumes nothing.
-use Prim.Native.Nat.{◌*◌, ◌+◌, ◌-◌, ◌<◌, ◌≤◌, max, zero-le, ℕ}
+use Rattle.std.specs.Prelude.{None, Some}
+use Prim.Native.Nat.{◌*◌, ◌+◌, ◌-◌, ◌<◌, ◌≤◌, max, ℕ}
 use native.Mathlib.Decide.{dec_lt}
 use native.Mathlib.Nat.{mul-add}
 use native.Mathlib.Omega.{arith}
@@ -51,20 +52,22 @@ one-most : (p q : ℕ) (a b : Bool) → p ≤ q → (a ≡ true → b ≡ true) 
 one-most p q false b l f = omega arith
 one-most p q true b l f = subst (λ (x : Bool). p * 1 ≤ q * one x) (sym (f refl)) (omega arith)
 
-pub gained-more : (p : Gain) (t x y g most : ℕ) → ((j : ℕ) → bit j g ≡ bit j p.g || eqb j t) → most ≡ max p.most (y - x) → x < y
+pub gained-more : (p : Gain) (t x y g most : ℕ) {i : ℕ} → i ≡ t → ((j : ℕ) → bit j g ≡ bit j p.g || eqb j i) → most ≡ max p.most (y - x) → x < y
     → Gained p (record { g = g; most = most }) t x y
-gained-more p t x y g most with-bit m l = record {
-  most = omega arith;
-  kept = λ u h. with-bit u ∙ or_left (bit u p.g) (eqb u t) h;
-  new = subst (λ (b : Bool). y ≤ x + most * one b) (sym (with-bit t ∙ or_right (bit t p.g) (eqb t t) (eq-eqb t t refl))) (omega arith);
-}
+gained-more p t x y g most q with-bit' m l =
+    let with-bit : (j : ℕ) → bit j g ≡ bit j p.g || eqb j t = λ j. with-bit' j ∙ ap (λ (k : ℕ). bit j p.g || eqb j k) q in
+    record {
+      most = omega arith;
+      kept = λ u h. with-bit u ∙ or_left (bit u p.g) (eqb u t) h;
+      new = subst (λ (b : Bool). y ≤ x + most * one b) (sym (with-bit t ∙ or_right (bit t p.g) (eqb t t) (eq-eqb t t refl))) (omega arith);
+    }
 
 module _ (a b : ℕ → ℕ) (free : ℕ) where
   pub gains-begin : (r : Gain) → Gains a b free 0 r
   gains-begin r = record { at = λ t l. absurd (omega arith) }
 
-  pub gains-skip : (t : ℕ) {r s : Gain} → Gains a b free t r → bit t free ≡ false → s ≡ r → Gains a b free (t + 1) s
-  gains-skip t {r} h e i = subst (λ (s : Gain). Gains a b free (t + 1) s) (sym i)
+  pub gains-skip : (t : ℕ) {i : ℕ} {r s : Gain} → i ≡ t → Gains a b free t r → bit i free ≡ false → s ≡ r → Gains a b free (t + 1) s
+  gains-skip t {i} {r} q h d i' = let e : bit t free ≡ false = ap (λ (k : ℕ). bit k free) (sym q) ∙ d in subst (λ (s : Gain). Gains a b free (t + 1) s) (sym i')
       (record { at = below_more (λ (u : ℕ). bit u free ≡ true → b u ≤ a u + r.most * one (bit u r.g)) t h.at (λ f. absurd (true-false f e)) })
 
   pub gains-add : (t : ℕ) {p q s : Gain} {x y : ℕ} → Gains a b free t p → x ≡ a t → y ≡ b t → Gained p q t x y → s ≡ q → Gains a b free (t + 1) s
@@ -83,15 +86,18 @@ module _ (a b : ℕ → ℕ) (free : ℕ) where
 pub times_more : (most c y z d : ℕ) → z ≡ y + most * c → d ≡ most → z + d ≡ y + most * (c + 1)
 times_more most c y z d e f = let m = mul-add most c 1 in omega arith
 
+pub times-one : {x y : ℕ} (most : ℕ) → y < x → (e : ℕ) → e < 1 → y + most * e < x
+times-one most l e h = let q : e ≡ 0 = omega arith in let m = ap (λ (d : ℕ). most * d) q in omega arith
+
 -- ---- what is lacking
 
-pub lacks-none : (a b : ℕ → ℕ → ℕ) (types : List ℕ) (k free : ℕ) → Lacks a b types k free (record { g = 0; c = 0 })
-lacks-none a b types k free = record { at = λ w s l. zero-le }
+pub lacks-none : (a b : ℕ → ℕ → ℕ) (types : List ℕ) (k free : ℕ) → Lacks a b types k free None
+lacks-none a b types k free = record { some = tt; at = λ w s l. tt }
 
 module _ (a b : ℕ → ℕ → ℕ) (a' b' : ℕ → ℕ) (later : (o t : ℕ) → 0 < o → a o t ≡ a' t) (later' : (o t : ℕ) → 0 < o → b o t ≡ b' t) where
   pub lacks-of : (types : List ℕ) (k free : ℕ) (gain : Gain) (m n c : ℕ) → 0 < k → m ≡ sum (λ o. a o (get_or types o 0)) k → n ≡ sum (λ o. b o (get_or types o 0)) k
-      → Gains a' b' free 24 gain → ((e : ℕ) → e < c → n + gain.most * e < m) → Lacks a b types k free (record { g = gain.g; c = c })
-  lacks-of types k free gain m n c first e f gains times = record { at = λ w s l. go w s l (dec_lt (extras gain.g k w) c) }
+      → Gains a' b' free 24 gain → 0 < c → ((e : ℕ) → e < c → n + gain.most * e < m) → Lacks a b types k free (Some (record { g = gain.g; c = c }))
+  lacks-of types k free gain m n c first e f gains some times = record { some = some; at = λ w s l. go w s l (dec_lt (extras gain.g k w) c) }
     where
       go : (w : World) → Begins types k free w → sum (λ o. a o (w.kind o)) w.size ≤ sum (λ o. b o (w.kind o)) w.size
           → Dec (extras gain.g k w < c) → c ≤ extras gain.g k w
@@ -109,8 +115,8 @@ module _ (a b : ℕ → ℕ → ℕ) (a' b' : ℕ → ℕ) (later : (o t : ℕ) 
 pub lacks-by : (targets lows highs slots froms tos : List ℕ) (x : Scale) (types : List ℕ) (k free : ℕ) (gain : Gain) (m n c : ℕ) → 0 < k
     → m ≡ sum (λ o. number_at targets lows highs slots froms tos x.a o (get_or types o 0)) k → n ≡ sum (λ o. number_at targets lows highs slots froms tos x.b o (get_or types o 0)) k
     → Gains (number_by targets lows highs slots froms tos x.a x.a.limit) (number_by targets lows highs slots froms tos x.b x.b.limit) free 24 gain
-    → ((e : ℕ) → e < c → n + gain.most * e < m)
-    → Lacks (number_at targets lows highs slots froms tos x.a) (number_at targets lows highs slots froms tos x.b) types k free (record { g = gain.g; c = c })
+    → 0 < c → ((e : ℕ) → e < c → n + gain.most * e < m)
+    → Lacks (number_at targets lows highs slots froms tos x.a) (number_at targets lows highs slots froms tos x.b) types k free (Some (record { g = gain.g; c = c }))
 lacks-by targets lows highs slots froms tos x = lacks-of (number_at targets lows highs slots froms tos x.a) (number_at targets lows highs slots froms tos x.b)
     (number_by targets lows highs slots froms tos x.a x.a.limit) (number_by targets lows highs slots froms tos x.b x.b.limit)
     (λ o t l. ap (λ (y : ℕ). number_by targets lows highs slots froms tos x.a y t) (limit-else x.a o l))

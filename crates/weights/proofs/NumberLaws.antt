@@ -7,7 +7,6 @@ use mathlib.Core.Bool.{Bool, ◌&&◌, cond, false, true}
 use mathlib.Core.List.{List}
 use mathlib.Core.Path.{◌∙◌, ◌≡◌, ap, ap₂, refl, sym}
 use lib.Bits.{bit_and, bit_or}
-use lib.Dec.{eqb}
 use lib.ListN.{get_or}
 use borrow.Author.Count.{below_more}
 use borrow.Author.Tests.{eqb-true, ne_eqb}
@@ -17,7 +16,7 @@ use Rattle.laws.proofs.ConnectiveLaws.{or_left, or_right}
 use Rattle.weights.specs.declared.Count.TheVariants.{Flat, High, Low, Parts}
 use Rattle.weights.specs.declared.Count.{Count}
 use Rattle.weights.specs.declared.Weight.{Weight}
-use Rattle.weights.specs.Numbers.{in_mask, limit_at, line_number, counted, number_by, whole_low, whole_row}
+use Rattle.weights.specs.Numbers.{in_mask, limit_at, counted, number_by, whole_low, whole_row}
 
 -- ---- masks
 
@@ -29,11 +28,11 @@ pub in_meet : (a b c : ℕ) → in_mask (bit_and a b) c ≡ true → (t : ℕ) �
 in_meet a b c h t e f = in-mask (bit_and a b) c h t (bit-both t a b e f)
 
 -- one mask more
-pub mask-more : (masks : List ℕ) (j m i : ℕ) → i ≡ j → ((k : ℕ) → k < j → (t : ℕ) → bit t (get_or masks k 0) ≡ true → bit t m ≡ true)
-    → (k : ℕ) → k < j + 1 → (t : ℕ) → bit t (get_or masks k 0) ≡ true → bit t (bit_or m (get_or masks i 0)) ≡ true
-mask-more masks j m i q f = below_more (λ (k : ℕ). (t : ℕ) → bit t (get_or masks k 0) ≡ true → bit t (bit_or m (get_or masks i 0)) ≡ true) j
-    (λ k l t e. bit-or t m (get_or masks i 0) ∙ or_left (bit t m) (bit t (get_or masks i 0)) (f k l t e))
-    (λ t e. bit-or t m (get_or masks i 0) ∙ or_right (bit t m) (bit t (get_or masks i 0)) (ap (λ (k : ℕ). bit t (get_or masks k 0)) q ∙ e))
+pub mask-more : (masks : List ℕ) (j m : ℕ) → ((k : ℕ) → k < j → (t : ℕ) → bit t (get_or masks k 0) ≡ true → bit t m ≡ true)
+    → (k : ℕ) → k < j + 1 → (t : ℕ) → bit t (get_or masks k 0) ≡ true → bit t (bit_or m (get_or masks j 0)) ≡ true
+mask-more masks j m f = below_more (λ (k : ℕ). (t : ℕ) → bit t (get_or masks k 0) ≡ true → bit t (bit_or m (get_or masks j 0)) ≡ true) j
+    (λ k l t e. bit-or t m (get_or masks j 0) ∙ or_left (bit t m) (bit t (get_or masks j 0)) (f k l t e))
+    (λ t e. bit-or t m (get_or masks j 0) ∙ or_right (bit t m) (bit t (get_or masks j 0)) e)
 
 -- ---- the largest number by wholes
 
@@ -49,27 +48,19 @@ module _ (targets lows slots froms tos : List ℕ) (slot limit t : ℕ) where
   pub whole-done : (j : ℕ) {n : ℕ} → j ≤ 16 → 16 ≤ j → n ≡ whole_low targets lows slots froms tos slot limit t j → n ≡ whole_low targets lows slots froms tos slot limit t 16
   whole-done j l h e = let q : j ≡ 16 = omega arith in e ∙ ap (whole_low targets lows slots froms tos slot limit t) q
 
--- by one line, whose entries the code reads at i
-pub row_by : (targets lows slots froms tos : List ℕ) (slot limit t j : ℕ) {i target low r : ℕ} → i ≡ j → target ≡ get_or targets (t * 32 + get_or slots i 0) 0
-    → low ≡ get_or lows (t * 32 + get_or slots i 0) 0 → r ≡ line_number (get_or froms i 0) (get_or tos i 0) target low (eqb slot (get_or slots i 0)) limit t
-    → r ≡ whole_row targets lows slots froms tos slot limit t j
-unfolding whole_row
-row_by targets lows slots froms tos slot limit t j {i} q e f g =
-    g ∙ ap₂ (λ (a b : ℕ). line_number (get_or froms i 0) (get_or tos i 0) a b (eqb slot (get_or slots i 0)) limit t) e f
-    ∙ ap (whole_row targets lows slots froms tos slot limit t) q
-
 -- ---- the number of a type
 
 module _ (targets lows highs slots froms tos : List ℕ) where
   module _ (w : Weight) (limit t : ℕ) where
-    pub number-none : bit t w.mask ≡ false → 0 ≡ number_by targets lows highs slots froms tos w limit t
+    pub number-none : {i : ℕ} → i ≡ t → bit i w.mask ≡ false → 0 ≡ number_by targets lows highs slots froms tos w limit t
     unfolding number_by
-    number-none e = rw e
+    number-none q e = let h : bit t w.mask ≡ false = ap (λ (k : ℕ). bit k w.mask) (sym q) ∙ e in rw h
 
-    pub number-as : (k : Count) {r : ℕ} → w.count ≡ k → bit t w.mask ≡ true → r ≡ counted targets lows highs slots froms tos k w limit t
+    pub number-as : (k : Count) {i r : ℕ} → i ≡ t → w.count ≡ k → bit i w.mask ≡ true → r ≡ counted targets lows highs slots froms tos k w limit t
         → r ≡ number_by targets lows highs slots froms tos w limit t
     unfolding number_by
-    number-as k e f g =
+    number-as k q e f' g =
+        let f : bit t w.mask ≡ true = ap (λ (k : ℕ). bit k w.mask) (sym q) ∙ f' in
         let by : Count → ℕ = λ c. counted targets lows highs slots froms tos c w limit t in
         let h : by w.count ≡ number_by targets lows highs slots froms tos w limit t = rw f in
         g ∙ ap by (sym e) ∙ h

@@ -2,6 +2,7 @@
 -- Assumes nothing.
 use Prim.Native.Nat.{◌*◌, ◌+◌, ◌<◌, ◌≤◌, ℕ}
 use native.Mathlib.Omega.{arith}
+use Rattle.std.specs.Prelude.{IfSome, None, Option, Some}
 use mathlib.Core.Bool.{true}
 use mathlib.Core.List.{List}
 use mathlib.Core.Path.{◌∙◌, ◌≡◌, ap, ap₂, refl, subst, sym}
@@ -17,16 +18,16 @@ use Rattle.weights.specs.declared.Own.{Own}
 use Rattle.weights.specs.declared.Scale.{Scale}
 use Rattle.weights.specs.declared.Shortage.{Shortage}
 use Rattle.weights.specs.Numbers.{number_at}
-use Rattle.weights.specs.Scales.{Fair, columns_scale, mirror_scale, own_of, rows_scale, together, whole_scale}
+use Rattle.weights.specs.Scales.{Fair, columns_scale, mirror_scale, own_of, parts_scale, rows_scale, together, whole_scale}
 use Rattle.weights.specs.Weigh.{Lacks, Short}
 use Rattle.weights.proofs.FairLaws.{columns-at, mirror-at, rows_at, whole-at}
 
 -- the scale that f makes of what is asked of the first object and of the types that may have links to it in slot s
-abbrev Balanced : List ℕ → Lines → ℕ → (Own → ℕ → Scale) → Type 0
+abbrev Balanced : List ℕ → Lines → ℕ → (Option Own → ℕ → Scale) → Type 0
 Balanced sources x s f = (usable singles : ℕ) (targets lows highs : List ℕ) (q : Query) (w : World) → SourceTable targets sources → Allowed (sheet usable singles targets lows highs x) w
     → Satisfies q w → 0 < w.size → let r = f (own_of q) (get_or sources (w.kind 0 * 32 + s) 0) in together targets lows highs x r.a w ≤ together targets lows highs x r.b w
 
-fair-of : (sources : List ℕ) (x : Lines) (own : Own) (t s may : ℕ) (f : Own → ℕ → Scale) {r : Scale} → may ≡ get_or sources (t * 32 + s) 0 → r ≡ f own may
+fair-of : (sources : List ℕ) (x : Lines) (own : Option Own) (t s may : ℕ) (f : Option Own → ℕ → Scale) {r : Scale} → may ≡ get_or sources (t * 32 + s) 0 → r ≡ f own may
     → (f own may).a.slot < 32 → (f own may).b.slot < 32 → Balanced sources x s f → Fair sources x own t r
 fair-of sources x own t s may f {r} m e low high balanced = record {
   low = subst (λ (z : Scale). z.a.slot < 32) (sym e) low;
@@ -37,7 +38,7 @@ fair-of sources x own t s may f {r} m e low high balanced = record {
       (balanced usable singles targets lows highs q w turned allowed asked some);
 }
 
-module _ (sources : List ℕ) (x : Lines) (own : Own) (t : ℕ) where
+module _ (sources : List ℕ) (x : Lines) (own : Option Own) (t : ℕ) where
   module _ (j may : ℕ) (r : Scale) (l : j < 16) (slotted : Slotted x) where
     pub rows-fair : may ≡ get_or sources (t * 32 + get_or x.columnslot j 0) 0
         → r ≡ rows_scale own (get_or x.columnslot j 0) (get_or x.columnfrom j 0) (get_or x.columnto j 0) (get_or x.columnhigh j 0) may → Fair sources x own t r
@@ -71,18 +72,29 @@ module _ (sources : List ℕ) (x : Lines) (own : Own) (t : ℕ) where
         (get_or x.mirrorleft j 0) (get_or x.mirrorright j 0) (get_or x.mirrorto j 0) (get_or x.mirrorfrom j 0) (slotted.left j l) (slotted.right j l)
         (λ o p k i a b. sym (allowed.mirrors.at j p o l i k b a)))
 
-  pub whole-fair : (from to : ℕ) (r : Scale) → Slotted x → own.row < 32 → ((j u : ℕ) → j < 16 → bit u (get_or x.wholeto j 0) ≡ true → bit u to ≡ true) → r ≡ whole_scale own from to
+  whole-low : (from to : ℕ) (o : Option Own) → IfSome o (λ a. a.row < 32) → (whole_scale o from to).a.slot < 32
+  unfolding whole_scale parts_scale
+  whole-low from to (Some a) row = row
+  whole-low from to None row = omega arith
+
+  whole-high : (from to : ℕ) (o : Option Own) → IfSome o (λ a. a.row < 32) → (whole_scale o from to).b.slot < 32
+  unfolding whole_scale parts_scale
+  whole-high from to (Some a) row = row
+  whole-high from to None row = omega arith
+
+  pub whole-fair : (from to : ℕ) (r : Scale) → Slotted x → IfSome own (λ a. a.row < 32) → ((j u : ℕ) → j < 16 → bit u (get_or x.wholeto j 0) ≡ true → bit u to ≡ true) → r ≡ whole_scale own from to
       → Fair sources x own t r
   whole-fair from to r slotted row joined e = fair-of sources x own t 0 (get_or sources (t * 32 + 0) 0) (λ o n. whole_scale o from to) refl e
-      (unfold whole_scale in row) (unfold whole_scale in row)
+      (whole-low from to own row) (whole-high from to own row)
       (λ u g targets lows highs q w turned allowed asked some. whole-at u g targets lows highs sources x q w turned allowed asked some from to slotted joined)
 
 -- what is lacking where the scale balances
-pub short-of : (targets sources lows highs : List ℕ) (lines : Lines) (q : Query) (own : Own) (types : List ℕ) (k free : ℕ) (x : Scale) (r : Shortage) → 0 < k → SourceTable targets sources → own ≡ own_of q
+pub short-of : (targets sources lows highs : List ℕ) (lines : Lines) (q : Query) (own : Option Own) (types : List ℕ) (k free : ℕ) (x : Scale) (r : Option Shortage) → 0 < k → SourceTable targets sources → own ≡ own_of q
     → Fair sources lines own (get_or types 0 0) x
     → Lacks (number_at targets lows highs lines.wholeslot lines.wholefrom lines.wholeto x.a) (number_at targets lows highs lines.wholeslot lines.wholefrom lines.wholeto x.b) types k free r
     → Short targets lows highs lines q types k free r
 short-of targets sources lows highs lines q own types k free x r l turned o fair lacks = record {
+  some = lacks.some;
   at = λ usable singles w begins allowed asked. let m = begins.many in
       lacks.at w begins (fair.at usable singles targets lows highs q w turned o allowed asked (omega arith) (begins.kept 0 l));
 }

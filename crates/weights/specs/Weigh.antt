@@ -1,6 +1,6 @@
 -- What is lacking among the first objects of a world.
 -- Assumes nothing.
-use Rattle.std.specs.Prelude.{◌*◌, ◌+◌, ◌<◌, ◌≤◌, ℕ, true, List, ◌≡◌, get_or}
+use Rattle.std.specs.Prelude.{◌*◌, ◌+◌, ◌<◌, ◌≤◌, ℕ, true, IfSome, List, Option, ◌≡◌, get_or}
 use Rattle.laws.specs.Bits.{bit}
 use Rattle.laws.specs.Bounded.{one}
 use Rattle.growing.specs.World.{World}
@@ -31,12 +31,15 @@ pub record Gained (p q : Gain) (t x y : ℕ) : Type 0 where
   pub new : y ≤ x + q.most * one (bit t q.g)
 
 -- a number and b number of object o of type t: of each world that begins so and whose numbers a are together not above its numbers b,
--- at least so many further objects have types of the mask
-pub record Lacks (a b : ℕ → ℕ → ℕ) (types : List ℕ) (k free : ℕ) (r : Shortage) : Type 0 where
+-- at least so many further objects, and not none, have types of the mask
+pub record Lacks (a b : ℕ → ℕ → ℕ) (types : List ℕ) (k free : ℕ) (r : Option Shortage) : Type 0 where
+  pub some : IfSome r (λ s. 0 < s.c)
   pub at : (w : World) → Begins types k free w → sum (λ o. a o (w.kind o)) w.size ≤ sum (λ o. b o (w.kind o)) w.size
-      → r.c ≤ extras r.g k w
+      → IfSome r (λ s. s.c ≤ extras s.g k w)
 
--- of each world that begins so, that the tables allow and the query asks for, at least so many further objects have types of the mask
-pub record Short (targets lows highs : List ℕ) (lines : Lines) (q : Query) (types : List ℕ) (k free : ℕ) (r : Shortage) : Type 0 where
+-- what is lacking in each world that begins so, that the tables allow and the query asks for: at least so many further objects, and not
+-- none, have types of the mask
+pub record Short (targets lows highs : List ℕ) (lines : Lines) (q : Query) (types : List ℕ) (k free : ℕ) (r : Option Shortage) : Type 0 where
+  pub some : IfSome r (λ s. 0 < s.c)
   pub at : (usable singles : ℕ) (w : World) → Begins types k free w → Allowed (sheet usable singles targets lows highs lines) w → Satisfies q w
-      → r.c ≤ extras r.g k w
+      → IfSome r (λ s. s.c ≤ extras s.g k w)

@@ -2,7 +2,7 @@
 // site ask for more than they have room for, further objects must have room for the rest.
 #![tactic(auto)]
 
-ghost use Rattle.std.specs.Prelude.{◌≡◌, true, ℕ, ◌<◌, ◌≤◌, ◌+◌, ◌*◌, get_or};
+ghost use Rattle.std.specs.Prelude.{IfSome, ◌≡◌, true, ℕ, ◌<◌, ◌≤◌, ◌+◌, ◌*◌, get_or};
 ghost use Rattle.laws.specs.Bits.{bit};
 ghost use Rattle.worlds.specs.Asked.{Sane};
 ghost use Rattle.weights.specs.Numbers.{in_mask, limit_at, line_number, number_at, number_by, whole_low, whole_row};
@@ -11,16 +11,17 @@ ghost use Rattle.weights.specs.Sums.{sum};
 ghost use Rattle.weights.specs.Weigh.{Gained, Gains, Lacks, Short};
 
 use laws::Mask;
-use worlds::{Query, Tables};
+use worlds::{Query, Tables, Types};
 
-// At least c of the further objects have types of the mask g.
+// At least c of the further objects, and not none, have types of the mask g.
 #[derive(Clone, Copy)]
 pub struct Shortage {
     pub g: u32,
     pub c: u8,
 }
 
-// What is counted, by one of the lines: what asks for links, against what has room for them.
+// What is counted, by one of the lines: what asks for links, against what has room for them. Each way reads other columns of the lines, so
+// that a function for each would be no shorter than the arms of `scale_of`.
 #[derive(Clone, Copy)]
 pub enum Way {
     // Rows of a column's sources against the column, and the column against these.
@@ -64,11 +65,10 @@ struct Scale {
     b: Weight,
 }
 
-// What is asked of the first object besides the tables, if anything: how many targets it has in the slot `row`, and how many sources of
-// the types `from` in the slot `column`.
+// What is asked of the first object besides the tables: how many targets it has in the slot `row`, and how many sources of the types
+// `from` in the slot `column`.
 #[derive(Clone, Copy)]
 struct Own {
-    asked: bool,
     row: u8,
     low: u8,
     high: u8,
@@ -87,49 +87,26 @@ struct Gain {
 
 // ---- numbers
 
-// A number with room for sums.
-fn double(x: u8) -> u16
-    ensures { (result ≡ x) × (result ≤ 255) }
-{
-    x as u16
-}
-
-// Where a table has the entry for type t and slot s.
-fn place(t: u8, s: u8) -> usize
-    requires { (t < 24) × (s < 32) }
-    ensures { (result ≡ t * 32 + s) × (result < 768) }
-{
-    usize::from(t) * 32 + usize::from(s)
-}
-
-// Every type of the mask a is one of b.
-fn is_inside(a: u32, b: u32) -> bool
-    ensures { result ≡ in_mask a b }
-{
-    (a | b) == b
-}
-
 // The number of type t by a line with the types `from` and `to`, where its targets and its lower limit are given.
 fn line_number(from: u32, to: u32, target: u32, low: u8, own: bool, limit: u8, t: u8) -> u8
     requires { t < 24 }
     ensures { result ≡ line_number from to target low own limit t }
 {
-    let counts = from.has(t as u32) & is_inside(target, to);
+    let counts = from.has(u32::from(t)) & target.is_inside(to);
     type_tables::pick(counts, type_tables::pick(own, low.max(limit), low), 0)
 }
 
 // How many links to parts an object of type t has at least by line j.
-fn whole_row(tables: &Tables, slot: u8, limit: u8, t: u8, j: u8) -> u8
+fn whole_row(tables: &Tables, slot: u8, limit: u8, t: u8, j: usize) -> u8
     requires { (t < 24) × (j < 16) }
     ensures { result ≡ whole_row tables.now.targets tables.now.lows tables.now.lines.wholeslot tables.now.lines.wholefrom tables.now.lines.wholeto slot limit t j }
 {
-    let i = usize::from(j);
-    let s = tables.lines.wholeslot[i];
-    let x = place(t, s);
+    let s = tables.lines.wholeslot[j];
+    let x = laws::place(t, s);
     let low = tables.lows[x];
     line_number(
-        tables.lines.wholefrom[i],
-        tables.lines.wholeto[i],
+        tables.lines.wholefrom[j],
+        tables.lines.wholeto[j],
         tables.targets[x],
         low,
         slot == s,
@@ -144,7 +121,7 @@ fn whole_low(tables: &Tables, slot: u8, limit: u8, t: u8) -> u8
     ensures { result ≡ whole_low tables.now.targets tables.now.lows tables.now.lines.wholeslot tables.now.lines.wholefrom tables.now.lines.wholeto slot limit t 16 }
 {
     let mut n: u8 = 0;
-    for j in 0u8..16 {
+    for j in 0..16 {
         n = n.max(whole_row(tables, slot, limit, t, j));
     }
     n
@@ -155,13 +132,13 @@ fn number_of(tables: &Tables, w: Weight, limit: u8, t: u8) -> u8
     requires { (t < 24) × (w.slot < 32) }
     ensures { result ≡ number_by tables.now.targets tables.now.lows tables.now.highs tables.now.lines.wholeslot tables.now.lines.wholefrom tables.now.lines.wholeto w limit t }
 {
-    if !w.mask.has(t as u32) {
+    if !w.mask.has(u32::from(t)) {
         return 0;
     }
-    let x = place(t, w.slot);
+    let x = laws::place(t, w.slot);
     match w.count {
         Count::Low => type_tables::pick(
-            is_inside(tables.targets[x], w.to),
+            tables.targets[x].is_inside(w.to),
             tables.lows[x].max(limit),
             0,
         ),
@@ -179,14 +156,14 @@ fn limit_at(w: Weight, o: u8) -> u8
 }
 
 // The numbers of the first k objects together.
-fn total(tables: &Tables, w: Weight, types: [u8; 8], k: u8) -> u16
-    requires { (k ≤ 8) × (w.slot < 32) × ((o : ℕ) → get_or types o 0 < 24) }
-    ensures { (result ≡ sum (λ o. number_at tables.now.targets tables.now.lows tables.now.highs tables.now.lines.wholeslot tables.now.lines.wholefrom tables.now.lines.wholeto w o (get_or types o 0)) k) × (result ≤ 2040) }
+fn total(tables: &Tables, w: Weight, types: Types, k: u8) -> u16
+    requires { (k ≤ 8) × (w.slot < 32) }
+    ensures { (result ≡ sum (λ o. number_at tables.now.targets tables.now.lows tables.now.highs tables.now.lines.wholeslot tables.now.lines.wholefrom tables.now.lines.wholeto w o (get_or types.at o 0)) k) × (result ≤ 2040) }
 {
     let mut n: u16 = 0;
     for o in 0..k {
-        let t = types[usize::from(o)];
-        n += double(number_of(tables, w, limit_at(w, o), t));
+        let t = types.at[usize::from(o)];
+        n += u16::from(number_of(tables, w, limit_at(w, o), t));
     }
     n
 }
@@ -202,7 +179,7 @@ fn added(gain: Gain, t: u8, x: u8, y: u8) -> Gain
         return gain;
     }
     Gain {
-        g: gain.g.with(t as u32),
+        g: gain.g.with(u32::from(t)),
         most: gain.most.max(y - x),
     }
 }
@@ -216,7 +193,7 @@ fn gains(tables: &Tables, x: Scale, free: u32) -> Gain
     let b = x.b;
     let mut gain = Gain { g: 0, most: 0 };
     for t in 0u8..24 {
-        if free.has(t as u32) {
+        if free.has(u32::from(t)) {
             let m = number_of(tables, a, a.limit, t);
             let n = number_of(tables, b, b.limit, t);
             gain = added(gain, t, m, n);
@@ -225,86 +202,98 @@ fn gains(tables: &Tables, x: Scale, free: u32) -> Gain
     gain
 }
 
-// How many times `most` must be added to y so that it is not below x: 9 for more than 8.
+// How many times `most` must be added to y so that it is not below x: 9 stands for all numbers above 8, as no world has so many objects.
 fn times(x: u16, y: u16, most: u8) -> u8
-    requires { y ≤ 2040 }
-    ensures { (e : ℕ) → e < result → y + most * e < x }
+    requires { (y < x) × (y ≤ 2040) }
+    ensures { (0 < result) × ((e : ℕ) → e < result → y + most * e < x) }
 {
-    let mut z = y;
-    for c in 0u8..9 {
+    let mut z = y + u16::from(most);
+    for c in 1u8..9 {
         if x <= z {
             return c;
         }
-        z += double(most);
+        z += u16::from(most);
     }
     9
 }
 
 // What is lacking where the numbers a of all objects are together not above the numbers b.
-fn lacking(tables: &Tables, x: Scale, types: [u8; 8], k: u8, free: u32) -> Shortage
-    requires { (0 < k) × (k ≤ 8) × (x.a.slot < 32) × (x.b.slot < 32) × ((o : ℕ) → get_or types o 0 < 24) }
-    ensures { Lacks (number_at tables.now.targets tables.now.lows tables.now.highs tables.now.lines.wholeslot tables.now.lines.wholefrom tables.now.lines.wholeto x.a) (number_at tables.now.targets tables.now.lows tables.now.highs tables.now.lines.wholeslot tables.now.lines.wholefrom tables.now.lines.wholeto x.b) types k free result }
+fn lacking(tables: &Tables, x: Scale, types: Types, k: u8, free: u32) -> Option<Shortage>
+    requires { (0 < k) × (k ≤ 8) × (x.a.slot < 32) × (x.b.slot < 32) }
+    ensures { Lacks (number_at tables.now.targets tables.now.lows tables.now.highs tables.now.lines.wholeslot tables.now.lines.wholefrom tables.now.lines.wholeto x.a) (number_at tables.now.targets tables.now.lows tables.now.highs tables.now.lines.wholeslot tables.now.lines.wholefrom tables.now.lines.wholeto x.b) types.at k free result }
 {
     let a = x.a;
     let b = x.b;
     if a.mask == 0 {
-        return Shortage { g: 0, c: 0 };
+        return None;
     }
     let m = total(tables, a, types, k);
     if m == 0 {
-        return Shortage { g: 0, c: 0 };
+        return None;
     }
     let n = total(tables, b, types, k);
     if m <= n {
-        return Shortage { g: 0, c: 0 };
+        return None;
     }
     let gain = gains(tables, x, free);
-    Shortage {
+    Some(Shortage {
         g: gain.g,
         c: times(m, n, gain.most),
-    }
+    })
 }
 
 // ---- pairs of weights
 
 // How many targets the first object has in slot s at least.
-fn row_least(own: Own, s: u8) -> u8
+fn row_least(own: Option<Own>, s: u8) -> u8
     ensures { result ≡ row_least own s }
 {
-    type_tables::pick(own.asked & (own.row == s), own.low, 0)
+    match own {
+        Some(a) => type_tables::pick(a.row == s, a.low, 0),
+        None => 0,
+    }
 }
 
-// How many it has at most.
-fn row_most(own: Own, s: u8) -> u8
+// How many it has at most; 255, above every number of links, where nothing limits it.
+fn row_most(own: Option<Own>, s: u8) -> u8
     ensures { result ≡ row_most own s }
 {
-    type_tables::pick(own.asked & (own.row == s), own.high, 255)
+    match own {
+        Some(a) => type_tables::pick(a.row == s, a.high, 255),
+        None => 255,
+    }
 }
 
 // How many sources of the types `from` the first object has in slot s at least; only types of the mask `may` can have links to it.
-fn column_least(own: Own, s: u8, from: u32, may: u32) -> u8
+fn column_least(own: Option<Own>, s: u8, from: u32, may: u32) -> u8
     ensures { result ≡ column_least own s from may }
 {
-    type_tables::pick(
-        own.asked & (own.column == s) & is_inside(own.from & may, from),
-        own.least,
-        0,
-    )
+    match own {
+        Some(a) => {
+            type_tables::pick((a.column == s) & (a.from & may).is_inside(from), a.least, 0)
+        }
+        None => 0,
+    }
 }
 
 // How many it has at most.
-fn column_most(own: Own, s: u8, from: u32, may: u32) -> u8
+fn column_most(own: Option<Own>, s: u8, from: u32, may: u32) -> u8
     ensures { result ≡ column_most own s from may }
 {
-    type_tables::pick(
-        own.asked & (own.column == s) & is_inside(from & may, own.from),
-        own.most,
-        255,
-    )
+    match own {
+        Some(a) => {
+            type_tables::pick(
+                (a.column == s) & (from & may).is_inside(a.from),
+                a.most,
+                255,
+            )
+        }
+        None => 255,
+    }
 }
 
 // Rows of sources `from` against columns of targets `to` with at most `high` sources.
-fn rows_scale(own: Own, s: u8, from: u32, to: u32, high: u8, may: u32) -> Scale
+fn rows_scale(own: Option<Own>, s: u8, from: u32, to: u32, high: u8, may: u32) -> Scale
     ensures { result ≡ rows_scale own s from to high may }
 {
     let a = Weight {
@@ -327,7 +316,7 @@ fn rows_scale(own: Own, s: u8, from: u32, to: u32, high: u8, may: u32) -> Scale
 }
 
 // Columns of targets `to` with at least `low` sources against rows of sources `from`.
-fn columns_scale(own: Own, s: u8, from: u32, to: u32, low: u8, may: u32) -> Scale
+fn columns_scale(own: Option<Own>, s: u8, from: u32, to: u32, low: u8, may: u32) -> Scale
     ensures { result ≡ columns_scale own s from to low may }
 {
     let a = Weight {
@@ -350,7 +339,7 @@ fn columns_scale(own: Own, s: u8, from: u32, to: u32, low: u8, may: u32) -> Scal
 }
 
 // Rows of sources `from` against the rows back of targets `to`.
-fn mirror_scale(own: Own, s: u8, back: u8, from: u32, to: u32, may: u32) -> Scale
+fn mirror_scale(own: Option<Own>, s: u8, back: u8, from: u32, to: u32, may: u32) -> Scale
     ensures { result ≡ mirror_scale own s back from to may }
 {
     let a = Weight {
@@ -373,22 +362,26 @@ fn mirror_scale(own: Own, s: u8, back: u8, from: u32, to: u32, may: u32) -> Scal
 }
 
 // Rows of wholes, of the types `from`, against parts, of the types `to`.
-fn whole_scale(own: Own, from: u32, to: u32) -> Scale
+fn whole_scale(own: Option<Own>, from: u32, to: u32) -> Scale
     ensures { result ≡ whole_scale own from to }
 {
+    let (slot, first) = match own {
+        Some(a) => (a.row, a.low),
+        None => (0, 0),
+    };
     let a = Weight {
         count: Count::Parts,
         mask: from,
         to: 0,
-        slot: own.row,
+        slot,
         limit: 0,
-        first: type_tables::pick(own.asked, own.low, 0),
+        first,
     };
     let b = Weight {
         count: Count::Flat,
         mask: to,
         to: 0,
-        slot: own.row,
+        slot,
         limit: 1,
         first: 1,
     };
@@ -400,22 +393,22 @@ fn joined(masks: &[u32; 16]) -> u32
     ensures { (j t : ℕ) → j < 16 → bit t (get_or masks.now j 0) ≡ true → bit t result ≡ true }
 {
     let mut m: u32 = 0;
-    for j in 0u8..16 {
-        m = m | masks[usize::from(j)];
+    for mask in masks {
+        m |= *mask;
     }
     m
 }
 
 // The pair of one way, by line j, where the first object has type t.
-fn scale_of(tables: &Tables, own: Own, t: u8, way: Way, j: usize) -> Scale
-    requires { (own.row < 32) × (t < 24) × (j < 16) }
+fn scale_of(tables: &Tables, own: Option<Own>, t: u8, way: Way, j: usize) -> Scale
+    requires { IfSome own (λ a. a.row < 32) × (t < 24) × (j < 16) }
     ensures { Fair tables.now.sources tables.now.lines own t result }
 {
     let lines = &tables.lines;
     match way {
         Way::Rows => {
             let s = lines.columnslot[j];
-            let may = tables.sources[place(t, s)];
+            let may = tables.sources[laws::place(t, s)];
             rows_scale(
                 own,
                 s,
@@ -427,7 +420,7 @@ fn scale_of(tables: &Tables, own: Own, t: u8, way: Way, j: usize) -> Scale
         }
         Way::Columns => {
             let s = lines.columnslot[j];
-            let may = tables.sources[place(t, s)];
+            let may = tables.sources[laws::place(t, s)];
             columns_scale(
                 own,
                 s,
@@ -439,7 +432,7 @@ fn scale_of(tables: &Tables, own: Own, t: u8, way: Way, j: usize) -> Scale
         }
         Way::There => {
             let s = lines.mirrorright[j];
-            let may = tables.sources[place(t, s)];
+            let may = tables.sources[laws::place(t, s)];
             mirror_scale(
                 own,
                 s,
@@ -451,7 +444,7 @@ fn scale_of(tables: &Tables, own: Own, t: u8, way: Way, j: usize) -> Scale
         }
         Way::Back => {
             let s = lines.mirrorleft[j];
-            let may = tables.sources[place(t, s)];
+            let may = tables.sources[laws::place(t, s)];
             mirror_scale(
                 own,
                 s,
@@ -469,20 +462,19 @@ fn scale_of(tables: &Tables, own: Own, t: u8, way: Way, j: usize) -> Scale
 pub fn weigh(
     tables: &Tables,
     q: Query,
-    types: [u8; 8],
+    types: Types,
     k: u8,
     free: u32,
     way: Way,
     j: usize,
-) -> Shortage
-    requires { Sane q × (q.seeds ≤ k) × (k ≤ 8) × ((o : ℕ) → get_or types o 0 < 24) }
-    ensures { Short tables.now.targets tables.now.lows tables.now.highs tables.now.lines q types k free result }
+) -> Option<Shortage>
+    requires { Sane q × (q.seeds ≤ k) × (k ≤ 8) }
+    ensures { Short tables.now.targets tables.now.lows tables.now.highs tables.now.lines q types.at k free result }
 {
     if k == 0 {
-        return Shortage { g: 0, c: 0 };
+        return None;
     }
-    let own = Own {
-        asked: 0 < q.seeds,
+    let own = (0 < q.seeds).then_some(Own {
         row: q.row,
         low: q.low,
         high: q.high,
@@ -490,7 +482,7 @@ pub fn weigh(
         from: q.from,
         least: q.least,
         most: q.most,
-    };
-    let x = scale_of(tables, own, types[0], way, j % 16);
+    });
+    let x = scale_of(tables, own, types.at[0], way, j % 16);
     lacking(tables, x, types, k, free)
 }

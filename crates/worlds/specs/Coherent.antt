@@ -11,6 +11,10 @@ pub record Slotted (x : Lines) : Type 0 where
   pub left : (j : ℕ) → j < 16 → get_or x.mirrorleft j 0 < 32
   pub whole : (j : ℕ) → j < 16 → get_or x.wholeslot j 0 < 32
 
+-- types are numbers of types: a diagram has at most 24
+abbrev pub SmallTypes : List ℕ → Type 0
+SmallTypes types = (o : ℕ) → get_or types o 0 < 24
+
 -- the table of sources is the table of targets, turned: t may have u as a target in slot s
 pub record SourceTable (targets sources : List ℕ) : Type 0 where
   pub at : (t s u : ℕ) → t < 24 → s < 32 → u < 24 → bit t (get_or sources (u * 32 + s) 0) ≡ bit u (get_or targets (t * 32 + s) 0)

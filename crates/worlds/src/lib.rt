@@ -1,9 +1,11 @@
 // What the search by types works on: a query, tables by types, and what it finds.
 #![tactic(auto)]
 
-ghost use Rattle.worlds.specs.Coherent.{Slotted, SourceTable};
+ghost use Rattle.worlds.specs.Coherent.{Slotted, SmallTypes, SourceTable};
 
-// A question about the sites that one diagram allows. Its seeds are the first objects.
+// A question about the sites that one diagram allows. Its seeds are the first objects. It is built one demand after the other, so that what
+// makes it sane is asked where it is used. The limits of the first seed have numbers also where there is no seed or no limit: the search takes
+// the larger or the smaller of these and of the tables'.
 #[derive(Clone, Copy)]
 pub struct Query {
     // How many objects are asked for, and of which types each may be, one bit for each type.
@@ -25,7 +27,9 @@ pub struct Query {
     pub never: u32,
 }
 
-// What a diagram asks by associations, in sets of types. Of association j, where it does not ask, the sets are empty and the slot is 0.
+// What a diagram asks by associations, in sets of types. Of association j, where it does not ask, the sets are empty and the slot is 0. Each
+// field is an array of its own, as the search reads one or two fields of all associations. That the slots are role slots is not said here:
+// it is known of the lines of the diagram whose sites are searched, and not asked of others.
 #[derive(Clone, Copy)]
 pub struct Lines {
     // Rule 7: how many sources a target has.
@@ -75,6 +79,14 @@ pub struct Others {
     pub singles: u32,
     // Exactly one object has a type that there is not.
     pub missing: bool,
+}
+
+// The types of objects that a search has chosen.
+#[derive(Clone, Copy)]
+pub struct Types {
+    pub at: [u8; 8],
+    // They are numbers of types, also past the objects.
+    ghost small: { SmallTypes at },
 }
 
 // A site that was found: the types of its objects, and their links as in a record.

@@ -1,6 +1,6 @@
 -- What writing a record into a buffer gives.
 -- Assumes nothing.
-use Rattle.std.specs.Prelude.{ℕ, Bool, false, true, List, ◌≡◌, leb, length}
+use Rattle.std.specs.Prelude.{ℕ, Bool, false, true, List, ◌≡◌, leb, length, Option, None, Some}
 use Rattle.laws.specs.Connective.{both}
 use Rattle.laws.specs.Lists.{over}
 use Rattle.files.specs.Diagram.{Diagram}
@@ -19,8 +19,8 @@ pub record Writes (x : Record) (before : List ℕ) (n : ℕ) (after : List ℕ) 
 unfoldable pub writable : Diagram → MemoryRecord → ℕ → Bool
 writable d m room = both (leb 59300 room) (within d m)
 
--- For every record in memory and every buffer: the file of what m stands for where it can be written; else 0, which is no file's
--- length, and the buffer as it came.
-pub record WritesWithin (d : Diagram) (m : MemoryRecord) (before : List ℕ) (n : ℕ) (after : List ℕ) : Type 0 where
-  pub written : writable d m (length before) ≡ true → Writes (record_of d m) before n after
-  pub refused : writable d m (length before) ≡ false → (n ≡ 0) × (after ≡ before)
+-- For every record in memory and every buffer: the length of the file of what m stands for, which is at the front, where it can be
+-- written; else none, and the buffer as it came.
+abbrev pub WritesWithin : Diagram → MemoryRecord → List ℕ → Option ℕ → List ℕ → Type 0
+WritesWithin d m before (Some n) after = (writable d m (length before) ≡ true) × Writes (record_of d m) before n after
+WritesWithin d m before None after = (writable d m (length before) ≡ false) × (after ≡ before)

@@ -1,5 +1,5 @@
 use borrow.Author.Tests.{eq-eqb, ne_eqb}
-use Rattle.bench.specs.View.{pick}
+use Rattle.bench.specs.Parts.{pick}
 use Rattle.bench.proofs.place_of.Goals as goal
 
 pub returns-then-p-eq0 : goal.returns-then-p-eq0

@@ -4,6 +4,3 @@ use Rattle.cases.proofs.run_compile.Goals as goal
 
 pub slice_bounds-read_diagram-end-2 : goal.slice_bounds-read_diagram-end-2
 slice_bounds-read_diagram-end-2 c = sym (length-take-le _ _ c.decode-n.ensures)
-
-pub compile-c-requires : goal.compile-c-requires
-compile-c-requires c = c.in-Ok.ensures.held

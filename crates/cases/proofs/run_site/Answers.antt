@@ -7,6 +7,3 @@ slice_bounds-read_diagram-end-2 c = sym (length-take-le _ _ c.decode-n.ensures)
 
 pub slice_bounds-reply-end-in-Ok : goal.slice_bounds-reply-end-in-Ok
 slice_bounds-reply-end-in-Ok c = sym (length-take-le _ _ c.decode-k.ensures)
-
-pub reply-requires : goal.reply-requires
-reply-requires c = c.in-Ok.ensures.held

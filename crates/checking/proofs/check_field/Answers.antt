@@ -1,23 +1,25 @@
+use mathlib.Core.Path.{sym, ◌∙◌}
+use Rattle.laws.specs.Connective.{refuse}
 use Rattle.laws.proofs.SearchLaws.{choice}
 use Rattle.checking.specs.Progress.{field_no}
 use Rattle.checking.proofs.check_field.Goals as goal
 
-pub returns-then-misplaced : goal.returns-then-misplaced
+pub returns-then-is_misplaced : goal.returns-then-is_misplaced
 unfolding field_no
-returns-then-misplaced c = search choice depth 8 fits 20000
+returns-then-is_misplaced c = search choice depth 8 fits 20000
 
-pub returns-then-tag-eq96 : goal.returns-then-tag-eq96
+pub returns-in-96 : goal.returns-in-96
 unfolding field_no
-returns-then-tag-eq96 c = search choice depth 8 fits 20000
+returns-in-96 c = search choice depth 8 fits 20000
 
-pub returns-then-tag-eq97 : goal.returns-then-tag-eq97
-unfolding field_no
-returns-then-tag-eq97 c = search choice depth 8 fits 20000
+pub returns-in-97 : goal.returns-in-97
+unfolding field_no refuse
+returns-in-97 c = rw (sym c.is_misplaced.ensures ∙ c.if-is_misplaced.false, c.in-97.is) c.check_object.ensures
 
-pub returns-then-tag-eq98 : goal.returns-then-tag-eq98
-unfolding field_no
-returns-then-tag-eq98 c = search choice depth 8 fits 20000
+pub returns-in-98 : goal.returns-in-98
+unfolding field_no refuse
+returns-in-98 c = rw (sym c.is_misplaced.ensures ∙ c.if-is_misplaced.false, c.in-98.is) c.check_value.ensures
 
-pub returns : goal.returns
+pub returns-in_default : goal.returns-in_default
 unfolding field_no
-returns c = search choice depth 8 fits 20000
+returns-in_default c = search choice depth 8 fits 20000

@@ -13,29 +13,29 @@ use Rattle.clashes.specs.Refuted.{BitsKept, TargetsKept}
 use Rattle.clashes.proofs.SolutionLaws.{bits-kept, first-column, nowhere-by, sources-kept}
 use Rattle.clashes.proofs.is_implied.Goals as goal
 
-pub returns-then-seeds-eq0 : goal.returns-then-seeds-eq0
-returns-then-seeds-eq0 c =
+pub returns-then-q-eq0 : goal.returns-then-q-eq0
+returns-then-q-eq0 c =
     λ e. absurd (false≢true e)
 
 pub returns-then-is_bad_bit : goal.returns-then-is_bad_bit
 returns-then-is_bad_bit c =
     let a = c.args in
     let x = sheet_of a.tables.now in
-    λ _. nowhere-by x a.q a.n a.types a.q.never (λ w. BitsKept a.q.must a.q.shut w × TargetsKept a.tables.now.targets w)
+    λ _. nowhere-by x a.q a.n a.types.at a.q.never (λ w. BitsKept a.q.must a.q.shut w × TargetsKept a.tables.now.targets w)
     (λ w s. (bits-kept x a.q a.n w s, record { at = s.allowed.rows.allowed })) (c.is_bad_bit.ensures c.if-is_bad_bit.true)
 
 pub returns-then-is_bad_turn : goal.returns-then-is_bad_turn
 returns-then-is_bad_turn c =
     let a = c.args in
     let x = sheet_of a.tables.now in
-    λ _. nowhere-by x a.q a.n a.types a.q.never (λ w. BitsKept a.q.must a.q.shut w × MirrorsKept a.tables.now.lines w)
+    λ _. nowhere-by x a.q a.n a.types.at a.q.never (λ w. BitsKept a.q.must a.q.shut w × MirrorsKept a.tables.now.lines w)
     (λ w s. (bits-kept x a.q a.n w s, s.allowed.mirrors)) (c.is_bad_turn.ensures c.if-is_bad_turn.true)
 
 pub returns-then-is_bad_part : goal.returns-then-is_bad_part
 returns-then-is_bad_part c =
     let a = c.args in
     let x = sheet_of a.tables.now in
-    λ _. nowhere-by x a.q a.n a.types a.q.never (λ w. BitsKept a.q.must a.q.shut w × WholesKept a.tables.now.lines w)
+    λ _. nowhere-by x a.q a.n a.types.at a.q.never (λ w. BitsKept a.q.must a.q.shut w × WholesKept a.tables.now.lines w)
     (λ w s. (bits-kept x a.q a.n w s, s.allowed.wholes)) (c.is_bad_part.ensures c.if-is_bad_part.true a.q.shut)
 
 pub returns-then-is_bad_first_part : goal.returns-then-is_bad_first_part
@@ -43,46 +43,46 @@ returns-then-is_bad_first_part c =
     let a = c.args in
     let x = sheet_of a.tables.now in
     -- there is a first seed
-    let seeded : 0 < a.q.seeds = (let z : a.q.seeds ≡ 0 → ⊥ = c.if-seeds-eq0.false in omega arith) in
-    λ _. nowhere-by x a.q a.n a.types a.q.never
+    let seeded : 0 < a.q.seeds = (let z : a.q.seeds ≡ 0 → ⊥ = c.if-q-eq0.false in omega arith) in
+    λ _. nowhere-by x a.q a.n a.types.at a.q.never
     (λ w. (RowsKept a.tables.now.targets a.tables.now.lows a.tables.now.highs w × InLimits a.q.low a.q.high (target_count w a.q.row 0)) × (MirrorsKept a.tables.now.lines w × WholesKept a.tables.now.lines w))
     (λ w s. ((s.allowed.rows, s.asked.row seeded), (s.allowed.mirrors, s.allowed.wholes)))
     (c.is_bad_first_part.ensures c.if-is_bad_first_part.true a.tables.now.lows a.tables.now.highs a.q.high a.q.seeds seeded)
 
 pub is_bad_first_back-requires : goal.is_bad_first_back-requires
-is_bad_first_back-requires c = (c.requires.0.row, c.requires.2)
+is_bad_first_back-requires c = c.requires.0.row
 
 pub returns-then-is_bad_first_back : goal.returns-then-is_bad_first_back
 returns-then-is_bad_first_back c =
     let a = c.args in
     let x = sheet_of a.tables.now in
     -- there is a first seed
-    let seeded : 0 < a.q.seeds = (let z : a.q.seeds ≡ 0 → ⊥ = c.if-seeds-eq0.false in omega arith) in
-    λ _. nowhere-by x a.q a.n a.types a.q.never
+    let seeded : 0 < a.q.seeds = (let z : a.q.seeds ≡ 0 → ⊥ = c.if-q-eq0.false in omega arith) in
+    λ _. nowhere-by x a.q a.n a.types.at a.q.never
     (λ w. (RowsKept a.tables.now.targets a.tables.now.lows a.tables.now.highs w × InLimits a.q.low a.q.high (target_count w a.q.row 0)) × (SourcesKept a.tables.now.sources w × ColumnsKept a.tables.now.lines w × MirrorsKept a.tables.now.lines w))
     (λ w s. ((s.allowed.rows, s.asked.row seeded), (sources-kept x a.q a.n a.tables.now.sources c.args.tables.now.turned w s, s.allowed.columns, s.allowed.mirrors)))
     (c.is_bad_first_back.ensures c.if-is_bad_first_back.true a.tables.now.lows a.tables.now.highs a.q.seeds seeded)
 
 pub is_bad_first_row-requires : goal.is_bad_first_row-requires
-is_bad_first_row-requires c = (c.requires.0.row, c.requires.2)
+is_bad_first_row-requires c = c.requires.0.row
 
 pub returns-then-is_bad_first_row : goal.returns-then-is_bad_first_row
 returns-then-is_bad_first_row c =
     let a = c.args in
     let x = sheet_of a.tables.now in
     -- there is a first seed
-    let seeded : 0 < a.q.seeds = (let z : a.q.seeds ≡ 0 → ⊥ = c.if-seeds-eq0.false in omega arith) in
-    λ _. nowhere-by x a.q a.n a.types a.q.never (λ w. RowsKept a.tables.now.targets a.tables.now.lows a.tables.now.highs w × InLimits a.q.low a.q.high (target_count w a.q.row 0))
+    let seeded : 0 < a.q.seeds = (let z : a.q.seeds ≡ 0 → ⊥ = c.if-q-eq0.false in omega arith) in
+    λ _. nowhere-by x a.q a.n a.types.at a.q.never (λ w. RowsKept a.tables.now.targets a.tables.now.lows a.tables.now.highs w × InLimits a.q.low a.q.high (target_count w a.q.row 0))
     (λ w s. (s.allowed.rows, s.asked.row seeded)) (c.is_bad_first_row.ensures c.if-is_bad_first_row.true a.tables.now.targets a.q.seeds seeded)
 
 pub is_bad_first_column-requires : goal.is_bad_first_column-requires
-is_bad_first_column-requires c = (c.requires.0.column, c.requires.2)
+is_bad_first_column-requires c = c.requires.0.column
 
 pub returns : goal.returns
 returns c =
     let a = c.args in
     let x = sheet_of a.tables.now in
     -- there is a first seed
-    let seeded : 0 < a.q.seeds = (let z : a.q.seeds ≡ 0 → ⊥ = c.if-seeds-eq0.false in omega arith) in
-    λ t. nowhere-by x a.q a.n a.types a.q.never (FirstColumn a.tables.now.targets a.tables.now.sources a.tables.now.lows a.tables.now.highs a.tables.now.lines a.q.column a.q.from a.q.least a.q.most)
+    let seeded : 0 < a.q.seeds = (let z : a.q.seeds ≡ 0 → ⊥ = c.if-q-eq0.false in omega arith) in
+    λ t. nowhere-by x a.q a.n a.types.at a.q.never (FirstColumn a.tables.now.targets a.tables.now.sources a.tables.now.lows a.tables.now.highs a.tables.now.lines a.q.column a.q.from a.q.least a.q.most)
     (first-column x a.q a.n a.tables.now.sources c.args.tables.now.turned seeded) (c.is_bad_first_column.ensures t a.q.seeds seeded)

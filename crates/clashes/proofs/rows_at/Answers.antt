@@ -9,6 +9,6 @@ use Rattle.clashes.proofs.rows_at.Goals as goal
 pub returns : goal.returns
 returns c =
     let a = c.args in
-    let e : c.from-2.result ≡ get_or a.types.now a.o 0 = c.from-2.ensures ∙ ap (λ (i : ℕ). get_or a.types.now i 0) c.from.ensures in
-    let f = c.requires.1 a.o in
+    let e : c.from-2.result ≡ get_or a.types.now.at a.o 0 = c.from-2.ensures ∙ ap (λ (i : ℕ). get_or a.types.now.at i 0) c.from.ensures in
+    let f = c.args.types.now.small a.o in
     (omega arith, omega arith)

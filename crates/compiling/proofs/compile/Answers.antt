@@ -5,9 +5,9 @@ use Rattle.compiling.proofs.GatherLaws.{compiled-number}
 use Rattle.compiling.proofs.compile.Goals as goal
 
 pub list_bytes-list-requires : goal.list_bytes-list-requires
-list_bytes-list-requires c = compiled-small c.args.d c.compile_entries-e.result c.requires c.compile_entries-e.ensures
+list_bytes-list-requires c = compiled-small c.args.d.stored c.compile_entries-e.result c.args.d.held c.compile_entries-e.ensures
 
 pub returns : goal.returns
-returns c = let d = c.args.d in
+returns c = let d = c.args.d.stored in
     let e = c.compile_entries-e in
     record { number = compiled-number d e.result e.ensures; list = c.list_bytes-list.ensures ∙ compiled-bytes d e.result e.ensures }

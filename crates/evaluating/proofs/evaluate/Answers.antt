@@ -6,7 +6,7 @@ pub returns-in_err-check_record : goal.returns-in_err-check_record
 returns-in_err-check_record c = file-refused _ _ _ _ c.in_err-check_record.ensures c.from_residual.ensures.1
 
 pub first_false-requires : goal.first_false-requires
-first_false-requires c = (c.requires, file-coded c.requires c.resolve.ensures c.in_ok-check_record.ensures)
+first_false-requires c = (file-coded c.args.d.held c.resolve.ensures c.in_ok-check_record.ensures).few
 
 pub returns : goal.returns
-returns c = file-evaluated c.requires c.resolve.ensures c.in_ok-check_record.ensures c.first_false.ensures
+returns c = file-evaluated c.args.d.held c.resolve.ensures c.in_ok-check_record.ensures c.first_false.ensures

@@ -1,7 +1,6 @@
 use Rattle.field_writers.proofs.PutLaws.{put-sets, put_as, put_next, put_copy}
 use Rattle.files.specs.Content.{name_bytes}
 use native.Mathlib.Omega.{arith}
-use lib.ListN.{length}
 use mathlib.Core.Path.{ap}
 use mathlib.Core.List.{List, [], ◌∷◌}
 use Prim.Native.Nat.{ℕ, ◌+◌}
@@ -13,7 +12,7 @@ unfolding name_bytes
 returns c =
     let a = c.args in
     let k = c.copy-m in
-    let xs : List ℕ = length a.w.now ∷ [] in (
+    let xs : List ℕ = c.narrow.result ∷ [] in (
       ap (λ (m : ℕ). 1 + m) k.ensures.0,
-      put_as (put_next (put-sets xs a.out.now (search rules)) (put_copy a.w.now _ _ _ k.ensures.0 k.ensures.1) (omega (arith, k.ensures.0))) (name_bytes a.w.now) (cc),
+      put_as (put_next (put-sets xs a.out.now (search rules)) (put_copy a.w.now _ _ _ k.ensures.0 k.ensures.1) (omega (arith, k.ensures.0))) (name_bytes a.w.now) (let e = c.narrow.ensures in cc),
     )

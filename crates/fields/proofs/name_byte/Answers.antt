@@ -1,7 +1,5 @@
-use Rattle.laws.specs.Connective.{both, either}
-use Rattle.files.specs.Name.{name_byte}
+use Rattle.fields.proofs.NameLaws.{name-byte}
 use Rattle.fields.proofs.name_byte.Goals as goal
 
 pub returns : goal.returns
-unfolding name_byte both either
-returns c = cc
+returns c = name-byte c.args.b c.is_ascii_alphanumeric.ensures.value

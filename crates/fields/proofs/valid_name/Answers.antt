@@ -1,21 +1,12 @@
-use Rattle.fields.proofs.NameLaws.{name-empty, name-long, name-by-bytes}
-use Rattle.laws.proofs.LoopLaws.{each}
+use Rattle.files.specs.Name.{name_byte}
+use Rattle.fields.proofs.NameLaws.{name-size, name-by-bytes}
+use Rattle.laws.proofs.SliceLaws.{all-slice}
+use borrow.Author.Rules.{rules}
+use borrow.Author.Tests.{tests}
 use Rattle.fields.proofs.valid_name.Goals as goal
 
-pub returns-then-w-lt1 : goal.returns-then-w-lt1
-returns-then-w-lt1 c = search (name-empty)
+pub returns-then-w : goal.returns-then-w
+returns-then-w c = name-by-bytes c.args.w.now c.if-w.true (all-slice name_byte c.args.w.now c.all.ensures.ran c.iter.ensures.rest (λ x b q k. search (rules, tests)))
 
-pub returns-then-w-gt16 : goal.returns-then-w-gt16
-returns-then-w-gt16 c = search (name-long)
-
-pub loop-b-init : goal.loop-b-init
-loop-b-init c = search each
-
-pub returns-then-not-name_byte : goal.returns-then-not-name_byte
-returns-then-not-name_byte c = search (each, name-by-bytes)
-
-pub loop-b-preserved : goal.loop-b-preserved
-loop-b-preserved c = search each
-
-pub returns : goal.returns
-returns c = search (each, name-by-bytes)
+pub returns-else-w : goal.returns-else-w
+returns-else-w c = name-size c.args.w.now c.if-w.false

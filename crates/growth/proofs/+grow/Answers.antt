@@ -27,17 +27,17 @@ loop-t-preserved t c =
     let u = c.loop-t.t in
     let f = c.loop-t.f in
     let small : u < 24 = search rules in
-    let sized : length a.types ≡ 8 = search rules in
+    let sized : length a.types.at ≡ 8 = search rules in
     -- a place is spare
     let spare : a.k < a.n = omega (arith, c.requires.2, c.if-k-n.false) in
-    let room : a.k < length a.types = omega (arith, sized, spare, c.requires.3) in
+    let room : a.k < length a.types.at = omega (arith, sized, spare, c.requires.3) in
     let fresh = ap₂ (λ (x y : Bool). x && not y) c.has.ensures c.has-in-loop-t.ensures in
     elim c.if-has.branch [
-      | then-has+in_default w ↦ subst (Tried S 24 a.types a.k a.forb a.n g (u + 1)) (sym w.f-is)
-          (tried-call S 24 a.types a.k a.forb a.n g u f w.with-f.result small room
+      | then-has+in_default w ↦ subst (Tried S 24 a.types.at a.k a.forb a.n g (u + 1)) (sym w.f-is)
+          (tried-call S 24 a.types.at a.k a.forb a.n g u f w.with-f.result small room
           (blind-later S a.q.seeds a.k c.requires.1 (blind-solution _ a.q a.n c.requires.0))
           (and_left (bit u g) (not (bit u f)) (sym fresh ∙ w.if-has.true)) c.loop-t.invariant
           ((rw w.put.ensures at w.in_default.ensures).complete refl) w.with-f.ensures)
-      | else-has w ↦ subst (Tried S 24 a.types a.k a.forb a.n g (u + 1)) (sym w.f-is)
-          (tried-skip S 24 a.types a.k a.forb a.n g u f small (passed_over u g f (sym fresh ∙ w.if-has.false)) c.loop-t.invariant)
+      | else-has w ↦ subst (Tried S 24 a.types.at a.k a.forb a.n g (u + 1)) (sym w.f-is)
+          (tried-skip S 24 a.types.at a.k a.forb a.n g u f small (passed_over u g f (sym fresh ∙ w.if-has.false)) c.loop-t.invariant)
     ]

@@ -10,4 +10,4 @@ decreases-grow l = l.n - l.k
 
 abbrev pub invariant-loop-t : goal.invariant-loop-t
 invariant-loop-t l =
-    Tried (Solution (sheet_of l.tables) l.q l.n) 24 l.types l.k l.forb l.n l.g l.t l.f
+    Tried (Solution (sheet_of l.tables) l.q l.n) 24 l.types.at l.k l.forb l.n l.g l.t l.f

@@ -14,8 +14,8 @@ returns-then-k-q t c = grown-seeded _ _ _ _ _ _ _ c.if-k-q.true c.grow.ensures
 pub returns-in-Some : goal.returns-in-Some
 returns-in-Some t c =
     let a = c.args in
-    let sized : length a.types ≡ 8 = search rules in
+    let sized : length a.types.at ≡ 8 = search rules in
     -- object k is a seed
     let among : a.k < a.q.seeds = omega (arith, c.requires.1, c.if-k-q.false) in
-    let room : a.k < length a.types = omega (arith, sized, among, c.requires.2, c.requires.3) in
+    let room : a.k < length a.types.at = omega (arith, sized, among, c.requires.2, c.requires.3) in
     grown-chosen _ _ _ _ _ c.loop-t.t _ _ room (rw c.put.ensures at c.in-Some.ensures) refl

@@ -8,4 +8,4 @@ abbrev pub decreases-seed : goal.decreases-seed
 decreases-seed l = l.q.seeds - l.k
 
 abbrev pub invariant-loop-t : goal.invariant-loop-t
-invariant-loop-t l = Passed (sheet_of l.tables) l.q l.types l.k l.n l.t
+invariant-loop-t l = Passed (sheet_of l.tables) l.q l.types.at l.k l.n l.t

@@ -2,7 +2,6 @@
 -- Assumes nothing.
 use mathlib.Core.Path.{refl}
 use native.Mathlib.Omega.{arith}
-use Rattle.growth.proofs.FullLaws.{small-zeros}
 use Rattle.growth.proofs.SeedLaws.{answers-few, answers-grown}
 use Rattle.growth.proofs.find.Goals as goal
 
@@ -12,7 +11,7 @@ returns-then-n-q c = answers-few _ _ _ _ _ c.if-n-q.true refl
 pub seed-requires : goal.seed-requires
 seed-requires c =
     let p = c.requires in
-    (p.0, omega arith, c.if-n-q.false, p.1, small-zeros 8)
+    (p.0, omega arith, c.if-n-q.false, p.1)
 
 pub returns : goal.returns
 returns c = answers-grown _ _ _ _ _ _ c.seed.ensures

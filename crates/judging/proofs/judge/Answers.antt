@@ -5,7 +5,7 @@ pub returns-in_err-check_record : goal.returns-in_err-check_record
 returns-in_err-check_record c = file-refused _ _ _ _ c.in_err-check_record.ensures c.from_residual.ensures.1
 
 pub lowest_broken-requires : goal.lowest_broken-requires
-lowest_broken-requires c = (c.requires, file-coded c.requires c.resolve.ensures c.in_ok-check_record.ensures)
+lowest_broken-requires c = file-coded c.args.d.held c.resolve.ensures c.in_ok-check_record.ensures
 
 pub returns : goal.returns
-returns c = file-judged c.requires c.resolve.ensures c.in_ok-check_record.ensures c.lowest_broken.ensures
+returns c = file-judged c.args.d.held c.resolve.ensures c.in_ok-check_record.ensures c.lowest_broken.ensures

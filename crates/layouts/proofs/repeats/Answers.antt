@@ -1,11 +1,11 @@
-use Rattle.laws.proofs.LoopLaws.{each}
+use borrow.Author.Rules.{rules}
+use borrow.Author.Tests.{tests}
+use mathlib.Core.Path.{refl}
+use Rattle.laws.proofs.RangeLaws.{any-range}
+use Rattle.files.specs.Name.{same_name}
+use Rattle.layouts.proofs.NamesLaws.{name_at}
 use Rattle.layouts.proofs.repeats.Goals as goal
 
-pub loop-j-init : goal.loop-j-init
-loop-j-init c = search each
-
-pub returns-then-same_names : goal.returns-then-same_names
-returns-then-same_names c = search each
-
-pub loop-j-preserved : goal.loop-j-preserved
-loop-j-preserved c = search each
+pub returns : goal.returns
+returns c =
+    any-range (λ j. same_name (name_at c.args.c.now j) (name_at c.args.c.now c.args.i)) c.args.i c.any.ensures.ran refl (λ x b q k. search (rules, tests))

@@ -1,3 +1,4 @@
+use mathlib.Core.Path.{refl}
 use Rattle.loading.proofs.ReaderLaws.{start-held, start-says, reply-empty, reply-accepted, reply-cut, reply-refused, field-on}
 use Rattle.loading.proofs.read_diagram.Goals as goal
 
@@ -13,12 +14,12 @@ returns-in_err-check_field c =
 
 pub loop-field-preserved : goal.loop-field-preserved
 loop-field-preserved c = (
-  c.with_field-d.ensures.held,
-  field-on _ _ _ _ c.loop-field.invariant.1 c.in-Some.field (rw c.in-Some.is at c.in_ok-field.ensures) _ c.in_ok-check_field.ensures c.with_field-d.ensures,
+  c.add_field.ensures.held,
+  field-on _ _ _ _ c.loop-field.invariant.1 c.in-Some.field (rw c.in-Some.is at c.in_ok-field.ensures) _ c.in_ok-check_field.ensures c.add_field.ensures,
 )
 
 pub returns-then-last-eq0 : goal.returns-then-last-eq0
 returns-then-last-eq0 c = reply-empty _ _ _ _ c.loop-field.invariant.1 (rw c.in_default.is at c.in_ok-field.ensures) c.if-last-eq0.true
 
 pub returns : goal.returns
-returns c = reply-accepted _ _ _ _ c.loop-field.invariant.1 c.loop-field.invariant.0 (rw c.in_default.is at c.in_ok-field.ensures) c.if-last-eq0.false
+returns c = reply-accepted _ _ _ _ c.loop-field.invariant.1 _ refl (rw c.in_default.is at c.in_ok-field.ensures) c.if-last-eq0.false

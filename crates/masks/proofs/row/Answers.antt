@@ -1,4 +1,5 @@
+use mathlib.Core.Path.{refl}
 use Rattle.masks.proofs.row.Goals as goal
 
 pub returns : goal.returns
-returns c = λ p. rw (c.from.ensures, c.from-2.ensures)
+returns c = λ p. rw c.place.ensures refl

@@ -1,15 +1,20 @@
-use Rattle.laws.proofs.LoopLaws.{each}
-use Rattle.name_lists.proofs.NamesLaws.{names-asked}
+use lib.ListN.{get_or}
+use mathlib.Core.List.{[]}
+use mathlib.Core.Path.{◌∙◌, ap, sym}
+use Rattle.fields.specs.Slot.{slot_name, slot_of}
+use Rattle.files.specs.Name.{Name, same_name}
+use Rattle.laws.proofs.FirstLaws.{first-ext}
+use Rattle.name_lists.specs.Names.{names_in}
+use Rattle.name_lists.proofs.NamesLaws.{names_at}
 use Rattle.name_lists.proofs.find_name.Goals as goal
 
-pub loop-i-init : goal.loop-i-init
-loop-i-init c = search each
-
-pub returns-then-same_name : goal.returns-then-same_name
-returns-then-same_name c = search (each, names-asked)
-
-pub loop-i-preserved : goal.loop-i-preserved
-loop-i-preserved c = search (each, names-asked)
-
 pub returns : goal.returns
-returns c = search each
+unfolding slot_of
+returns c =
+    let n = c.args.n in
+    let w = c.args.w.now in (
+      c.from.ensures ∙ c.slot_of.ensures.0
+          ∙ first-ext (λ i. same_name (slot_name n.names i) w) (λ i. same_name (get_or (names_in n) i []) w) n.count
+          (λ i h. ap (λ (x : Name). same_name x w) (sym (names_at n i h))),
+      rw c.from.ensures c.slot_of.ensures.1,
+    )

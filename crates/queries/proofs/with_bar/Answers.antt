@@ -1,8 +1,7 @@
--- `with_bar` meets its contract: the query is the definition's, field by field.
--- Assumes nothing.
-use Rattle.queries.specs.Forms.{barred, with_bit}
+use mathlib.Core.Path.{refl}
+use Rattle.queries.specs.Forms.{barred}
 use Rattle.queries.proofs.with_bar.Goals as goal
 
 pub returns : goal.returns
-unfolding barred with_bit
-returns c = rw (c.from.ensures, c.from-2.ensures)
+unfolding barred
+returns c = rw c.with_bit.ensures refl

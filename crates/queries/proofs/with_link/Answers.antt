@@ -1,8 +1,7 @@
--- `with_link` meets its contract: the query is the definition's, field by field.
--- Assumes nothing.
-use Rattle.queries.specs.Forms.{linked, with_bit}
+use mathlib.Core.Path.{refl}
+use Rattle.queries.specs.Forms.{linked}
 use Rattle.queries.proofs.with_link.Goals as goal
 
 pub returns : goal.returns
-unfolding linked with_bit
-returns c = rw (c.from.ensures, c.from-2.ensures)
+unfolding linked
+returns c = rw c.with_bit.ensures refl

@@ -1,14 +1,10 @@
-use Rattle.laws.proofs.LoopLaws.{each}
+use borrow.Author.Rules.{rules}
+use borrow.Author.Tests.{tests}
+use mathlib.Core.Path.{refl}
+use Rattle.laws.proofs.RangeLaws.{any-range}
+use Rattle.files.specs.Name.{same_name}
+use Rattle.fields.specs.Slot.{slot_name}
 use Rattle.refusing.proofs.is_named.Goals as goal
 
-pub loop-i-init : goal.loop-i-init
-loop-i-init c = search each
-
-pub returns-then-slot_is : goal.returns-then-slot_is
-returns-then-slot_is c = search each
-
-pub loop-i-preserved : goal.loop-i-preserved
-loop-i-preserved c = search each
-
 pub returns : goal.returns
-returns c = search each
+returns c = any-range (λ i. same_name (slot_name c.args.names.now i) c.args.w.now) c.args.n c.any.ensures.ran refl (λ x b q k. search (rules, tests))

@@ -16,10 +16,9 @@ use Rattle.relaxing.proofs.is_stuck.Goals as goal
 
 pub ends-requires : goal.ends-requires
 ends-requires c = (
-  subst Slotted (sym c.without_lows.ensures) (slotted-unforced c.args.tables.now.lines c.args.tables.now.slotted),
-  subst Sane (sym c.without_least.ensures) (sane-freed c.args.q c.requires.0),
-  c.requires.0.few,
-  c.requires.1,
+  subst Slotted (sym c.without_lows.ensures) (slotted-unforced c.args.lines.now c.requires.0),
+  subst Sane (sym c.without_least.ensures) (sane-freed c.args.q c.requires.1),
+  c.requires.1.few,
 )
 
 pub returns : goal.returns
@@ -27,7 +26,7 @@ returns c =
     let a = c.args in
     let m = world_built a.q.seeds c.ends.result in
     let ok = is_some c.ends.result in
-    λ t singles n lows. stuck (sheet a.tables.now.usable singles a.tables.now.targets lows a.tables.now.highs a.tables.now.lines) a.q a.types m c.requires.0
-    (subst (λ (y : Lines). Ended (Solution (sheet a.tables.now.usable 0 a.tables.now.targets (replicate 768 0) a.tables.now.highs y) (freed a.q) a.q.seeds) a.types a.q.seeds false ok m) c.without_lows.ensures
-    (subst (λ (y : Query). Ended (Solution (sheet a.tables.now.usable 0 a.tables.now.targets (replicate 768 0) a.tables.now.highs c.without_lows.result) y a.q.seeds) a.types a.q.seeds false ok m) c.without_least.ensures c.ends.ensures))
+    λ t singles n lows. stuck (sheet a.usable singles a.targets.now lows a.highs.now a.lines.now) a.q a.types.at m c.requires.1
+    (subst (λ (y : Lines). Ended (Solution (sheet a.usable 0 a.targets.now (replicate 768 0) a.highs.now y) (freed a.q) a.q.seeds) a.types.at a.q.seeds false ok m) c.without_lows.ensures
+    (subst (λ (y : Query). Ended (Solution (sheet a.usable 0 a.targets.now (replicate 768 0) a.highs.now c.without_lows.result) y a.q.seeds) a.types.at a.q.seeds false ok m) c.without_least.ensures c.ends.ensures))
     (c.is_none.ensures ∙ ap not t) n

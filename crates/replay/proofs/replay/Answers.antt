@@ -6,13 +6,13 @@ use Rattle.replay.proofs.GoingLaws.{begins, ends, goes_on, room_for}
 use Rattle.replay.proofs.replay.Goals as goal
 
 pub loop-t-init : goal.loop-t-init
-loop-t-init c = begins _ _ _ c.fresh-b.ensures.0 c.fresh-b.ensures.1
+loop-t-init c = begins _ _ _ c.fresh-b.ensures
 
 pub overflow_add-at : goal.overflow_add-at
 overflow_add-at c =
     let l = c.loop-t in
     let a = c.args in
-    let h = room_for a.calls.now a.replies.now l.replies l.b l.rest.now l.at l.invariant _ c.in-Some.t c.in-Some.ensures in
+    let h = room_for a.calls.now a.replies.now l.replies l.b l.rest.now l.at l.invariant _ c.in-Some.t _ c.in-Some.ensures in
     record { fits = omega (arith, h) }
 
 pub loop-t-smaller : goal.loop-t-smaller
@@ -24,7 +24,7 @@ pub loop-t-preserved : goal.loop-t-preserved
 loop-t-preserved c =
     let l = c.loop-t in
     let a = c.args in
-    goes_on a.calls.now a.replies.now l.replies l.b l.rest.now l.at l.invariant _ c.in-Some.t c.in-Some.ensures
+    goes_on a.calls.now a.replies.now l.replies l.b l.rest.now l.at l.invariant _ c.in-Some.t _ c.in-Some.ensures
     (search rules) _ c.past-rest.ensures
 
 pub returns : goal.returns

@@ -1,14 +1,17 @@
-use Rattle.laws.proofs.LoopLaws.{each}
+use borrow.Author.Rules.{rules}
+use borrow.Author.Tests.{tests}
+use mathlib.Core.Path.{◌≡◌, refl, sym, subst, ◌∙◌}
+use Prim.Native.Nat.{ℕ, ◌≤◌}
+use Rattle.laws.specs.Bounded.{first}
+use Rattle.laws.proofs.FirstLaws.{first-le}
+use Rattle.laws.proofs.RangeLaws.{first-range}
+use Rattle.resolving.specs.Lookup.{is_code_in}
 use Rattle.resolving.proofs.code_of.Goals as goal
 
-pub loop-k-init : goal.loop-k-init
-loop-k-init c = search each
-
-pub returns-then-is_code : goal.returns-then-is_code
-returns-then-is_code c = search each
-
-pub loop-k-preserved : goal.loop-k-preserved
-loop-k-preserved c = search each
-
 pub returns : goal.returns
-returns c = search each
+returns c =
+    let v = c.args.v.now in
+    let p = is_code_in v.names v.sizes v.constants v.count c.args.t.now c.args.c.now in
+    let e : c.unwrap_or.result ≡ first p 96 =
+    c.unwrap_or.ensures ∙ first-range p 96 c.find.result c.find.new.self c.find.ensures.ran refl (λ x b q k. search (rules, tests)) in
+    (e, subst (λ (r : ℕ). r ≤ 96) (sym e) (first-le p 96))

@@ -1,4 +1,6 @@
 use Prim.Native.Nat.{◌<◌, ℕ}
+use mathlib.Core.Bool.{◌||◌}
+use lib.Dec.{eqb}
 use mathlib.Core.Path.{◌∙◌, ◌≡◌, ap, refl}
 use lib.ListN.{get_or}
 use native.Mathlib.Omega.{arith}
@@ -20,7 +22,7 @@ with-mask-requires c = let a = c.args in
 pub loop-i-preserved : goal.loop-i-preserved
 loop-i-preserved c = let a = c.args in
     let e = c.is_shown.ensures in elim c.if-is_shown.branch [
-      | then-is_shown w ↦ (λ j. ap (bit j) w.mask-is ∙ shown-hit a.images.now (λ i. bit i a.chosen) a.k c.loop-i.i c.loop-i.mask w.with-mask.result e refl w.if-is_shown.true w.from.ensures w.byte.ensures w.with-mask.ensures c.loop-i.invariant j)
+      | then-is_shown w ↦ (λ j. ap (bit j) w.mask-is ∙ shown-hit a.images.now (λ i. bit i a.chosen) a.k c.loop-i.i c.loop-i.mask w.with-mask.result e refl w.if-is_shown.true w.from.ensures w.byte.ensures (λ k. w.with-mask.ensures k ∙ ap (λ (m : ℕ). bit k c.loop-i.mask || eqb k m) w.from-then-is_shown.ensures) c.loop-i.invariant j)
       | else-is_shown w ↦ (λ j. ap (bit j) w.mask-is ∙ shown-miss a.images.now (λ i. bit i a.chosen) a.k c.loop-i.i c.loop-i.mask e refl w.if-is_shown.false c.loop-i.invariant j)
     ]
 

@@ -1,7 +1,17 @@
+use Prim.Native.Nat.{◌*◌, ℕ}
+use mathlib.Core.Path.{◌≡◌, subst}
+use Rattle.laws.specs.Bits.{bit}
+use Rattle.laws.specs.Bounded.{any}
+use Rattle.diagrams.specs.declared.Associations.{Associations}
+use Rattle.sheets.specs.MasksBy.{missing_in}
 use Rattle.sheets.proofs.TypeSetLaws.{missing-are}
 use Rattle.sheets.proofs.missing_links.Goals as goal
 
 pub returns : goal.returns
-returns c = let sets = c.ends_by in
-    let slots = c.slots_by in
-    missing-are c.args.old c.args.d c.requires.1 sets.result slots.result sets.ensures slots.ensures c.missing_of.result c.missing_of.ensures
+returns c =
+    let by = c.args.by.now in
+    let ends = c.of-ends in
+    let e = ends.result in
+    let r = c.missing_of.result in
+    missing-are by.old.now.stored by.new.now.stored by.new.now.held e.sets e.slots ends.ensures.sets ends.ensures.slots r
+    (subst (λ (x : Associations). (t : ℕ) → bit t r ≡ any (λ i. bit t (missing_in e.sets x.arrows e.slots x.lows i)) (x.count * 2)) ends.ensures.asked c.missing_of.ensures)

@@ -19,7 +19,7 @@ loop-x-preserved c = let l = c.loop-x in
     let a = c.args in (
       search rules,
       rw c.from.ensures
-          (set_more (λ (j v : ℕ). Marks (is_image a.images.now (is_subtype a.sets.now j) a.m) a.k v) l.r l.x c.subtypes_at-mask.result (omega arith) l.invariant.1 c.subtypes_at-mask.ensures),
+          (set_more (λ (j v : ℕ). Marks (is_image a.images.now (is_subtype a.sets.now j) a.m) a.k v) l.r l.x c.subtypes_at.result (omega arith) l.invariant.1 c.subtypes_at.ensures),
     )
 
 pub returns : goal.returns

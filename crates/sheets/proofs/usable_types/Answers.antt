@@ -2,4 +2,4 @@ use Rattle.sheets.proofs.TypeSetLaws.{usable-are}
 use Rattle.sheets.proofs.usable_types.Goals as goal
 
 pub returns : goal.returns
-returns c = usable-are c.args.old c.args.dues.now c.usable_of.result c.requires.1 c.usable_of.ensures
+returns c = let by = c.args.by.now in usable-are by.old.now.stored by.dues.now c.usable_of.result by.due c.usable_of.ensures

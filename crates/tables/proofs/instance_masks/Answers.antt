@@ -1,8 +1,5 @@
 use Rattle.tables.proofs.TableLaws.{instances-of}
 use Rattle.tables.proofs.instance_masks.Goals as goal
 
-pub masks_of-requires : goal.masks_of-requires
-masks_of-requires c = c.requires.0.counts.types
-
 pub returns : goal.returns
-returns c = instances-of c.args.d c.requires.0 c.args.m c.masks_of.result c.requires.1 c.masks_of.ensures
+returns c = instances-of c.args.d.stored c.args.d.held c.args.m c.masks.result c.requires c.masks.ensures

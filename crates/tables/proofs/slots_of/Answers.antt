@@ -1,6 +1,7 @@
 use native.Mathlib.Omega.{arith}
 use Prim.Native.Nat.{ℕ}
-use mathlib.Core.Path.{◌≡◌}
+use mathlib.Core.Path.{◌≡◌, ◌∙◌, ap}
+use Rattle.fields.specs.Slot.{slot_of}
 use borrow.Author.Count.{below_none}
 use Rattle.laws.proofs.ListLaws.{set_more}
 use Rattle.tables.specs.Numbers.{slot_at}
@@ -14,10 +15,12 @@ loop-i-init c = (
 )
 
 pub loop-i-preserved : goal.loop-i-preserved
+unfolding slot_at slot_of
 loop-i-preserved c = let l = c.loop-i in
     let a = c.args in (
       search rules,
-      rw c.from.ensures (set_more (λ (k v : ℕ). v ≡ slot_at a.names.now a.n k) l.slots l.i c.slot_at.result (omega arith) l.invariant.1 c.slot_at.ensures),
+      rw c.from.ensures (set_more (λ (k v : ℕ). v ≡ slot_at a.names.now a.n k) l.slots l.i c.slot_of.result (omega arith) l.invariant.1
+          (c.slot_of.ensures.0 ∙ ap (slot_of a.names.now a.n) c.slot_name.ensures)),
     )
 
 pub returns : goal.returns

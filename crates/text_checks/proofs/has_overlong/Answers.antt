@@ -1,16 +1,14 @@
-use Rattle.laws.proofs.LoopLaws.{any-begin}
-use Rattle.text_checks.proofs.OverlongLaws.{overlong-found, overlong-next, overlong-none}
-use borrow.Author.Rules.{rules}
+use Rattle.std.proofs.Common.{◌∙◌, ap, refl, rules}
+use Rattle.laws.specs.Bounded.{any}
+use Rattle.laws.proofs.RangeLaws.{any-range}
+use Rattle.text_checks.specs.Overlong.{has_overlong, overlong}
+use Rattle.text_checks.proofs.OutlineLaws.{test_at}
+use Rattle.text_checks.proofs.OverlongLaws.{overlong-at}
 use Rattle.text_checks.proofs.has_overlong.Goals as goal
 
-pub loop-k-init : goal.loop-k-init
-loop-k-init c = search (rules, any-begin)
-
-pub returns-then-constant_count-parent_count : goal.returns-then-constant_count-parent_count
-returns-then-constant_count-parent_count c = search (rules, overlong-found)
-
-pub loop-k-preserved : goal.loop-k-preserved
-loop-k-preserved c = search (rules, overlong-next)
-
 pub returns : goal.returns
-returns c = search (rules, overlong-none)
+unfolding has_overlong
+returns c =
+    let o = c.args.o.now.outline.now in
+    let p = test_at overlong o.body.now in
+    any-range p _ c.any.ensures.ran refl (λ x b q k. search (rules, overlong-at)) ∙ ap (any p) o.outlines.count-is

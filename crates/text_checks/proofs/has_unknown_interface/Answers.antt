@@ -1,15 +1,15 @@
-use Rattle.text_checks.proofs.UnknownLaws.{known-begin, known-done, known_next, known-not}
-use borrow.Author.Rules.{rules}
+use Rattle.std.proofs.Common.{◌∙◌, ap, refl, rules}
+use Rattle.laws.specs.Bounded.{any}
+use Rattle.laws.proofs.RangeLaws.{any-range}
+use Rattle.text_rows.specs.RowAt.{declaration_by, declarations_by}
+use Rattle.text_parts.specs.declared.Kind.TheVariants.{Interfaces}
+use Rattle.text_checks.specs.Kinds.{unknown_in}
+use Rattle.text_checks.proofs.UnknownLaws.{unknown_at, not-declared}
 use Rattle.text_checks.proofs.has_unknown_interface.Goals as goal
 
-pub loop-i-init : goal.loop-i-init
-loop-i-init c = search (rules, known-begin)
-
-pub returns-then-not-is_declared : goal.returns-then-not-is_declared
-returns-then-not-is_declared c = search (rules, known-not)
-
-pub loop-i-preserved : goal.loop-i-preserved
-loop-i-preserved c = search (rules, known_next)
-
 pub returns : goal.returns
-returns c = search (rules, known-done)
+unfolding unknown_in
+returns c =
+    let a = c.args in
+    let p = unknown_at Interfaces (declarations_by a.o.now.body.now) a.k (declaration_by a.row.now.rest.now).interfaces in
+    any-range p _ c.any.ensures.ran refl (λ x b q k. search (rules, not-declared)) ∙ ap (any p) c.interface_count-count.ensures.0

@@ -5,10 +5,10 @@ use borrow.Author.Rules.{rules}
 use Rattle.text_loading.proofs.read_declared.Goals as goal
 
 pub type_names-types-requires : goal.type_names-types-requires
-type_names-types-requires c = (c.requires.0.short, (c.requires.1.0, (few (declarations_by c.args.o.now.body.now) c.requires.0.few).types))
+type_names-types-requires c = (c.requires.0.short, (few (declarations_by c.args.o.now.outline.now.body.now) c.requires.0.few).types)
 
 pub put_diagram-size-requires : goal.put_diagram-size-requires
-put_diagram-size-requires c = (c.requires.0, (c.requires.1.0, (c.type_names-types.ensures.1, (c.type_names-types.ensures.0, (c.requires.1.1.0, (c.requires.1.1.1, search rules))))))
+put_diagram-size-requires c = (c.requires.0, (c.type_names-types.ensures, (c.requires.1, search rules)))
 
 pub slice_bounds-read_diagram-end : goal.slice_bounds-read_diagram-end
 slice_bounds-read_diagram-end c = put_count c.put_diagram-size.ensures.1

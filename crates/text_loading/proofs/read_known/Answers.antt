@@ -1,4 +1,3 @@
-use native.Mathlib.Omega.{arith}
 use Rattle.text_rows.specs.RowAt.{declarations_by}
 use Rattle.text_checks.proofs.OverfullLaws.{values-all}
 use Rattle.text_loading.proofs.ReadLaws.{short, writable}
@@ -13,7 +12,7 @@ pub returns-then-has_many : goal.returns-then-has_many
 returns-then-has_many c = says-many c.requires.0 c.requires.1 c.has_many.ensures (search rules)
 
 pub value_names-values-requires : goal.value_names-values-requires
-value_names-values-requires c = (short c.requires.0, search rules)
+value_names-values-requires c = short c.requires.0
 
 pub returns-then-values-gt12 : goal.returns-then-values-gt12
 returns-then-values-gt12 c =
@@ -24,7 +23,7 @@ pub read_declared-requires : goal.read_declared-requires
 read_declared-requires c =
     let v = c.value_names-values in
     let f = few-of c.args.o.now.body.now v.result c.has_many.ensures (search rules) v.ensures.0 (search rules) in
-    (writable c.requires.0 c.requires.1.allowed f, (search rules, (omega (arith, v.ensures.1), values-all (declarations_by c.args.o.now.body.now) v.result v.ensures.0 (search rules))))
+    (writable c.requires.0 c.requires.1.allowed f, values-all (declarations_by c.args.o.now.body.now) v.result v.ensures.0 (search rules))
 
 pub returns : goal.returns
 returns c =

@@ -4,26 +4,28 @@ use Rattle.text_rows.specs.RowAt.{declaration_by}
 use Rattle.text_parts.proofs.WhatLaws.{no-arrow}
 use Rattle.text_parts.proofs.arrow.Goals as goal
 
-pub returns-in-0 : goal.returns-in-0
+pub returns-in-Some-eq0 : goal.returns-in-Some-eq0
 unfolding declaration_by declaration_in arrow_in
-returns-in-0 c = (ap arrow_in (sym c.in-0.is ∙ c.in-Some.ensures.0), omega arith)
+returns-in-Some-eq0 c = let h = c.in-Some-eq0 in (ap arrow_in (sym h.field-0-test ∙ h.ensures.0), omega arith)
 
-pub returns-in-1 : goal.returns-in-1
+pub returns-in-Some-eq1 : goal.returns-in-Some-eq1
 unfolding declaration_by declaration_in arrow_in
-returns-in-1 c = (ap arrow_in (sym c.in-1.is ∙ c.in-Some.ensures.0), omega arith)
+returns-in-Some-eq1 c = let h = c.in-Some-eq1 in (ap arrow_in (sym h.field-0-test ∙ h.ensures.0), omega arith)
 
-pub returns-in-2 : goal.returns-in-2
+pub returns-in-Some-eq2 : goal.returns-in-Some-eq2
 unfolding declaration_by declaration_in arrow_in
-returns-in-2 c = (ap arrow_in (sym c.in-2.is ∙ c.in-Some.ensures.0), omega arith)
+returns-in-Some-eq2 c = let h = c.in-Some-eq2 in (ap arrow_in (sym h.field-0-test ∙ h.ensures.0), omega arith)
 
-pub returns-in-3 : goal.returns-in-3
+pub returns-in-Some-eq3 : goal.returns-in-Some-eq3
 unfolding declaration_by declaration_in arrow_in
-returns-in-3 c = (ap arrow_in (sym c.in-3.is ∙ c.in-Some.ensures.0), omega arith)
+returns-in-Some-eq3 c = let h = c.in-Some-eq3 in (ap arrow_in (sym h.field-0-test ∙ h.ensures.0), omega arith)
 
 pub returns-in_default : goal.returns-in_default
-unfolding declaration_by declaration_in arrow_in
-returns-in_default c = (ap arrow_in c.in_default.ensures.0, omega arith)
-
-pub returns-in_default-class : goal.returns-in_default-class
 unfolding declaration_by declaration_in
-returns-in_default-class c = (no-arrow c.in-Some.class (λ e. omega arith) (λ e. omega arith) (λ e. omega arith) (λ e. omega arith) ∙ ap arrow_in c.in-Some.ensures.0, omega arith)
+returns-in_default c =
+    let h = c.in_default.field-0-test in
+    (no-arrow _ h.0.0.0.1 h.0.0.1 h.0.1 h.1 ∙ ap arrow_in c.in_default.ensures.0, omega arith)
+
+pub returns-in_default-2 : goal.returns-in_default-2
+unfolding declaration_by declaration_in arrow_in
+returns-in_default-2 c = (ap arrow_in (rw c.in_default.is at c.class_for.ensures).0, omega arith)

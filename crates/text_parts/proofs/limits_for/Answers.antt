@@ -1,14 +1,22 @@
-use Rattle.text_parts.proofs.EndLaws.{ends}
+use Rattle.std.proofs.Common.{refl}
+use Rattle.text_parts.proofs.EndLaws.{limits-between, limits-free, limits-from, limits-one}
 use Rattle.text_parts.proofs.limits_for.Goals as goal
 
-pub returns-then-count_for-eq0 : goal.returns-then-count_for-eq0
-returns-then-count_for-eq0 c = search ends
+pub returns-in_default : goal.returns-in_default
+returns-in_default c = limits-free _ _ _ refl (rw c.in_default.is at c.first_word.ensures)
 
-pub returns-then-count_for-eq0-2 : goal.returns-then-count_for-eq0-2
-returns-then-count_for-eq0-2 c = search ends
+pub returns-then-not-is_passed : goal.returns-then-not-is_passed
+returns-then-not-is_passed c =
+    let f = rw c.in-Some.is at c.first_word.ensures in
+    limits-one _ _ _ refl f.0 f.1 c.value_of-n.ensures c.is_passed.ensures c.if-not-is_passed.true
 
-pub returns-then-is_passed : goal.returns-then-is_passed
-returns-then-is_passed c = search ends
+pub returns-in-Some-first_word : goal.returns-in-Some-first_word
+returns-in-Some-first_word c =
+    let f = rw c.in-Some.is at c.first_word.ensures in
+    let l = rw c.in-Some-first_word.is at c.first_word-2.ensures in
+    limits-between _ _ _ refl f.0 f.1 c.value_of-n.ensures c.is_passed.ensures c.if-not-is_passed.false refl l.0 l.1 c.value_of.ensures
 
-pub returns : goal.returns
-returns c = search ends
+pub returns-in-None : goal.returns-in-None
+returns-in-None c =
+    let f = rw c.in-Some.is at c.first_word.ensures in
+    limits-from _ _ _ refl f.0 f.1 c.value_of-n.ensures c.is_passed.ensures c.if-not-is_passed.false refl (rw c.in-None.is at c.first_word-2.ensures)

@@ -1,11 +1,6 @@
 use Rattle.texts.specs.Table.{declaration_in}
 use Rattle.text_rows.specs.RowAt.{declaration_by}
-use Rattle.text_parts.proofs.CountLaws.{no_name}
 use Rattle.text_parts.proofs.name_at.Goals as goal
-
-pub returns-then-count_for : goal.returns-then-count_for
-unfolding declaration_by declaration_in
-returns-then-count_for c = no_name _ c.count_for.ensures.0 c.count_for-2.ensures.0 c.count_for-3.ensures.0 c.if-count_for.true
 
 pub returns : goal.returns
 unfolding declaration_by declaration_in

@@ -1,11 +1,8 @@
-use Rattle.text_parts.proofs.EndLaws.{ends}
+use Rattle.text_parts.proofs.EndLaws.{role-type, role-written}
 use Rattle.text_parts.proofs.role_word.Goals as goal
 
-pub returns-then-right : goal.returns-then-right
-returns-then-right c = search ends
+pub returns-in-Some : goal.returns-in-Some
+returns-in-Some c = let h = rw c.in-Some.is at c.written_role.ensures in role-written _ _ h.0 h.1
 
-pub returns-then-is_role_given : goal.returns-then-is_role_given
-returns-then-is_role_given c = search ends
-
-pub returns : goal.returns
-returns c = search ends
+pub returns-in-None : goal.returns-in-None
+returns-in-None c = role-type _ _ (rw c.in-None.is at c.written_role.ensures) c.end_type.ensures

@@ -1,7 +1,6 @@
-use mathlib.Core.Path.{refl}
 use Rattle.laws.specs.Connective.{both, either}
 use Rattle.text_rows.proofs.is_wanted.Goals as goal
 
 pub returns : goal.returns
 unfolding both either
-returns c = refl
+returns c = rw c.is_word_class.ensures

@@ -3,9 +3,8 @@ use Prim.Native.Nat.{◌≤◌, ℕ}
 use mathlib.Core.Path.{◌∙◌, ◌≡◌, ap}
 use lib.ListN.{length-replicate}
 use borrow.Author.Count.{below_none}
-use Rattle.fields.specs.Slot.{slot_name}
+use Rattle.fields.specs.Slot.{slot_name, slot_of}
 use Rattle.laws.proofs.ListLaws.{set_more, set-each, zeros}
-use Rattle.resolving.specs.Lookup.{slot_of}
 use borrow.Author.Rules.{rules}
 use Rattle.type_tables.proofs.places.Goals as goal
 

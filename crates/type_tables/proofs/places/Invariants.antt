@@ -1,8 +1,7 @@
 use Prim.Native.Nat.{◌<◌, ◌≤◌, ℕ}
 use mathlib.Core.Path.{◌≡◌}
 use lib.ListN.{get_or, length}
-use Rattle.fields.specs.Slot.{slot_name}
-use Rattle.resolving.specs.Lookup.{slot_of}
+use Rattle.fields.specs.Slot.{slot_name, slot_of}
 use Rattle.type_tables.proofs.places.Given as goal
 
 abbrev pub invariant-loop-i : goal.invariant-loop-i

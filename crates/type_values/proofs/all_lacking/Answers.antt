@@ -22,7 +22,7 @@ loop-v-preserved c =
     let w = a.values.now in
     let found : ℕ → ℕ = λ v. first (lacking_in a.olds.now.constants (get_or a.olds.now.sizes v 0) w.sizes w.constants w.count (get_or a.types.now v 0) v) 8 in (
       search rules,
-      set_more (λ (k x : ℕ). x ≡ found k) l.firsts l.v c.first_lacking-c.result (omega arith) l.invariant.1 c.first_lacking-c.ensures,
+      set_more (λ (k x : ℕ). x ≡ found k) l.firsts l.v c.first_lacking.result (omega arith) l.invariant.1 c.first_lacking.ensures,
     )
 
 pub returns : goal.returns

@@ -1,17 +1,19 @@
-use Rattle.type_values.proofs.TranslatedLaws.{bad-types-are}
+use borrow.Author.Rules.{rules}
+use borrow.Author.Tests.{tests}
 use mathlib.Core.Path.{refl}
+use Rattle.type_values.proofs.TranslatedLaws.{bad-types-are}
 use Rattle.type_values.proofs.bad_types.Goals as goal
 
 pub returns : goal.returns
 returns c =
-    let a = c.args in
-    bad-types-are a.old a.new a.olds.now _ _ _ _ _ _ _ _ _ _ c.bad_mask.result c.requires.0.0 c.requires.0.1
+    let by = c.args.by.now in
+    bad-types-are by.old.now.stored by.new.now.stored by.dues.now _ _ _ _ _ _ _ _ _ _ c.mask_of.result by.old.now.held by.new.now.held
     (record {
-      due-old = c.requires.1;
+      due-old = by.due;
       due-new = c.due_values-news.ensures;
-      types-placed = c.type_places-index.ensures;
-      forth = c.attribute_places-slots.ensures;
-      back-placed = c.attribute_places-back.ensures;
+      types-placed = c.type_places.ensures;
+      forth = c.attribute_places.ensures;
+      back-placed = c.attribute_places-2.ensures;
       same-types = c.same_types-types.ensures;
-      lackings = c.lacking_values-firsts.ensures;
-    }) refl refl refl refl c.bad_mask.ensures
+      lackings = c.lacking_values.ensures;
+    }) refl refl refl refl (c.mask_of.ensures _ (λ t b l k. search (rules, tests)))

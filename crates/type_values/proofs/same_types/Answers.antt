@@ -4,4 +4,4 @@ use Rattle.type_values.proofs.same_types.Goals as goal
 
 pub returns : goal.returns
 returns c =
-    same-types-are c.args.old c.args.new c.requires.1 c.places.result _ _ refl refl c.places.ensures.0
+    same-types-are c.args.by.now.old.now.stored c.args.by.now.new.now.stored c.args.by.now.new.now.held c.places.result _ _ refl refl c.places.ensures.0

@@ -1,26 +1,14 @@
 use Rattle.weights.proofs.ScaleLaws.{columns-fair, left-fair, right-fair, rows-fair, whole-fair}
 use Rattle.weights.proofs.scale_of.Goals as goal
 
-pub place-requires : goal.place-requires
-place-requires c = (c.requires.1, c.args.tables.now.slotted.column c.args.j c.requires.2)
-
 pub returns-in-Rows : goal.returns-in-Rows
 returns-in-Rows c = rows-fair _ _ _ _ _ _ _ c.requires.2 c.args.tables.now.slotted (cc) c.rows_scale.ensures
-
-pub place-requires-in-Columns : goal.place-requires-in-Columns
-place-requires-in-Columns c = (c.requires.1, c.args.tables.now.slotted.column c.args.j c.requires.2)
 
 pub returns-in-Columns : goal.returns-in-Columns
 returns-in-Columns c = columns-fair _ _ _ _ _ _ _ c.requires.2 c.args.tables.now.slotted (cc) c.columns_scale.ensures
 
-pub place-requires-in-There : goal.place-requires-in-There
-place-requires-in-There c = (c.requires.1, c.args.tables.now.slotted.right c.args.j c.requires.2)
-
 pub returns-in-There : goal.returns-in-There
 returns-in-There c = right-fair _ _ _ _ _ _ _ c.requires.2 c.args.tables.now.slotted (cc) c.mirror_scale.ensures
-
-pub place-requires-in-Back : goal.place-requires-in-Back
-place-requires-in-Back c = (c.requires.1, c.args.tables.now.slotted.left c.args.j c.requires.2)
 
 pub returns-in-Back : goal.returns-in-Back
 returns-in-Back c = left-fair _ _ _ _ _ _ _ c.requires.2 c.args.tables.now.slotted (cc) c.mirror_scale-in-Back.ensures

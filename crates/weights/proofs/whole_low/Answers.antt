@@ -1,4 +1,4 @@
-use Rattle.weights.proofs.NumberLaws.{whole-begin, whole-done, whole-next}
+use Rattle.weights.proofs.NumberLaws.{whole-begin, whole-next}
 use borrow.Author.Rules.{rules}
 use Rattle.weights.proofs.whole_low.Goals as goal
 
@@ -7,6 +7,3 @@ loop-j-init c = search (rules, whole-begin)
 
 pub loop-j-preserved : goal.loop-j-preserved
 loop-j-preserved c = search (rules, whole-next)
-
-pub returns : goal.returns
-returns c = search (rules, whole-done)

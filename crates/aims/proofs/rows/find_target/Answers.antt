@@ -6,7 +6,7 @@ use Rattle.queries.proofs.BreakLaws.{breaks-none}
 use Rattle.aims.proofs.rows.find_target.Goals as goal
 
 pub returns-then-b-eq0 : goal.returns-then-b-eq0
-returns-then-b-eq0 c = breaks-none _ _ _ _ _ refl (target_none _ _ _ _ _ c.without-b.ensures c.if-b-eq0.true)
+returns-then-b-eq0 c = breaks-none _ _ _ _ _ refl (target_none _ _ _ _ _ c.minus-b.ensures c.if-b-eq0.true)
 
 pub returns : goal.returns
-returns c = target_found _ _ _ _ _ _ _ _ c.slot_at.ensures.0 c.type_at.ensures _ c.without-b.ensures c.find_links.ensures
+returns c = target_found _ _ _ _ _ _ _ _ c.slot_at.ensures.0 c.type_at.ensures _ c.minus-b.ensures c.find_links.ensures

@@ -7,4 +7,4 @@ use Rattle.aims.proofs.rows.is_new_row.Goals as goal
 
 pub returns : goal.returns
 returns c =
-    λ e. row_within _ _ _ _ _ _ _ _ c.without.ensures c.if-without-ne0.false (ltb-false _ _ (or-no-left _ _ e)) (ltb-false _ _ (or-no-right _ _ e))
+    λ e. row_within _ _ _ _ _ _ _ _ c.minus.ensures c.if-minus-ne0.false (ltb-false _ _ (or-no-left _ _ e)) (ltb-false _ _ (or-no-right _ _ e))

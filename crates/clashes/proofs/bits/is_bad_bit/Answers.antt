@@ -8,5 +8,5 @@ use Rattle.clashes.proofs.bits.is_bad_bit.Goals as goal
 pub returns-then-is_bad_row : goal.returns-then-is_bad_row
 returns-then-is_bad_row c =
     let a = c.args in
-    λ _. bad-row a.targets.now a.must.now a.shut.now a.types.now a.seeds c.loop-i.i (c.rows_at.result + c.loop-i.i % 32) c.requires.0
+    λ _. bad-row a.targets.now a.q.now.must a.q.now.shut a.types.now.at a.q.now.seeds c.loop-i.i (c.rows_at.result + c.loop-i.i % 32) c.requires
     (omega (arith, c.from-end.ensures, c.loop-i-test.true)) (omega (arith, c.rows_at.ensures.0)) (c.is_bad_row.ensures c.if-is_bad_row.true)

@@ -10,7 +10,7 @@ use Rattle.clashes.proofs.counts.is_apart_from_mirrors.Goals as goal
 
 pub is_apart_from_row-requires : goal.is_apart_from_row-requires
 is_apart_from_row-requires c =
-    (c.requires.0, c.requires.1, c.args.tables.now.slotted.left c.loop-j.j c.loop-j-test.true)
+    c.args.tables.now.slotted.left c.loop-j.j c.loop-j-test.true
 
 pub returns-then-is_apart_from_row : goal.returns-then-is_apart_from_row
 returns-then-is_apart_from_row c =
@@ -22,7 +22,7 @@ returns-then-is_apart_from_row c =
 
 pub is_apart_from_row-requires-then-left-asked : goal.is_apart_from_row-requires-then-left-asked
 is_apart_from_row-requires-then-left-asked c =
-    (c.requires.0, c.requires.1, c.args.tables.now.slotted.right c.loop-j.j c.loop-j-test.true)
+    c.args.tables.now.slotted.right c.loop-j.j c.loop-j-test.true
 
 pub returns-then-is_apart_from_row-2 : goal.returns-then-is_apart_from_row-2
 returns-then-is_apart_from_row-2 c =

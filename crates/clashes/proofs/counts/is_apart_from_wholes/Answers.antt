@@ -14,4 +14,4 @@ returns-then-is_apart c =
     let e = eqb (get_or a.lines.now.wholeslot c.loop-j.j 0) a.asked.slot in
     λ _. never-whole a.asked.first a.asked.here a.asked.slot a.asked.mask a.asked.least a.asked.most a.lines.now c.loop-j.j c.loop-j-test.true
     (eqb-true (get_or a.lines.now.wholeslot c.loop-j.j 0) a.asked.slot (and_left e c.has.result c.if-lines-j.true))
-    (sym c.has.ensures ∙ and_right e c.has.result c.if-lines-j.true) (c.is_apart.ensures c.if-is_apart.true a.asked.first a.asked.slot)
+    (sym c.has.ensures ∙ and_right e c.has.result c.if-lines-j.true) (c.is_apart.ensures c.if-is_apart.true)

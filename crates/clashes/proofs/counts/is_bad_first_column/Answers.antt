@@ -15,21 +15,21 @@ returns-then-least-mask c =
     let a = c.args in
     let e = ltb 0 a.least in
     let f = eqb (bit_and a.mask (get_or a.tables.now.sources (c.rows_at-x.result + c.from.result) 0)) 0 in
-    λ _ seeds some. refuted-any a.tables.now.targets a.tables.now.sources a.tables.now.lows a.tables.now.highs a.tables.now.lines a.slot a.mask a.least a.most a.types.now c.type_of-first.result (c.rows_at-x.result + c.from.result) seeds c.requires.0 c.type_of-first.ensures.0 (omega (arith, c.from.ensures, c.type_of-first.ensures.0, c.rows_at-x.ensures.0)) some
+    λ _ seeds some. refuted-any a.tables.now.targets a.tables.now.sources a.tables.now.lows a.tables.now.highs a.tables.now.lines a.slot a.mask a.least a.most a.types.now.at c.type_of-first.result (c.rows_at-x.result + c.from.result) seeds c.requires c.type_of-first.ensures.0 (omega (arith, c.from.ensures, c.type_of-first.ensures.0, c.rows_at-x.ensures.0)) some
     (never-any c.type_of-first.result (get_or a.tables.now.sources (c.rows_at-x.result + c.from.result) 0) a.slot a.mask a.least a.most (ltb-true 0 a.least (and_left e f c.if-least-mask.true))
     (eqb-true (bit_and a.mask (get_or a.tables.now.sources (c.rows_at-x.result + c.from.result) 0)) 0 (and_right e f c.if-least-mask.true)))
 
 pub returns-then-is_apart_from_columns : goal.returns-then-is_apart_from_columns
 returns-then-is_apart_from_columns c =
     let a = c.args in
-    λ _ seeds some. refuted-columns a.tables.now.targets a.tables.now.sources a.tables.now.lows a.tables.now.highs a.tables.now.lines a.slot a.mask a.least a.most a.types.now c.type_of-first.result (c.rows_at-x.result + c.from.result) seeds c.requires.0 c.type_of-first.ensures.0 (omega (arith, c.from.ensures, c.type_of-first.ensures.0, c.rows_at-x.ensures.0)) some (c.is_apart_from_columns.ensures c.if-is_apart_from_columns.true)
+    λ _ seeds some. refuted-columns a.tables.now.targets a.tables.now.sources a.tables.now.lows a.tables.now.highs a.tables.now.lines a.slot a.mask a.least a.most a.types.now.at c.type_of-first.result (c.rows_at-x.result + c.from.result) seeds c.requires c.type_of-first.ensures.0 (omega (arith, c.from.ensures, c.type_of-first.ensures.0, c.rows_at-x.ensures.0)) some (c.is_apart_from_columns.ensures c.if-is_apart_from_columns.true)
 
 pub returns-then-is_apart_from_wholes : goal.returns-then-is_apart_from_wholes
 returns-then-is_apart_from_wholes c =
     let a = c.args in
-    λ _ seeds some. refuted-wholes a.tables.now.targets a.tables.now.sources a.tables.now.lows a.tables.now.highs a.tables.now.lines a.slot a.mask a.least a.most a.types.now c.type_of-first.result (c.rows_at-x.result + c.from.result) seeds c.requires.0 c.type_of-first.ensures.0 (omega (arith, c.from.ensures, c.type_of-first.ensures.0, c.rows_at-x.ensures.0)) some (c.is_apart_from_wholes.ensures c.if-is_apart_from_wholes.true)
+    λ _ seeds some. refuted-wholes a.tables.now.targets a.tables.now.sources a.tables.now.lows a.tables.now.highs a.tables.now.lines a.slot a.mask a.least a.most a.types.now.at c.type_of-first.result (c.rows_at-x.result + c.from.result) seeds c.requires c.type_of-first.ensures.0 (omega (arith, c.from.ensures, c.type_of-first.ensures.0, c.rows_at-x.ensures.0)) some (c.is_apart_from_wholes.ensures c.if-is_apart_from_wholes.true)
 
 pub returns : goal.returns
 returns c =
     let a = c.args in
-    λ e seeds some. refuted-mirrors a.tables.now.targets a.tables.now.sources a.tables.now.lows a.tables.now.highs a.tables.now.lines a.slot a.mask a.least a.most a.types.now c.type_of-first.result (c.rows_at-x.result + c.from.result) seeds c.requires.0 c.type_of-first.ensures.0 (omega (arith, c.from.ensures, c.type_of-first.ensures.0, c.rows_at-x.ensures.0)) some (c.is_apart_from_mirrors.ensures e)
+    λ e seeds some. refuted-mirrors a.tables.now.targets a.tables.now.sources a.tables.now.lows a.tables.now.highs a.tables.now.lines a.slot a.mask a.least a.most a.types.now.at c.type_of-first.result (c.rows_at-x.result + c.from.result) seeds c.requires c.type_of-first.ensures.0 (omega (arith, c.from.ensures, c.type_of-first.ensures.0, c.rows_at-x.ensures.0)) some (c.is_apart_from_mirrors.ensures e)

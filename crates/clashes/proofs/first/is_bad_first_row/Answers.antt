@@ -10,6 +10,6 @@ pub returns : goal.returns
 returns c =
     let a = c.args in
     let p = c.rows_at.result + c.from.result in
-    λ e targets seeds some. first-row-refuted targets a.tables.now.lows a.tables.now.highs a.types.now a.row a.low a.high p seeds c.requires.0
+    λ e targets seeds some. first-row-refuted targets a.tables.now.lows a.tables.now.highs a.types.now.at a.row a.low a.high p seeds c.requires
     (omega (arith, c.rows_at.ensures.0, c.from.ensures))
     (let h : c.min.result < c.max.result = ltb-true c.min.result c.max.result e in omega (arith, c.min.ensures, c.max.ensures)) some

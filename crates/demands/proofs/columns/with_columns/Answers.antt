@@ -13,10 +13,6 @@ use Rattle.demands.proofs.columns.with_columns.Goals.{then-low-gt0+in_ok-best, e
 pub loop-j-init : goal.loop-j-init
 loop-j-init c = sharp-same _ _
 
-pub with_column-requires : goal.with_column-requires
-with_column-requires c =
-    (c.requires, c.args.tables.now.slotted.column c.loop-j.j c.loop-j-test.true)
-
 pub returns-in_err-best : goal.returns-in_err-best
 returns-in_err-best c =
     let a = c.args in

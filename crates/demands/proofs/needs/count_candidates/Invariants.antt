@@ -11,4 +11,4 @@ abbrev pub is_candidate : List ℕ → ℕ → ℕ → ℕ → Bool
 is_candidate types mask shut o = bit (get_or types o 0) mask && not (bit o shut)
 
 abbrev pub invariant-loop-o : goal.invariant-loop-o
-invariant-loop-o l = (l.n ≤ l.o) × (l.n ≡ tally (is_candidate l.s.types l.mask l.shut) l.o)
+invariant-loop-o l = (l.n ≤ l.o) × (l.n ≡ tally (is_candidate l.s.types.at l.mask l.shut) l.o)

@@ -14,5 +14,5 @@ use Rattle.demands.proofs.rows.with_first_row.Goals as goal
 pub returns : goal.returns
 returns c =
     let a = c.args in
-    let v = own-sharp a.tables.now.targets a.tables.now.lows a.tables.now.highs a.shut.now a.s c.requires.0 0 c.from-i.result c.rows_at.result c.from-i.result c.requires.1 (omega (arith, c.from-i.ensures)) c.rows_at.ensures.0 (omega arith) (Some a.best) c.with_limits.result a.low a.high c.max.result c.min.result c.max.ensures c.min.ensures c.with_limits.ensures in
+    let v = own-sharp a.tables.now.targets a.tables.now.lows a.tables.now.highs a.shut.now a.s 0 c.from-i.result c.rows_at.result c.from-i.result c.requires.0 (omega (arith, c.from-i.ensures)) c.rows_at.ensures.0 (omega arith) (Some a.best) c.with_limits.result a.low a.high c.max.result c.min.result c.max.ensures c.min.ensures c.with_limits.ensures in
     subst (λ (r : ℕ). Sharpens (λ w. RowsOpen a.tables.now.targets a.tables.now.lows a.tables.now.highs a.shut.now w × InLimits a.low a.high (target_count w r 0)) a.s (Some a.best) c.with_limits.result) c.from-i.ensures v

@@ -18,7 +18,7 @@ loop-t-init c = sharp-same _ _
 pub returns-in_err-best : goal.returns-in_err-best
 returns-in_err-best c =
     let a = c.args in
-    let e = missing-single a.s.types a.s.k a.singles a.here c.without-missing.result c.loop-t.t c.requires c.without-missing.ensures (sym c.has.ensures ∙ c.if-has.true) in
+    let e = missing-single a.s.types.at a.s.k a.singles a.here c.minus-missing.result c.loop-t.t c.requires c.minus-missing.ensures (sym c.has.ensures ∙ c.if-has.true) in
     rw c.from_residual.ensures (sharp-trans _ _ _ _ c.loop-t.invariant (single-sharp a.s a.singles c.loop-t.t c.loop-t-test.true e.0 e.1 _ _ c.with.result c.with.ensures c.in_err-best.ensures))
 
 pub loop-t-preserved : goal.loop-t-preserved
@@ -26,7 +26,7 @@ loop-t-preserved c =
     let a = c.args in
     let Sharp : ℕ → Type 0 = λ v. Sharpens (SinglesKept a.singles) a.s (Some a.best) (Some v) in
     elim c.if-has.branch [
-      | then-has+in_ok-best w ↦ let e = missing-single a.s.types a.s.k a.singles a.here c.without-missing.result c.loop-t.t c.requires c.without-missing.ensures (sym c.has.ensures ∙ w.if-has.true) in
+      | then-has+in_ok-best w ↦ let e = missing-single a.s.types.at a.s.k a.singles a.here c.minus-missing.result c.loop-t.t c.requires c.minus-missing.ensures (sym c.has.ensures ∙ w.if-has.true) in
           subst Sharp (sym w.best-is) (sharp-trans _ _ _ _ c.loop-t.invariant (single-sharp a.s a.singles c.loop-t.t c.loop-t-test.true e.0 e.1 _ _ w.with.result w.with.ensures w.in_ok-best.ensures))
       | else-has w ↦ subst Sharp (sym w.best-is) c.loop-t.invariant
     ]

@@ -1,13 +1,11 @@
--- `each_fits` meets its contract: object by object, up to the first that does not fit.
--- Assumes nothing.
-use Rattle.laws.proofs.LoopLaws.{each}
+use borrow.Author.Rules.{rules}
+use borrow.Author.Tests.{tests}
+use mathlib.Core.Path.{refl}
+use Rattle.laws.proofs.RangeLaws.{all-range}
+use Rattle.leaves.specs.Fitting.{type_fits}
 use Rattle.leaves.proofs.fitting.each_fits.Goals as goal
 
-pub loop-o-init : goal.loop-o-init
-loop-o-init c = search each
-
-pub returns-then-not-type_fits : goal.returns-then-not-type_fits
-returns-then-not-type_fits c = search each
-
-pub loop-o-preserved : goal.loop-o-preserved
-loop-o-preserved c = search each
+pub returns : goal.returns
+returns c =
+    let a = c.args in
+    all-range (type_fits a.usable a.seeds a.wanted.now a.never a.types.now) _ c.all.ensures.ran refl (λ x b q k. search (rules, tests))

@@ -1,13 +1,11 @@
--- `singles_fit` meets its contract: type by type, up to the first that does not fit.
--- Assumes nothing.
-use Rattle.laws.proofs.LoopLaws.{each}
+use borrow.Author.Rules.{rules}
+use borrow.Author.Tests.{tests}
+use mathlib.Core.Path.{refl}
+use Rattle.laws.proofs.RangeLaws.{all-range}
+use Rattle.leaves.specs.Fitting.{single_fits}
 use Rattle.leaves.proofs.fitting.singles_fit.Goals as goal
 
-pub loop-t-init : goal.loop-t-init
-loop-t-init c = search each
-
-pub returns-then-not-single_fits : goal.returns-then-not-single_fits
-returns-then-not-single_fits c = search each
-
-pub loop-t-preserved : goal.loop-t-preserved
-loop-t-preserved c = search each
+pub returns : goal.returns
+returns c =
+    let a = c.args in
+    all-range (single_fits a.singles a.types.now a.n) _ c.all.ensures.ran refl (λ x b q k. search (rules, tests))

@@ -12,6 +12,6 @@ use Rattle.leaves.proofs.rows.may_row.Goals as goal
 pub returns : goal.returns
 returns c =
     let a = c.args in
-    let t : ℕ → ℕ → Type 0 = λ x r. Marks (typed a.types.now (get_or a.targets.now x 0)) a.n r in
-    marks-without (typed a.types.now (get_or a.targets.now (spot_of a.types.now a.i) 0)) a.n c.among.result (get_or a.shut.now a.i 0) c.without.result
-    (subst (λ (x : ℕ). t x c.among.result) c.spot.ensures.0 c.among.ensures) c.without.ensures
+    let t : ℕ → ℕ → Type 0 = λ x r. Marks (typed a.types.now.at (get_or a.targets.now x 0)) a.n r in
+    marks-without (typed a.types.now.at (get_or a.targets.now (spot_of a.types.now.at a.i) 0)) a.n c.among.result (get_or a.shut.now a.i 0) c.minus.result
+    (subst (λ (x : ℕ). t x c.among.result) c.spot.ensures.0 c.among.ensures) c.minus.ensures

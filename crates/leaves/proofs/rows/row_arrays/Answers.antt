@@ -7,5 +7,5 @@ use Rattle.leaves.proofs.rows.row_arrays.Goals as goal
 pub returns : goal.returns
 returns c =
     let a = c.args in
-    rows-ask a.lows.now a.highs.now a.types.now a.n a.q c.from-at.result c.requires.2 c.from-at.ensures c.row_limits-l.result c.row_limits-h.result
+    rows-ask a.lows.now a.highs.now a.types.now.at a.n a.q c.from-at.result c.requires.1 c.from-at.ensures c.row_limits-l.result c.row_limits-h.result
     c.max.result c.pick.result c.min.result c.pick-2.result c.row_limits-l.ensures (search rules) c.pick.ensures c.row_limits-h.ensures (search rules) c.pick-2.ensures

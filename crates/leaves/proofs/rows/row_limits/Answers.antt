@@ -14,9 +14,9 @@ loop-i-init c = filled-begin _ _ _
 pub loop-i-preserved : goal.loop-i-preserved
 loop-i-preserved c =
     let a = c.args in
-    let P : ℕ → ℕ → Type 0 = λ k v. v ≡ get_or a.table.now (spot_of a.types.now k) 0 in filled_next P a.d 256 c.loop-i.i _ c.loop-i.r (omega arith) c.loop-i.invariant (ap (λ (x : ℕ). get_or a.table.now x 0) c.spot.ensures.0)
+    let P : ℕ → ℕ → Type 0 = λ k v. v ≡ get_or a.table.now (spot_of a.types.now.at k) 0 in filled_next P a.d 256 c.loop-i.i _ c.loop-i.r (omega arith) c.loop-i.invariant (ap (λ (x : ℕ). get_or a.table.now x 0) c.spot.ensures.0)
 
 pub returns : goal.returns
 returns c =
     let a = c.args in
-    filled-done (λ k v. v ≡ get_or a.table.now (spot_of a.types.now k) 0) a.d 256 c.loop-i.i (a.n * 32) c.loop-i.r (omega (arith, c.loop-i.auto.i-end)) (omega arith) c.loop-i.invariant
+    filled-done (λ k v. v ≡ get_or a.table.now (spot_of a.types.now.at k) 0) a.d 256 c.loop-i.i (a.n * 32) c.loop-i.r (omega (arith, c.loop-i.auto.i-end)) (omega arith) c.loop-i.invariant

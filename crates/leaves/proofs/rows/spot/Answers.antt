@@ -5,4 +5,4 @@ use native.Mathlib.Omega.{arith}
 use Rattle.leaves.proofs.rows.spot.Goals as goal
 
 pub returns : goal.returns
-returns c = let s = c.requires.1 (c.args.i / 32) in (cc, omega arith)
+returns c = let s = c.args.types.now.small (c.args.i / 32) in (cc, omega arith)

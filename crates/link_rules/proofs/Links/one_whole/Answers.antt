@@ -1,7 +1,7 @@
 use borrow.Author.Rules.{rules}
 use borrow.Author.Tests.{tests}
 use mathlib.Core.Path.{refl}
-use Rattle.masks.proofs.RangeLaws.{all-range}
+use Rattle.laws.proofs.RangeLaws.{all-range}
 use Rattle.link_rules.specs.WholesIn.{one_whole_at_in, one_whole_in}
 use Rattle.link_rules.proofs.Links.one_whole.Goals as goal
 

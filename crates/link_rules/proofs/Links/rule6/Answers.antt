@@ -1,7 +1,7 @@
 use borrow.Author.Rules.{rules}
 use borrow.Author.Tests.{tests}
 use mathlib.Core.Path.{refl}
-use Rattle.masks.proofs.RangeLaws.{all-range}
+use Rattle.laws.proofs.RangeLaws.{all-range}
 use Rattle.link_rules.proofs.JudgedLaws.{says6}
 use Rattle.link_rules.specs.LinksIn.{rule6_in, rule6_at_in}
 use Rattle.link_rules.proofs.Links.rule6.Goals as goal

@@ -1,7 +1,7 @@
 use borrow.Author.Rules.{rules}
 use borrow.Author.Tests.{tests}
 use mathlib.Core.Path.{refl}
-use Rattle.masks.proofs.RangeLaws.{all-range}
+use Rattle.laws.proofs.RangeLaws.{all-range}
 use Rattle.link_rules.proofs.JudgedLaws.{says9}
 use Rattle.link_rules.specs.WholesIn.{rule9_at_in, rule9_in}
 use Rattle.link_rules.proofs.Links.rule9.Goals as goal

@@ -18,6 +18,6 @@ returns-in_err-wanted c =
     let y = a.p * 32 + get_or m.left a.j 0 in
     looked-err (λ w. MirrorHolds m.right m.left m.from m.to w a.j a.o a.p) a.must.now a.may.now c.from_residual.result c.from_residual.ensures.0
     (λ w b ok. c.in_err-wanted.ensures (w x a.p) (w y a.o)
-    (λ z. b.least x a.p (omega arith) c.requires.2 (sym c.is_link.ensures ∙ z)) (λ z f. c.is_link-2.ensures ∙ b.most x a.p (omega arith) c.requires.2 z (sym c.is_link.ensures ∙ f))
-    (λ z. b.least y a.o (omega arith) c.requires.1 (sym c.is_link-3.ensures ∙ z)) (λ z f. c.is_link-4.ensures ∙ b.most y a.o (omega arith) c.requires.1 z (sym c.is_link-3.ensures ∙ f))
+    (λ z. b.least x a.p (omega arith) c.requires.2 (sym c.is_linked.ensures ∙ z)) (λ z f. c.is_linked-2.ensures ∙ b.most x a.p (omega arith) c.requires.2 z (sym c.is_linked.ensures ∙ f))
+    (λ z. b.least y a.o (omega arith) c.requires.1 (sym c.is_linked-3.ensures ∙ z)) (λ z f. c.is_linked-4.ensures ∙ b.most y a.o (omega arith) c.requires.1 z (sym c.is_linked-3.ensures ∙ f))
     (ok (by-yes c.has.ensures (ap not c.if-not-has.false)) (by-yes c.has-2.ensures (ap not c.if-not-has-2.false))))

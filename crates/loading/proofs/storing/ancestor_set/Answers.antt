@@ -5,7 +5,7 @@ use borrow.Author.Rules.{rules}
 use Rattle.loading.proofs.storing.ancestor_set.Goals as goal
 
 pub loop-p-init : goal.loop-p-init
-loop-p-init c = set-begin c.args.sets c.args.t _ c.args.ps.now _ refl c.with-set.ensures
+loop-p-init c = set-begin c.args.sets.now c.args.t _ c.args.ps.now _ refl c.with-set.ensures
 
 pub bounds-sets-from : goal.bounds-sets-from
 bounds-sets-from c = omega (arith, c.requires.1 c.loop-p.p-index c.loop-p-test.true)

@@ -4,4 +4,4 @@ use Rattle.masks.proofs.Limits.admits.Goals as goal
 
 pub returns : goal.returns
 unfolding both either
-returns c = within-is c.args.self.low c.args.self.up c.args.n
+returns c = rw (c.from.ensures, c.from-2.ensures) (within-is c.args.self.low c.args.self.up c.args.n)

@@ -1,7 +1,7 @@
 use borrow.Author.Rules.{rules}
 use borrow.Author.Tests.{tests}
 use mathlib.Core.Path.{refl}
-use Rattle.masks.proofs.RangeLaws.{all-range}
+use Rattle.laws.proofs.RangeLaws.{all-range}
 use Rattle.masks.specs.Masks.{limits_of, column_at_fits, columns_fit}
 use Rattle.masks.proofs.Role.columns_fit.Goals as goal
 

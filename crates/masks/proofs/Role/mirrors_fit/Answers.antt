@@ -1,7 +1,7 @@
 use borrow.Author.Rules.{rules}
 use borrow.Author.Tests.{tests}
 use mathlib.Core.Path.{refl}
-use Rattle.masks.proofs.RangeLaws.{all-range}
+use Rattle.laws.proofs.RangeLaws.{all-range}
 use Rattle.masks.specs.Masks.{mirror_row_fits, mirrors_fit}
 use Rattle.masks.proofs.Role.mirrors_fit.Goals as goal
 

@@ -1,11 +1,11 @@
 use borrow.Author.Rules.{rules}
 use borrow.Author.Tests.{tests}
 use mathlib.Core.Path.{refl}
-use Rattle.masks.proofs.RangeLaws.{all-range}
+use Rattle.laws.proofs.RangeLaws.{all-range}
 use Rattle.object_rules.specs.ValuesIn.{due_for}
 use Rattle.object_rules.proofs.rule3.all_due.Goals as goal
 
 pub returns : goal.returns
 returns c =
     let a = c.args in
-    all-range (due_for a.m.now.values a.attributes.now.owners a.t.now.masks a.t.now.slots a.attributes.now.count) _ c.all.ensures.ran refl (λ x b q k. search (rules, tests))
+    all-range (due_for a.m.now.values a.d.now.attributes.now.owners a.d.now.tables.now.masks a.d.now.tables.now.slots a.d.now.attributes.now.count) _ c.all.ensures.ran refl (λ x b q k. search (rules, tests))

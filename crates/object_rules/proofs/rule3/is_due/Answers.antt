@@ -4,4 +4,4 @@ use Rattle.object_rules.proofs.StepLaws.{due-by}
 use Rattle.object_rules.proofs.rule3.is_due.Goals as goal
 
 pub returns : goal.returns
-returns c = due-by _ _ _ _ _ _ _ refl c.byte-s.ensures c.from.ensures c.from-2.ensures c.byte-value.ensures c.is_declared.ensures (same-beq _ _)
+returns c = due-by _ _ _ _ _ _ _ refl c.byte-s.ensures c.place.ensures c.byte-value.ensures c.is_declared.ensures (same-beq _ _)

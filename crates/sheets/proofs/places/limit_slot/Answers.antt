@@ -1,4 +1,4 @@
-use Prim.Native.Nat.{◌*◌, ◌+◌, ◌<◌, max, min, ℕ}
+use Prim.Native.Nat.{◌+◌, ◌<◌, max, min, ℕ}
 use mathlib.Core.List.{List}
 use mathlib.Core.Path.{subst, sym}
 use Rattle.laws.specs.Bits.{bit}
@@ -40,13 +40,13 @@ loop-t-preserved c = let a = c.args in
     let e = c.is_among.ensures in (
       elim c.if-is_among.branch [
         | then-is_among w ↦ subst (λ (r : List ℕ). Stepped (λ m. max m a.low) a.set a.s (c.loop-t.t + 1) a.lows.now r) (sym w.lows-is)
-            (stepped-hit (λ m. max m a.low) a.set a.s a.lows.now c.loop-t.t c.loop-t.lows (w.from.result * 32 + w.from-then-is_among.result) w.max-m.result (omega arith) e w.if-is_among.true (cc) (search rules) c.loop-t.invariant.0)
+            (stepped-hit (λ m. max m a.low) a.set a.s a.lows.now c.loop-t.t c.loop-t.lows w.place-at.result w.max.result (omega arith) e w.if-is_among.true w.place-at.ensures (search rules) c.loop-t.invariant.0)
         | else-is_among w ↦ subst (λ (r : List ℕ). Stepped (λ m. max m a.low) a.set a.s (c.loop-t.t + 1) a.lows.now r) (sym w.lows-is)
             (stepped-miss (λ m. max m a.low) a.set a.s a.lows.now c.loop-t.t c.loop-t.lows e w.if-is_among.false c.loop-t.invariant.0)
       ],
       elim c.if-is_among.branch [
         | then-is_among w ↦ subst (λ (r : List ℕ). Stepped (λ m. min m a.high) a.set a.s (c.loop-t.t + 1) a.highs.now r) (sym w.highs-is)
-            (stepped-hit (λ m. min m a.high) a.set a.s a.highs.now c.loop-t.t c.loop-t.highs (w.from.result * 32 + w.from-then-is_among.result) w.min-n.result (omega arith) e w.if-is_among.true (cc) (search rules) c.loop-t.invariant.1)
+            (stepped-hit (λ m. min m a.high) a.set a.s a.highs.now c.loop-t.t c.loop-t.highs w.place-at.result w.min.result (omega arith) e w.if-is_among.true w.place-at.ensures (search rules) c.loop-t.invariant.1)
         | else-is_among w ↦ subst (λ (r : List ℕ). Stepped (λ m. min m a.high) a.set a.s (c.loop-t.t + 1) a.highs.now r) (sym w.highs-is)
             (stepped-miss (λ m. min m a.high) a.set a.s a.highs.now c.loop-t.t c.loop-t.highs e w.if-is_among.false c.loop-t.invariant.1)
       ],

@@ -27,10 +27,10 @@ loop-e-preserved c = let l = c.loop-e in
     let p = c.limit_slot.ensures in (
       p.0.size,
       p.1.size,
-      stepped-next (λ e m. max m (min 9 (get_or a.asked.now.lows e 0))) (λ x. 0) a.ends.now.sets a.asked.now.arrows a.ends.now.slots a.k l.e l.least c.limit_slot.new.lows (λ m. max m low.result) s.ensures c.from-in-loop-e-2.ensures refl
-          (λ m. ap (max m) (low.ensures ∙ ap (λ (i : ℕ). min 9 (get_or a.asked.now.lows i 0)) c.from.ensures)) l.invariant.2 p.0,
-      stepped-next (λ e m. min m (min 8 (get_or a.asked.now.ups e 0))) (λ x. 8) a.ends.now.sets a.asked.now.arrows a.ends.now.slots a.k l.e l.most c.limit_slot.new.highs (λ m. min m high.result) s.ensures c.from-in-loop-e-2.ensures refl
-          (λ m. ap (min m) (high.ensures ∙ ap (λ (i : ℕ). min 8 (get_or a.asked.now.ups i 0)) c.from-in-loop-e.ensures)) l.invariant.3 p.1,
+      stepped-next (λ e m. max m (min 9 (get_or a.ends.now.asked.now.lows e 0))) (λ x. 0) a.ends.now.sets a.ends.now.asked.now.arrows a.ends.now.slots a.k l.e l.least c.limit_slot.new.lows (λ m. max m low.result) s.ensures c.from-in-loop-e-2.ensures refl
+          (λ m. ap (max m) (low.ensures ∙ ap (λ (i : ℕ). min 9 (get_or a.ends.now.asked.now.lows i 0)) c.from.ensures)) l.invariant.2 p.0,
+      stepped-next (λ e m. min m (min 8 (get_or a.ends.now.asked.now.ups e 0))) (λ x. 8) a.ends.now.sets a.ends.now.asked.now.arrows a.ends.now.slots a.k l.e l.most c.limit_slot.new.highs (λ m. min m high.result) s.ensures c.from-in-loop-e-2.ensures refl
+          (λ m. ap (min m) (high.ensures ∙ ap (λ (i : ℕ). min 8 (get_or a.ends.now.asked.now.ups i 0)) c.from-in-loop-e.ensures)) l.invariant.3 p.1,
     )
 
 pub returns : goal.returns

@@ -1,4 +1,4 @@
-use Prim.Native.Nat.{◌*◌, ◌+◌, ◌<◌, ℕ}
+use Prim.Native.Nat.{◌+◌, ◌<◌, ℕ}
 use lib.ListN.{get_or}
 use mathlib.Core.List.{List}
 use mathlib.Core.Path.{refl, subst, sym}
@@ -29,7 +29,7 @@ loop-t-preserved c = let a = c.args in
     let e = c.is_among.ensures in
     let f : ℕ → ℕ = λ m. bit_and (bit_or m a.more) a.keep in elim c.if-is_among.branch [
       | then-is_among w ↦ subst (λ (r : List ℕ). Stepped f a.set a.s (c.loop-t.t + 1) a.masks.now r) (sym w.masks-is)
-          (stepped-hit f a.set a.s a.masks.now c.loop-t.t c.loop-t.masks (w.from.result * 32 + w.from-then-is_among.result) (f (get_or c.loop-t.masks (w.from.result * 32 + w.from-then-is_among.result) 0)) (omega arith) e w.if-is_among.true (cc) refl c.loop-t.invariant)
+          (stepped-hit f a.set a.s a.masks.now c.loop-t.t c.loop-t.masks w.place-at.result (f (get_or c.loop-t.masks w.place-at.result 0)) (omega arith) e w.if-is_among.true w.place-at.ensures refl c.loop-t.invariant)
       | else-is_among w ↦ subst (λ (r : List ℕ). Stepped f a.set a.s (c.loop-t.t + 1) a.masks.now r) (sym w.masks-is)
           (stepped-miss f a.set a.s a.masks.now c.loop-t.t c.loop-t.masks e w.if-is_among.false c.loop-t.invariant)
     ]

@@ -22,7 +22,7 @@ loop-e-preserved c = let l = c.loop-e in
     let s = c.source_at-set in
     let p = c.mask_slot.ensures in (
       p.size,
-      stepped-next (λ e m. bit_and (bit_or m a.more) (get_or a.keeps.now e 0)) (λ x. get_or a.start x 0) a.ends.now.sets a.asked.now.arrows a.ends.now.slots a.k l.e l.r c.mask_slot.new.masks (λ m. bit_and (bit_or m a.more) (get_or a.keeps.now c.from-in-loop-e.result 0)) s.ensures c.from.ensures refl
+      stepped-next (λ e m. bit_and (bit_or m a.more) (get_or a.keeps.now e 0)) (λ x. get_or a.start x 0) a.ends.now.sets a.ends.now.asked.now.arrows a.ends.now.slots a.k l.e l.r c.mask_slot.new.masks (λ m. bit_and (bit_or m a.more) (get_or a.keeps.now c.from-in-loop-e.result 0)) s.ensures c.from.ensures refl
           (λ m. ap (λ (i : ℕ). bit_and (bit_or m a.more) (get_or a.keeps.now i 0)) c.from-in-loop-e.ensures) l.invariant.1 p,
     )
 

@@ -1,11 +1,9 @@
-use Rattle.laws.proofs.LoopLaws.{each}
+use borrow.Author.Rules.{rules}
+use borrow.Author.Tests.{tests}
+use mathlib.Core.Path.{refl}
+use Rattle.laws.proofs.RangeLaws.{all-range}
+use Rattle.sheets.specs.MasksBy.{fine_in}
 use Rattle.sheets.proofs.type_sets.is_possible.Goals as goal
 
-pub loop-s-init : goal.loop-s-init
-loop-s-init c = search each
-
-pub returns-then-not-is_fine : goal.returns-then-not-is_fine
-returns-then-not-is_fine c = search each
-
-pub loop-s-preserved : goal.loop-s-preserved
-loop-s-preserved c = search each
+pub returns : goal.returns
+returns c = all-range (fine_in c.args.dues.now c.args.t) 32 c.all.ensures.ran refl (λ x b q k. search (rules, tests))

@@ -4,11 +4,11 @@ use borrow.Author.Rules.{rules}
 use Rattle.sheets.proofs.type_sets.missing_of.Goals as goal
 
 pub loop-e-init : goal.loop-e-init
-loop-e-init c = let a = c.args in joined-begin (missing_in a.ends.now.sets a.asked.now.arrows a.ends.now.slots a.asked.now.lows)
+loop-e-init c = let a = c.args in joined-begin (missing_in a.ends.now.sets a.ends.now.asked.now.arrows a.ends.now.slots a.ends.now.asked.now.lows)
 
 pub loop-e-preserved : goal.loop-e-preserved
-loop-e-preserved c = let a = c.args in joined-next (missing_in a.ends.now.sets a.asked.now.arrows a.ends.now.slots a.asked.now.lows) c.loop-e.e c.loop-e.mask c.missing_at-more.ensures c.loop-e.invariant
+loop-e-preserved c = let a = c.args in joined-next (missing_in a.ends.now.sets a.ends.now.asked.now.arrows a.ends.now.slots a.ends.now.asked.now.lows) c.loop-e.e c.loop-e.mask c.missing_at-mask.ensures c.loop-e.invariant
 
 pub returns : goal.returns
 returns c = let a = c.args in
-    joined-done (missing_in a.ends.now.sets a.asked.now.arrows a.ends.now.slots a.asked.now.lows) a.n c.loop-e.e c.loop-e.mask c.loop-e.auto.e-end (search rules) c.loop-e.invariant
+    joined-done (missing_in a.ends.now.sets a.ends.now.asked.now.arrows a.ends.now.slots a.ends.now.asked.now.lows) a.n c.loop-e.e c.loop-e.mask c.loop-e.auto.e-end (search rules) c.loop-e.invariant

@@ -218,8 +218,5 @@ returns-in-42 c = arrives c.requires.0 26 c.in-26.is 3 refl c.in-42.is
 pub returns-in_default-q-27 : goal.returns-in_default-q-27
 returns-in_default-q-27 c = as-name c.requires.0 26 c.in-26.is refl c.in_default-q-27.in_default-q-27-own.rest refl c.by_name-in_default-q-27.ensures
 
-pub returns-in-27 : goal.returns-in-27
-returns-in-27 c = rw c.in-27.is c.by_name-in-27.ensures
-
 pub returns-in_default : goal.returns-in_default
 returns-in_default c = stray c.requires.0 c.requires.1 c.in_default.in_default-own.rest

@@ -22,7 +22,7 @@ slice_bounds-put_plain_types-start c =
 pub put_plain_types-requires : goal.put_plain_types-requires
 put_plain_types-requires c =
     let w = value-parts _ _ c.args.self.now.values_named (enumerations-counted _ c.kind_count-count.ensures) in
-    (c.args.self.now.values_few, (count-below _ _ c.args.self.now.values_named (enumerations-counted _ c.kind_count-count.ensures), second-room w c.put_enumerations-a.ensures c.requires))
+    (count-below _ _ c.args.self.now.values_named (enumerations-counted _ c.kind_count-count.ensures), second-room w c.put_enumerations-a.ensures c.requires)
 
 pub overflow_add-result : goal.overflow_add-result
 overflow_add-result c =

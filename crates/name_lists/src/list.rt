@@ -1,0 +1,9 @@
+// The list: how many names it has, and the slots.
+ghost use Rattle.std.specs.Prelude.{◌≤◌};
+
+#[derive(Clone, Copy)]
+pub struct Names {
+    pub count: usize,
+    pub names: [u8; 408],
+    ghost few: { count ≤ 24 },
+}

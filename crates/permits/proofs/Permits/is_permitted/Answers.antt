@@ -1,0 +1,11 @@
+use borrow.Author.Rules.{rules}
+use borrow.Author.Tests.{tests}
+use mathlib.Core.Path.{refl}
+use Rattle.laws.proofs.RangeLaws.{any-range}
+use Rattle.permits.specs.Permits.{permits_at}
+use Rattle.permits.proofs.Permits.is_permitted.Goals as goal
+
+pub returns : goal.returns
+returns c =
+    let a = c.args in
+    any-range (permits_at a.self.now.associations.now.arrows a.self.now.associations.now.types a.self.now.tables.now.masks a.self.now.tables.now.slots a.s a.o a.p) _ c.any.ensures.ran refl (λ x b q k. search (rules, tests))

@@ -1,0 +1,11 @@
+use borrow.Author.Rules.{rules}
+use borrow.Author.Tests.{tests}
+use mathlib.Core.Path.{refl}
+use Rattle.laws.proofs.RangeLaws.{all-range}
+use Rattle.type_values.specs.Numbers.{slot_asked_in}
+use Rattle.type_values.proofs.Translation.asks_slots.Goals as goal
+
+pub returns : goal.returns
+returns c =
+    let y = c.args.self.now in
+    all-range (slot_asked_in y.olds.now y.news.now y.back c.args.t c.args.u y.m) _ c.all.ensures.ran refl (λ x b q k. search (rules, tests))

@@ -1,6 +1,0 @@
-use Rattle.type_values.proofs.WayLaws.{good-made}
-use Rattle.type_values.proofs.is_good.Goals as goal
-
-pub returns : goal.returns
-returns c =
-    good-made _ _ _ _ _ _ _ _ _ _ _ _ c.from.ensures c.byte-u.ensures c.from-2.ensures c.byte-kind.ensures c.slots_kept.ensures c.slots_asked.ensures
