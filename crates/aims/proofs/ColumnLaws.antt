@@ -12,12 +12,14 @@ use Rattle.laws.proofs.BoundedLaws.{tally-none}
 use Rattle.laws.proofs.ConnectiveLaws.{true-false}
 use Rattle.laws.proofs.CountLaws.{tally-le}
 use Rattle.growing.specs.World.{World, source_count}
+use Rattle.worlds.specs.declared.Column.{Column}
 use Rattle.worlds.specs.declared.Lines.{Lines}
 use Rattle.worlds.specs.Kept.{Allowed, ColumnsKept, Sheet, TypesAvoided}
 use Rattle.worlds.specs.Asked.{Breaks}
 use Rattle.queries.specs.Avoided.{ColumnsAvoided}
 use Rattle.queries.proofs.BreakLaws.{Throughout, breaks-same}
 use Rattle.aims.specs.Columns.{ColumnKept, LeastKept, MostKept}
+use Rattle.worlds.specs.Lined.{column_at}
 
 module _ (x : Sheet) (w : World) (h : Allowed x w) (s from p : ℕ) where
   -- a slot past the last has no links
@@ -70,26 +72,26 @@ module _ (x : Sheet) (n s a from : ℕ) where
         go w h k p l t false e =
             let over = leb-false (source_count w s from p) high e in absurd (k.at p l t (record { least = omega arith; most = count-few x w h s from p }))
 
--- ---- both limits of column j, and all columns
+-- ---- both limits of a column, and all columns
 
-module _ (x : Lines) (j : ℕ) (w : World) where
+module _ (c : Column) (w : World) where
   abbrev pub LeastBy : Type 0
-  LeastBy = LeastKept (get_or x.columnslot j 0) (get_or x.columnto j 0) (get_or x.columnfrom j 0) (get_or x.columnlow j 0) w
+  LeastBy = LeastKept c.slot c.to c.from c.low w
 
   abbrev pub MostBy : Type 0
-  MostBy = MostKept (get_or x.columnslot j 0) (get_or x.columnto j 0) (get_or x.columnfrom j 0) (get_or x.columnhigh j 0) w
+  MostBy = MostKept c.slot c.to c.from c.high w
 
-  pub column-least : ColumnKept x j w → LeastBy
+  pub column-least : ColumnKept c w → LeastBy
   column-least k = record { at = λ p l t. (k.at p l t).least }
 
-  pub column-most : ColumnKept x j w → MostBy
+  pub column-most : ColumnKept c w → MostBy
   column-most k = record { at = λ p l t. (k.at p l t).most }
 
-  pub column-both : LeastBy → MostBy → ColumnKept x j w
+  pub column-both : LeastBy → MostBy → ColumnKept c w
   column-both f g = record { at = λ p l t. record { least = f.at p l t; most = g.at p l t } }
 
-pub column-at : (x : Lines) (j : ℕ) → j < 16 → (w : World) → ColumnsKept x w → ColumnKept x j w
+pub column-at : (x : Lines) (j : ℕ) → j < 16 → (w : World) → ColumnsKept x w → ColumnKept (column_at x j) w
 column-at x j h w k = record { at = λ p l t. k.at j p h l t }
 
-pub columns_of : (x : Lines) (w : World) → ((j : ℕ) → j < 16 → ColumnKept x j w) → ColumnsKept x w
+pub columns_of : (x : Lines) (w : World) → ((j : ℕ) → j < 16 → ColumnKept (column_at x j) w) → ColumnsKept x w
 columns_of x w k = record { at = λ j p h l t. (k j h).at p l t }

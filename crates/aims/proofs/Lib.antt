@@ -1,4 +1,5 @@
-pub mod SkipLaws
+pub mod ChainLaws
+pub mod AskLaws
 pub mod RowLaws
 pub mod ColumnLaws
 pub mod SingleLaws

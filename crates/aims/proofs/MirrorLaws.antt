@@ -10,6 +10,7 @@ use Rattle.laws.specs.Bits.{bit}
 use Rattle.laws.proofs.ConnectiveLaws.{and_both, and_left, and_right, true-false}
 use Rattle.growing.specs.World.{World}
 use Rattle.worlds.specs.declared.Lines.{Lines}
+use Rattle.worlds.specs.declared.Mirror.{Mirror}
 use Rattle.worlds.specs.Kept.{MirrorsKept, Sheet}
 use Rattle.worlds.specs.Asked.{Breaks}
 use Rattle.queries.specs.Avoided.{HalfLoopsAvoided, HalvesAvoided}
@@ -17,6 +18,7 @@ use Rattle.queries.proofs.BreakLaws.{Throughout, breaks-last, breaks-same}
 use Rattle.aims.specs.Rows.{AllLinksAvoided}
 use Rattle.aims.specs.Mirrors.{AllHalvesAvoided, MirrorKept}
 use Rattle.aims.proofs.RowLaws.{Common}
+use Rattle.worlds.specs.Lined.{mirror_at}
 
 -- ---- a link without the link back
 
@@ -58,25 +60,25 @@ module _ (x : Sheet) (n : ℕ) (s u a b : ℕ) where
     halves-second c both f =
         breaks-last x n ok m (AllHalvesAvoided s u a b) (HalfLoopsAvoided s u c) (loops-of s u a b c both) (λ w h e. all-halves s u a b c both w (f w h e))
 
--- ---- mirror j, and all mirrors
+-- ---- a mirror, and all mirrors
 
-module _ (x : Lines) (j : ℕ) (w : World) where
+module _ (m : Mirror) (w : World) where
   abbrev pub There : Type 0
-  There = AllHalvesAvoided (get_or x.mirrorright j 0) (get_or x.mirrorleft j 0) (get_or x.mirrorfrom j 0) (get_or x.mirrorto j 0) w
+  There = AllHalvesAvoided m.right m.left m.from m.to w
 
   abbrev pub Back : Type 0
-  Back = AllHalvesAvoided (get_or x.mirrorleft j 0) (get_or x.mirrorright j 0) (get_or x.mirrorto j 0) (get_or x.mirrorfrom j 0) w
+  Back = AllHalvesAvoided m.left m.right m.to m.from w
 
-  pub mirror-there : MirrorKept x j w → There
+  pub mirror-there : MirrorKept m w → There
   mirror-there k = record { at = λ o p lo lp e f g i. true-false (sym (k.at o p lo lp e f) ∙ g) i }
 
-  pub mirror-back : MirrorKept x j w → Back
+  pub mirror-back : MirrorKept m w → Back
   mirror-back k = record { at = λ o p lo lp e f g i. true-false (k.at p o lp lo f e ∙ g) i }
 
-  pub mirror-both : There → Back → MirrorKept x j w
+  pub mirror-both : There → Back → MirrorKept m w
   mirror-both there back = record {
     at = λ o p lo lp e f.
-        go (w.link (get_or x.mirrorright j 0) o p) (w.link (get_or x.mirrorleft j 0) p o) (there.at o p lo lp e f) (back.at p o lp lo f e);
+        go (w.link m.right o p) (w.link m.left p o) (there.at o p lo lp e f) (back.at p o lp lo f e);
   }
     where
       go : (a b : Bool) → (a ≡ true → b ≡ false → ⊥) → (b ≡ true → a ≡ false → ⊥) → a ≡ b
@@ -85,8 +87,8 @@ module _ (x : Lines) (j : ℕ) (w : World) where
       go false true f g = absurd (g refl refl)
       go false false f g = refl
 
-pub mirror-at : (x : Lines) (j : ℕ) → j < 16 → (w : World) → MirrorsKept x w → MirrorKept x j w
+pub mirror-at : (x : Lines) (j : ℕ) → j < 16 → (w : World) → MirrorsKept x w → MirrorKept (mirror_at x j) w
 mirror-at x j h w k = record { at = λ o p lo lp e f. k.at j o p h lo lp e f }
 
-pub mirrors-of : (x : Lines) (w : World) → ((j : ℕ) → j < 16 → MirrorKept x j w) → MirrorsKept x w
+pub mirrors-of : (x : Lines) (w : World) → ((j : ℕ) → j < 16 → MirrorKept (mirror_at x j) w) → MirrorsKept x w
 mirrors-of x w k = record { at = λ j o p h lo lp e f. (k j h).at o p lo lp e f }

@@ -19,7 +19,7 @@ use Rattle.worlds.specs.Kept.{Allowed, RowsKept, Sheet}
 use Rattle.worlds.specs.Asked.{Breaks}
 use Rattle.queries.specs.Avoided.{LinksAvoided, LoopsAvoided, RowsAvoided}
 use Rattle.queries.proofs.BreakLaws.{Throughout, breaks-last}
-use Rattle.aims.specs.Rows.{AllLinksAvoided, HighsKept, LowsKept, RowKept, RowWithin, RowTargetsKept}
+use Rattle.aims.specs.Rows.{AllLinksAvoided, HighsKept, LowsKept, RowKept, RowTargetsKept}
 
 -- c holds the types of both masks; m the type t alone; d the types of a without those of b
 abbrev pub Common : ℕ → ℕ → ℕ → Type 0
@@ -195,23 +195,4 @@ module _ (targets lows highs : List ℕ) where
         let r = k (w.kind o * 32 + s) (omega arith) in
         subst (λ (y : ℕ). InLimits (get_or lows (w.kind o * 32 + s) 0) (get_or highs (w.kind o * 32 + s) 0) (tally (λ p. w.link y o p) w.size)) slot
         (record { least = r.low-kept.at o l type; most = r.high-kept.at o l type });
-  }
-
--- ---- rows that ask for nothing more
-
--- the test of a row: no target goes, no limit is narrower
-pub row_within : (targets lows highs targets2 lows2 highs2 : List ℕ) (i d : ℕ) → Rest d (get_or targets i 0) (get_or targets2 i 0) → d ≡ 0 → get_or lows2 i 0 ≤ get_or lows i 0
-    → get_or highs i 0 ≤ get_or highs2 i 0 → RowWithin targets lows highs targets2 lows2 highs2 i
-row_within targets lows highs targets2 lows2 highs2 i d f e l h = record { target = λ j t. go j t (bit j (get_or targets2 i 0)) refl; low = l; high = h }
-  where
-    go : (j : ℕ) → bit j (get_or targets i 0) ≡ true → (b : Bool) → bit j (get_or targets2 i 0) ≡ b → bit j (get_or targets2 i 0) ≡ true
-    go j t true z = z
-    go j t false z = absurd (true-false (rest-on d (get_or targets i 0) (get_or targets2 i 0) j f t z) (ap (bit j) e ∙ bit-zero j))
-
-module _ (x : Sheet) (n : ℕ) (targets lows highs : List ℕ) where
-  pub row_kept : (i : ℕ) → RowWithin x.targets x.lows x.highs targets lows highs i → Throughout x (RowKept targets lows highs i) n
-  row_kept i k w h z = record {
-    targets-kept = target-of x i w h targets (λ o p _ _ _ _ t f. true-false (k.target (w.kind p) t) f);
-    low-kept = low-none x n i lows k.low w h z;
-    high-kept = high-none x n i highs k.high w h z;
   }

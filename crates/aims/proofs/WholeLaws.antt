@@ -16,11 +16,12 @@ use Rattle.laws.proofs.ConnectiveLaws.{and_both, and_left, and_right, true-false
 use Rattle.laws.proofs.TwoLaws.{counted-two, two-counted}
 use Rattle.growing.specs.World.{World}
 use Rattle.worlds.specs.declared.Lines.{Lines}
+use Rattle.worlds.specs.declared.Whole.{Whole}
 use Rattle.worlds.specs.Kept.{Sheet, WholesKept, whole_by, whole_of}
 use Rattle.worlds.specs.Asked.{Breaks}
 use Rattle.queries.specs.Avoided.{OwnPartsAvoided, PartsAvoided}
 use Rattle.queries.proofs.BreakLaws.{Throughout, breaks-last}
-use Rattle.aims.specs.Wholes.{AllPartsAvoided, PairApart, PairEmpty}
+use Rattle.aims.specs.Wholes.{AllPartsAvoided, PairApart, PairsApart, is_whole_by}
 use Rattle.aims.proofs.RowLaws.{Common}
 
 -- ---- a target of two: they are others, or the first is the target itself, or the second is
@@ -65,91 +66,79 @@ parts_last x n ok m s u a b c d e both too f g =
     breaks-last x n ok m (AllPartsAvoided s u a b c) (OwnPartsAvoided u s e b) (λ w. parts-too s u a b c w e too)
     (λ w h z. all-parts s u a b c w d e both too (f w h z) (g w h z))
 
--- ---- the pair i of compositions
+-- ---- two compositions
 
--- what makes o a whole of p by composition j
-module _ (x : Lines) (w : World) (p o j : ℕ) where
-  pub whole_from : whole_by x w p o j ≡ true → bit (w.kind o) (get_or x.wholefrom j 0) ≡ true
-  whole_from = and_left (bit (w.kind o) (get_or x.wholefrom j 0)) (bit (w.kind p) (get_or x.wholeto j 0) && w.link (get_or x.wholeslot j 0) o p)
+-- what makes o a whole of p by a composition
+module _ (c : Whole) (w : World) (p o : ℕ) where
+  pub whole_from : is_whole_by c w p o ≡ true → bit (w.kind o) c.from ≡ true
+  whole_from = and_left (bit (w.kind o) c.from) (bit (w.kind p) c.to && w.link c.slot o p)
 
-  rest : whole_by x w p o j ≡ true → bit (w.kind p) (get_or x.wholeto j 0) && w.link (get_or x.wholeslot j 0) o p ≡ true
-  rest = and_right (bit (w.kind o) (get_or x.wholefrom j 0)) (bit (w.kind p) (get_or x.wholeto j 0) && w.link (get_or x.wholeslot j 0) o p)
+  rest : is_whole_by c w p o ≡ true → bit (w.kind p) c.to && w.link c.slot o p ≡ true
+  rest = and_right (bit (w.kind o) c.from) (bit (w.kind p) c.to && w.link c.slot o p)
 
-  whole_to : whole_by x w p o j ≡ true → bit (w.kind p) (get_or x.wholeto j 0) ≡ true
-  whole_to e = and_left (bit (w.kind p) (get_or x.wholeto j 0)) (w.link (get_or x.wholeslot j 0) o p) (rest e)
+  whole_to : is_whole_by c w p o ≡ true → bit (w.kind p) c.to ≡ true
+  whole_to e = and_left (bit (w.kind p) c.to) (w.link c.slot o p) (rest e)
 
-  whole-link : whole_by x w p o j ≡ true → w.link (get_or x.wholeslot j 0) o p ≡ true
-  whole-link e = and_right (bit (w.kind p) (get_or x.wholeto j 0)) (w.link (get_or x.wholeslot j 0) o p) (rest e)
+  whole-link : is_whole_by c w p o ≡ true → w.link c.slot o p ≡ true
+  whole-link e = and_right (bit (w.kind p) c.to) (w.link c.slot o p) (rest e)
 
-  whole-by : bit (w.kind o) (get_or x.wholefrom j 0) ≡ true → bit (w.kind p) (get_or x.wholeto j 0) ≡ true → w.link (get_or x.wholeslot j 0) o p ≡ true
-      → whole_by x w p o j ≡ true
-  whole-by e f g =
-      and_both (bit (w.kind o) (get_or x.wholefrom j 0)) (bit (w.kind p) (get_or x.wholeto j 0) && w.link (get_or x.wholeslot j 0) o p) e
-      (and_both (bit (w.kind p) (get_or x.wholeto j 0)) (w.link (get_or x.wholeslot j 0) o p) f g)
+  whole-by : bit (w.kind o) c.from ≡ true → bit (w.kind p) c.to ≡ true → w.link c.slot o p ≡ true → is_whole_by c w p o ≡ true
+  whole-by e f g = and_both (bit (w.kind o) c.from) (bit (w.kind p) c.to && w.link c.slot o p) e (and_both (bit (w.kind p) c.to) (w.link c.slot o p) f g)
 
-module _ (x : Sheet) (n : ℕ) (others : Lines) (i : ℕ) where
-  pub pair-turned : i % 16 < i / 16 → Throughout x (PairApart others i) n
-  pair-turned l w h _ = record { at = λ _ _ _ _ _ _ _ z _ _. omega arith }
+module _ (x : Sheet) (n : ℕ) (c d : Whole) where
+  -- no type is a part by both
+  pub pair-empty : (a : ℕ) → Common a c.to d.to → a ≡ 0 → Throughout x (PairApart c d) n
+  pair-empty a both z w h _ = record {
+    at = λ p o r _ _ _ _ e f.
+        true-false (both (w.kind p) ∙ and_both (bit (w.kind p) c.to) (bit (w.kind p) d.to) (whole_to c w p o e) (whole_to d w p r f))
+        (ap (bit (w.kind p)) z ∙ bit-zero (w.kind p));
+  }
 
   -- a slot past the last has no links
-  pub pair-past : 32 ≤ get_or others.wholeslot (i / 16) 0 → Throughout x (PairApart others i) n
-  pair-past l w h _ = record { at = λ p o _ _ _ _ _ _ e _. true-false (whole-link others w p o (i / 16) e) (h.past (get_or others.wholeslot (i / 16) 0) o p l) }
+  pub pair-past : 32 ≤ c.slot → Throughout x (PairApart c d) n
+  pair-past l w h _ = record { at = λ p o _ _ _ _ _ e _. true-false (whole-link c w p o e) (h.past c.slot o p l) }
 
-  pub pair-past-too : 32 ≤ get_or others.wholeslot (i % 16) 0 → Throughout x (PairApart others i) n
-  pair-past-too l w h _ = record { at = λ p _ r _ _ _ _ _ _ e. true-false (whole-link others w p r (i % 16) e) (h.past (get_or others.wholeslot (i % 16) 0) r p l) }
+  pub pair-past-too : 32 ≤ d.slot → Throughout x (PairApart c d) n
+  pair-past-too l w h _ = record { at = λ p _ r _ _ _ _ _ e. true-false (whole-link d w p r e) (h.past d.slot r p l) }
 
-  pub pair_found : (ok : Bool) (m : World) (a : ℕ) → Common a (get_or others.wholeto (i / 16) 0) (get_or others.wholeto (i % 16) 0) → i / 16 ≤ i % 16
-      → Breaks x (AllPartsAvoided (get_or others.wholeslot (i / 16) 0) (get_or others.wholeslot (i % 16) 0) a (get_or others.wholefrom (i / 16) 0) (get_or others.wholefrom (i % 16) 0)) n ok m
-      → Breaks x (PairApart others i) n ok m
-  pair_found ok m a both l = breaks-last x n ok m (PairApart others i)
-      (AllPartsAvoided (get_or others.wholeslot (i / 16) 0) (get_or others.wholeslot (i % 16) 0) a (get_or others.wholefrom (i / 16) 0) (get_or others.wholefrom (i % 16) 0))
+  pub pair_found : (ok : Bool) (m : World) (a : ℕ) → Common a c.to d.to → Breaks x (AllPartsAvoided c.slot d.slot a c.from d.from) n ok m → Breaks x (PairApart c d) n ok m
+  pair_found ok m a both = breaks-last x n ok m (PairApart c d) (AllPartsAvoided c.slot d.slot a c.from d.from)
       (λ w k.
       record {
         at = λ p o r lp lo lr ne e f g y z.
             let t = sym (both (w.kind p)) ∙ e in
-            let first = bit (w.kind p) (get_or others.wholeto (i / 16) 0) in
-            let second = bit (w.kind p) (get_or others.wholeto (i % 16) 0) in
-            k.at p o r lp lo lr ne l (whole-by others w p o (i / 16) f (and_left first second t) y) (whole-by others w p r (i % 16) g (and_right first second t) z);
+            let first = bit (w.kind p) c.to in
+            let second = bit (w.kind p) d.to in
+            k.at p o r lp lo lr ne (whole-by c w p o f (and_left first second t) y) (whole-by d w p r g (and_right first second t) z);
       })
       (λ w h _ k.
       record {
-        at = λ p o r lp lo lr ne _ e f.
+        at = λ p o r lp lo lr ne e f.
             k.at p o r lp lo lr ne
-            (both (w.kind p)
-            ∙ and_both (bit (w.kind p) (get_or others.wholeto (i / 16) 0)) (bit (w.kind p) (get_or others.wholeto (i % 16) 0)) (whole_to others w p o (i / 16) e) (whole_to others w p r (i % 16) f))
-            (whole_from others w p o (i / 16) e) (whole_from others w p r (i % 16) f) (whole-link others w p o (i / 16) e) (whole-link others w p r (i % 16) f);
+            (both (w.kind p) ∙ and_both (bit (w.kind p) c.to) (bit (w.kind p) d.to) (whole_to c w p o e) (whole_to d w p r f))
+            (whole_from c w p o e) (whole_from d w p r f) (whole-link c w p o e) (whole-link d w p r f);
       })
 
 -- ---- all pairs
 
-pub pair-at : (x : Lines) (i : ℕ) → i < 256 → (w : World) → WholesKept x w → PairApart x i w
+pub pairs-at : (x : Lines) (j : ℕ) → j < 16 → (w : World) → WholesKept x w → PairsApart x j w
 unfolding whole_of
-pair-at x i h w k = record {
-  at = λ p o r lp lo lr ne _ e f.
-      omega (
-        arith,
-        k.at p lp,
-        two-counted (whole_of x w p) w.size o r lo lr ne (any_of (whole_by x w p o) 16 (i / 16) (omega arith) e) (any_of (whole_by x w p r) 16 (i % 16) (omega arith) f),
-      );
+pairs-at x j h w k = record {
+  at = λ i _ hi. record {
+    at = λ p o r lp lo lr ne e f.
+        omega (arith, k.at p lp, two-counted (whole_of x w p) w.size o r lo lr ne (any_of (whole_by x w p o) 16 j h e) (any_of (whole_by x w p r) 16 i hi f));
+  };
 }
 
--- the pair of compositions j and k, in rising order
-pairs-apart : (x : Lines) (w : World) → ((i : ℕ) → i < 256 → PairApart x i w) → (p o r j k : ℕ) → j < 16 → k < 16 → j ≤ k → p < w.size → o < w.size → r < w.size
-    → (o ≡ r → ⊥) → whole_by x w p o j ≡ true → whole_by x w p r k ≡ true → ⊥
-pairs-apart x w f p o r j k hj hk l lp lo lr ne a b =
-    let first : (j * 16 + k) / 16 ≡ j = omega arith in
-    let second : (j * 16 + k) % 16 ≡ k = omega arith in
-    (f (j * 16 + k) (omega arith)).at p o r lp lo lr ne (omega arith) (ap (whole_by x w p o) first ∙ a) (ap (whole_by x w p r) second ∙ b)
-
-pub wholes-of : (x : Lines) (w : World) → ((i : ℕ) → i < 256 → PairApart x i w) → WholesKept x w
+pub wholes-of : (x : Lines) (w : World) → ((j : ℕ) → j < 16 → PairsApart x j w) → WholesKept x w
 unfolding whole_of
 wholes-of x w f = record { at = λ p lp. go p lp (leb (tally (whole_of x w p) w.size) 1) refl }
   where
     apart : (p o r j k : ℕ) → j < 16 → k < 16 → p < w.size → o < w.size → r < w.size → (o ≡ r → ⊥) → whole_by x w p o j ≡ true → whole_by x w p r k ≡ true
         → (t : Bool) → leb j k ≡ t → ⊥
-    apart p o r j k hj hk lp lo lr ne a b true e = pairs-apart x w f p o r j k hj hk (leb-true j k e) lp lo lr ne a b
+    apart p o r j k hj hk lp lo lr ne a b true e = ((f j hj).at k (leb-true j k e) hk).at p o r lp lo lr ne a b
     apart p o r j k hj hk lp lo lr ne a b false e =
-        let l = leb-false j k e in pairs-apart x w f p r o k j hk hj (omega arith) lp lr lo (λ z. ne (sym z)) b a
+        let l = leb-false j k e in ((f k hk).at j (omega arith) hj).at p r o lp lr lo (λ z. ne (sym z)) b a
 
     go : (p : ℕ) → p < w.size → (t : Bool) → leb (tally (whole_of x w p) w.size) 1 ≡ t → tally (whole_of x w p) w.size ≤ 1
     go p lp true e = leb-true (tally (whole_of x w p) w.size) 1 e
@@ -158,28 +147,3 @@ wholes-of x w f = record { at = λ p lp. go p lp (leb (tally (whole_of x w p) w.
         let a = any_at (whole_by x w p two.first) 16 two.holds in
         let b = any_at (whole_by x w p two.second) 16 two.holds-too in
         absurd (apart p two.first two.second a.0 b.0 a.1 b.1 lp two.below two.below-too two.apart a.2 b.2 (leb a.0 b.0) refl)
-
--- ---- pairs that ask for nothing
-
-module _ (from to : List ℕ) (i : ℕ) where
-  pub empty-turned : i % 16 < i / 16 → PairEmpty from to i
-  empty-turned l = record { at = λ z _ _ _ _ _ _ _. omega arith }
-
-  pub empty-first : get_or from (i / 16) 0 ≡ 0 → PairEmpty from to i
-  empty-first e = record { at = λ _ _ u _ a _ _ _. true-false a (ap (bit u) e ∙ bit-zero u) }
-
-  pub empty-second : get_or from (i % 16) 0 ≡ 0 → PairEmpty from to i
-  empty-second e = record { at = λ _ _ _ v _ a _ _. true-false a (ap (bit v) e ∙ bit-zero v) }
-
-  pub empty-common : (d : ℕ) → Common d (get_or to (i / 16) 0) (get_or to (i % 16) 0) → d ≡ 0 → PairEmpty from to i
-  empty-common d both e = record {
-    at = λ _ t _ _ _ _ a b. true-false (both t ∙ and_both (bit t (get_or to (i / 16) 0)) (bit t (get_or to (i % 16) 0)) a b) (ap (bit t) e ∙ bit-zero t);
-  }
-
-module _ (x : Sheet) (n : ℕ) (others : Lines) where
-  pub pair-empty : (i : ℕ) → PairEmpty others.wholefrom others.wholeto i → Throughout x (PairApart others i) n
-  pair-empty i k w h _ = record {
-    at = λ p o r _ _ _ _ l e f.
-        k.at l (w.kind p) (w.kind o) (w.kind r) (whole_from others w p o (i / 16) e) (whole_from others w p r (i % 16) f) (whole_to others w p o (i / 16) e)
-        (whole_to others w p r (i % 16) f);
-  }

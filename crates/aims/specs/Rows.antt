@@ -24,9 +24,3 @@ pub record RowKept (targets lows highs : List ℕ) (i : ℕ) (w : World) : Type 
   pub targets-kept : RowTargetsKept targets i w
   pub low-kept : LowsKept lows i w
   pub high-kept : HighsKept highs i w
-
--- the row at i of the second tables asks for nothing that the row of the first does not ask
-pub record RowWithin (targets lows highs targets2 lows2 highs2 : List ℕ) (i : ℕ) : Type 0 where
-  pub target : (j : ℕ) → bit j (get_or targets i 0) ≡ true → bit j (get_or targets2 i 0) ≡ true
-  pub low : get_or lows2 i 0 ≤ get_or lows i 0
-  pub high : get_or highs i 0 ≤ get_or highs2 i 0

@@ -1,46 +1,46 @@
 // The search for a world that a diagram's tables allow and that does not keep another diagram's tables: a short list of queries.
 #![tactic(auto)]
 
-ghost use Rattle.std.specs.Prelude.{◌≡◌, false, ◌<◌, ◌≤◌, is_some};
+ghost use Rattle.std.specs.Prelude.{◌≡◌, false, ◌≤◌, is_some};
 ghost use Rattle.worlds.specs.Kept.{KeepsOthers, sheet_of};
 ghost use Rattle.worlds.specs.Asked.{Breaks, world_built};
+ghost use Rattle.aims.specs.Finds.{Finds};
 ghost use Rattle.aims.specs.Lines.{LinesKept};
 
-use worlds::{Lines, Others, Site, Tables};
+// A search that finds nothing is followed by the next by `if let`, here and in the modules: of a closure for `or_else` that calls a method
+// the check infers no promise, and one written out for each closure says the method's again.
 
 mod asks;
 mod columns;
 mod mirrors;
 mod rows;
+mod search;
 mod singles;
 mod wholes;
 
-// A search that finds nothing is followed by the next, here and in the modules, by `if let`: what holds where it found nothing is at hand
-// there, and not in a closure for `or_else` or `find_map`.
+use crate::search::Search;
+use worlds::{Lines, Others, Site, Tables};
 
-// Any world, where a singleton class is missing.
-fn find_any(tables: &Tables, missing: bool, n: u8) -> Option<Site>
-    requires { n ≤ 8 }
-    ensures { Breaks (sheet_of tables.now) (λ _. missing ≡ false) n (is_some result) (world_built n result) }
-{
-    if missing {
-        return asks::ask_any(tables, n);
+impl<'a> Search<'a> {
+    // Any world, where a singleton class is missing.
+    fn find_any(&self, missing: bool) -> Option<Site>
+        ensures { Finds self.now (λ _. missing ≡ false) result }
+    {
+        if missing { self.ask_any() } else { None }
     }
-    None
-}
 
-// Links that the other diagram does not allow.
-fn find_lines(tables: &Tables, others: &Lines, n: u8) -> Option<Site>
-    requires { n ≤ 8 }
-    ensures { Breaks (sheet_of tables.now) (LinesKept others.now) n (is_some result) (world_built n result) }
-{
-    if let Some(site) = columns::find_columns(tables, others, n) {
-        return Some(site);
+    // Links that the other diagram does not allow.
+    fn find_lines(&self, others: &Lines) -> Option<Site>
+        ensures { Finds self.now (LinesKept others.now) result }
+    {
+        if let Some(site) = self.find_columns(others) {
+            return Some(site);
+        }
+        if let Some(site) = self.find_mirrors(others) {
+            return Some(site);
+        }
+        self.find_wholes(others)
     }
-    if let Some(site) = mirrors::find_mirrors(tables, others, n) {
-        return Some(site);
-    }
-    wholes::find_wholes(tables, others, n)
 }
 
 // A world that does not keep what the other diagram asks.
@@ -48,17 +48,18 @@ pub fn find_break(tables: &Tables, others: &Others, n: u8) -> Option<Site>
     requires { n ≤ 8 }
     ensures { Breaks (sheet_of tables.now) (KeepsOthers others.now) n (is_some result) (world_built n result) }
 {
-    if let Some(site) = find_any(tables, others.missing, n) {
+    let search = &Search { tables, n };
+    if let Some(site) = search.find_any(others.missing) {
         return Some(site);
     }
-    if let Some(site) = asks::ask_types(tables, others.bad, n) {
+    if let Some(site) = search.ask_types(others.bad) {
         return Some(site);
     }
-    if let Some(site) = singles::find_singles(tables, others.singles, n) {
+    if let Some(site) = search.find_singles(others.singles) {
         return Some(site);
     }
-    if let Some(site) = rows::find_rows(tables, others, n) {
+    if let Some(site) = search.find_rows(others) {
         return Some(site);
     }
-    find_lines(tables, &others.lines, n)
+    search.find_lines(&others.lines)
 }

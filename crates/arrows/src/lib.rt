@@ -5,20 +5,23 @@ ghost use Rattle.std.specs.Prelude.{◌≡◌};
 ghost use Rattle.rules.specs.Arrow.{carries_right, carries_left, counted_right, counted_left, mirrors};
 
 // r2 links, from the left to the right.
+#[tactic(auto, unfolding(laws::specs::Connective::either, rules::specs::Arrow::carries_right))]
 pub fn carries_right(arrow: u8) -> bool
     ensures { result ≡ carries_right arrow }
 {
-    (arrow == 1) | ((arrow == 3) | (arrow == 4))
+    matches!(arrow, 1 | 3 | 4)
 }
 
 // r1 links, from the right to the left.
+#[tactic(auto, unfolding(laws::specs::Connective::either, rules::specs::Arrow::carries_left))]
 pub fn carries_left(arrow: u8) -> bool
     ensures { result ≡ carries_left arrow }
 {
-    (arrow == 2) | ((arrow == 3) | (arrow == 4))
+    matches!(arrow, 2 | 3 | 4)
 }
 
 // The sources of r2 links are counted.
+#[tactic(auto, unfolding(rules::specs::Arrow::counted_right))]
 pub fn counted_right(arrow: u8) -> bool
     ensures { result ≡ counted_right arrow }
 {
@@ -26,6 +29,7 @@ pub fn counted_right(arrow: u8) -> bool
 }
 
 // The sources of r1 links are counted.
+#[tactic(auto, unfolding(rules::specs::Arrow::counted_left))]
 pub fn counted_left(arrow: u8) -> bool
     ensures { result ≡ counted_left arrow }
 {
@@ -33,8 +37,9 @@ pub fn counted_left(arrow: u8) -> bool
 }
 
 // Each link of the one role has its mirror of the other.
+#[tactic(auto, unfolding(laws::specs::Connective::either, rules::specs::Arrow::mirrors))]
 pub fn is_mirrored(arrow: u8) -> bool
     ensures { result ≡ mirrors arrow }
 {
-    (arrow == 3) | (arrow == 4)
+    matches!(arrow, 3 | 4)
 }

@@ -16,11 +16,14 @@ use fields::Refusal;
 pub use parts::{Bench, Witness};
 use records::MemoryRecord;
 
+// Numbers of rules, entries and objects are below 256, as `as u8` keeps them.
 #[derive(Clone, Copy)]
 pub enum Reply {
     Done,
+    // 0 is no rule, as the reply to judge has it.
     Rule(u8),
     Records(u8),
+    // The number of entries is none, as the reply to evaluate has it.
     FirstFalse(u8),
     NoDifference,
     Difference(u8),
@@ -41,7 +44,8 @@ pub struct CompileReply {
     pub list: [u8; 320],
 }
 
-// What compile gives besides: 64 entries of five bytes, all zero where it was refused.
+// What compile gives besides: 64 entries of five bytes, all zero where it was refused. The list is there in each case, as the caller's
+// interface has it.
 #[derive(Clone, Copy)]
 pub struct Listed {
     pub bench: Bench,
@@ -61,7 +65,8 @@ pub fn fresh() -> Bench
     }
 }
 
-// A bench has the places 0 and 1.
+// A bench has the places 0 and 1. A place stays the number that the call gives: what a call means is said of the number, and two functions
+// take it apart, each in one test.
 fn check_place(p: u8) -> Result<(), Refusal>
     ensures { Placed p result }
 {
@@ -86,7 +91,8 @@ fn diagram_at(b: &Bench, p: u8) -> Result<ReadDiagram, Refusal>
     place_of(b, p).ok_or(Refusal::Empty)
 }
 
-// ---- what a call sets a place to, or its refusal
+// ---- what a call sets a place to, or its refusal. The two that read differ in the reader: one function for both would take what was read,
+// also where there is no such place, or the reader with its promise.
 
 fn loaded(place: u8, file: &[u8]) -> Result<Option<ReadDiagram>, Refusal>
     ensures { answer_of diagram_in result ≡ load place file.now }
@@ -263,9 +269,10 @@ impl Bench {
     }
 }
 
-// ---- the same on a bench that is handed on
+// ---- the same on a bench that is handed on: each call is the one above, and the bench that it leaves goes with the reply
 
 impl Bench {
+    // By `run_load`.
     pub fn load(mut self, place: u8, file: &[u8]) -> Replied
         ensures { Does self (Load place file.now) result [] }
     {
@@ -273,6 +280,7 @@ impl Bench {
         Replied { bench: self, reply }
     }
 
+    // By `run_clear`.
     pub fn clear(mut self, place: u8) -> Replied
         ensures { Does self (Clear place) result [] }
     {
@@ -280,6 +288,7 @@ impl Bench {
         Replied { bench: self, reply }
     }
 
+    // By `run_judge`.
     pub fn judge(self, place: u8, file: &[u8]) -> Replied
         ensures { Does self (Judge place file.now) result [] }
     {
@@ -287,6 +296,7 @@ impl Bench {
         Replied { bench: self, reply }
     }
 
+    // By `run_compile`.
     pub fn compile(self, place: u8) -> Listed
         ensures { DoesWith self (Compile place) result }
     {
@@ -299,6 +309,7 @@ impl Bench {
         }
     }
 
+    // By `run_evaluate`.
     pub fn evaluate(self, place: u8, file: &[u8]) -> Replied
         ensures { Does self (Evaluate place file.now) result [] }
     {
@@ -306,6 +317,7 @@ impl Bench {
         Replied { bench: self, reply }
     }
 
+    // By `run_compare`.
     pub fn compare(mut self, bound: u8) -> Replied
         ensures { Does self (Compare bound) result [] }
     {
@@ -313,6 +325,7 @@ impl Bench {
         Replied { bench: self, reply }
     }
 
+    // By `run_hand_out`.
     pub fn hand_out(self, out: &mut [u8]) -> Replied
         ensures { Does self (HandOut out.old) result out.new }
     {
@@ -320,6 +333,7 @@ impl Bench {
         Replied { bench: self, reply }
     }
 
+    // By `run_load_text`.
     pub fn load_text(mut self, place: u8, text: &[u8]) -> Replied
         ensures { Does self (LoadText place text.now) result [] }
     {

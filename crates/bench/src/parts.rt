@@ -8,7 +8,8 @@ use records::MemoryRecord;
 
 #[derive(Clone, Copy)]
 pub struct Witness {
-    // The place of the diagram whose indices the record has.
+    // The place of the diagram whose indices the record has. Compare takes them from place 0; what holds of a witness and what hand out
+    // writes are said of the place in it, whichever it is.
     pub place: u8,
     pub found: MemoryRecord,
 }

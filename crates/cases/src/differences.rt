@@ -1,6 +1,6 @@
 // Two diagrams compared: the reply, and of a witness, as it is handed out, its length, the replies of judge to it under the old
 // and the new diagram, and its bytes where they are asked for.
-use crate::{STDOUT, before, decode, pair, print_name};
+use crate::{Case, STDOUT, ahead, behind, decode, pair};
 use bench::{Bench, Replied, Reply};
 
 // A colon, and bytes as pairs of hexadecimal digits, each behind a blank.
@@ -51,28 +51,6 @@ fn print_difference(b: Bench, bound: u8, bytes: bool, space: &mut [u8]) {
     }
 }
 
-// What stands before the first slash, and behind it.
-fn ahead(line: &[u8]) -> &[u8] {
-    laws::front(line, before(line, 47))
-}
-
-fn behind(line: &[u8]) -> &[u8] {
-    laws::past(laws::past(line, before(line, 47)), 1)
-}
-
-// The bound: the byte behind the colon at `at`.
-fn bound_of(line: &[u8], at: usize) -> u8 {
-    let number = laws::past(line, at);
-    pair(laws::byte(number, 2), laws::byte(number, 3))
-}
-
-// The case's name and what compare says.
-fn print_reply(line: &[u8], at: usize, b: Bench, bytes: bool, space: &mut [u8]) {
-    print_name(b"compare, ", line, at);
-    print_difference(b, bound_of(line, at), bytes, space);
-    io::write_all(STDOUT, b"\n");
-}
-
 // Loads the diagram whose file a row of pairs is.
 fn load(b: Bench, place: u8, s: &[u8], space: &mut [u8]) -> Replied {
     let n = decode(s, space);
@@ -80,12 +58,15 @@ fn load(b: Bench, place: u8, s: &[u8], space: &mut [u8]) -> Replied {
 }
 
 // A bound and, each behind a slash, the old and the new diagram file.
-pub fn run_compare(line: &[u8], at: usize, bytes: bool, space: &mut [u8]) {
-    let files = behind(line);
+pub fn run_compare(c: Case<'_>, bytes: bool, space: &mut [u8]) {
+    let bound = pair(laws::byte(c.body, 1), laws::byte(c.body, 2));
+    let files = behind(c.body, b'/');
     let b = bench::fresh();
     let old = load(b, 0, ahead(files), space);
-    let new = load(old.bench, 1, behind(files), space);
+    let new = load(old.bench, 1, behind(files, b'/'), space);
     if matches!((old.reply, new.reply), (Reply::Done, Reply::Done)) {
-        print_reply(line, at, new.bench, bytes, space);
+        c.print_name(b"compare, ");
+        print_difference(new.bench, bound, bytes, space);
+        io::write_all(STDOUT, b"\n");
     }
 }

@@ -14,7 +14,7 @@ use fields::Refusal;
 // Where the replies go.
 const STDOUT: i32 = 1;
 
-// How many bytes stand before the first b, or all.
+// How many bytes stand before the first b, or all. `rows` has the same with `!=`: one line each.
 fn before(s: &[u8], b: u8) -> usize
     ensures { result ≤ length s.now }
 {
@@ -43,7 +43,8 @@ fn pairs(s: &[u8], out: &[u8]) -> usize
     (s.len() / 3).min(out.len())
 }
 
-// The bytes of a row of pairs at the front of out; how many they are.
+// The bytes of a row of pairs at the front of out; how many they are. By index: of a slice that an adapter of `iter_mut` has written, as
+// `zip`, the library says nothing, and its length is promised.
 fn decode(s: &[u8], out: &mut [u8]) -> usize
     ensures { result ≤ length out.new }
 {
@@ -56,94 +57,97 @@ fn decode(s: &[u8], out: &mut [u8]) -> usize
     n
 }
 
-// Prints what is asked for and the case's name.
-fn print_name(what: &[u8], line: &[u8], at: usize) {
-    io::write_all(STDOUT, what);
-    io::write_all(STDOUT, laws::past(laws::front(line, at), 2));
-    io::write_all(STDOUT, b": ");
+// What stands behind the first b.
+fn behind(s: &[u8], b: u8) -> &[u8] {
+    laws::past(laws::past(s, before(s, b)), 1)
 }
 
-// The same with a number behind it, on a line.
-fn say(what: &[u8], line: &[u8], at: usize, reply: usize) {
-    print_name(what, line, at);
-    io::print_decimal(STDOUT, reply as u64);
-    io::write_all(STDOUT, b"\n");
+// What stands before the first slash.
+fn ahead(s: &[u8]) -> &[u8] {
+    laws::front(s, before(s, b'/'))
 }
 
-// A refusal's number, 0 where there is none.
-fn number<T: Copy>(r: Result<T, Refusal>) -> usize {
-    r.err().map_or(0, |refusal| usize::from(refusal.number()))
+// A line: its letter, its name, and what stands behind the colon.
+#[derive(Clone, Copy)]
+struct Case<'a> {
+    letter: u8,
+    name: &'a [u8],
+    body: &'a [u8],
 }
 
-// A diagram file, and its refusal, 0 where it is accepted.
-fn run_diagram(line: &[u8], at: usize, space: &mut [u8]) {
-    let n = decode(laws::past(laws::past(line, at), 1), space);
-    say(
-        b"diagram, ",
-        line,
-        at,
-        number(loading::read_diagram(&space[..n])),
-    );
+impl<'a> Case<'a> {
+    fn of(line: &'a [u8]) -> Self {
+        Case {
+            letter: laws::byte(line, 0),
+            name: laws::past(laws::front(line, before(line, b':')), 2),
+            body: behind(line, b':'),
+        }
+    }
+
+    // Prints what is asked for and the case's name.
+    fn print_name(&self, what: &[u8]) {
+        io::write_all(STDOUT, what);
+        io::write_all(STDOUT, self.name);
+        io::write_all(STDOUT, b": ");
+    }
+
+    // The same with a number behind it, on a line. `as u64` loses nothing of a usize here and in the modules, and no From turns one into it.
+    fn say(&self, what: &[u8], reply: usize) {
+        self.print_name(what);
+        io::print_decimal(STDOUT, reply as u64);
+        io::write_all(STDOUT, b"\n");
+    }
+
+    // What reading a file gave: its refusal, 0 where it is accepted.
+    fn print_refusal<T: Copy>(&self, what: &[u8], r: Result<T, Refusal>) {
+        self.say(
+            what,
+            r.err().map_or(0, |refusal| usize::from(refusal.number())),
+        );
+    }
 }
 
-// A record file, and its refusal, 0 where it is accepted.
-fn run_record(line: &[u8], at: usize, space: &mut [u8]) {
-    let n = decode(laws::past(laws::past(line, at), 1), space);
-    say(
-        b"record, ",
-        line,
-        at,
-        number(checking::check_record(&space[..n])),
-    );
+// A diagram file, and its refusal.
+fn run_diagram(c: Case<'_>, space: &mut [u8]) {
+    let n = decode(c.body, space);
+    c.print_refusal(b"diagram, ", loading::read_diagram(laws::front(space, n)));
 }
 
-// The replies of judge and evaluate to a record file under a diagram.
-fn reply(line: &[u8], at: usize, d: diagrams::ReadDiagram, file: &[u8]) {
+// A record file, and its refusal.
+fn run_record(c: Case<'_>, space: &mut [u8]) {
+    let n = decode(c.body, space);
+    c.print_refusal(b"record, ", checking::check_record(laws::front(space, n)));
+}
+
+// The replies of judge and evaluate to a record file under a diagram: 0 where it is refused, which `run_record` is asked for.
+fn print_replies(c: Case<'_>, d: diagrams::ReadDiagram, file: &[u8]) {
     let rule = judging::judge(d, file).unwrap_or(0);
     let first = evaluating::evaluate(d, file).unwrap_or(0);
-    say(b"judge, ", line, at, usize::from(rule));
-    say(b"evaluate, ", line, at, first);
+    c.say(b"judge, ", usize::from(rule));
+    c.say(b"evaluate, ", first);
 }
 
 // A diagram file and, behind a slash, a record file.
-fn run_site(line: &[u8], at: usize, space: &mut [u8], other: &mut [u8]) {
-    let slash = before(line, 47);
-    let n = decode(
-        laws::past(laws::past(laws::front(line, slash), at), 1),
-        space,
-    );
-    let k = decode(laws::past(laws::past(line, slash), 1), other);
-    if let Ok(d) = loading::read_diagram(&space[..n]) {
-        reply(line, at, d, &other[..k]);
+fn run_site(c: Case<'_>, space: &mut [u8], other: &mut [u8]) {
+    let n = decode(ahead(c.body), space);
+    let k = decode(behind(c.body, b'/'), other);
+    if let Ok(d) = loading::read_diagram(laws::front(space, n)) {
+        print_replies(c, d, laws::front(other, k));
     }
 }
 
-// The five numbers of entry k.
-fn print_entry(list: [u8; 320], k: usize)
-    requires { k < 64 }
-{
-    for n in &list[k * 5..k * 5 + 5] {
-        io::write_all(STDOUT, b" ");
-        io::print_decimal(STDOUT, u64::from(*n));
-    }
-}
-
-// The entries of a compiled list.
-fn print_entries(list: [u8; 320], number: usize) {
-    for k in 0..number.min(64) {
-        print_entry(list, k);
-    }
-}
-
-// A diagram file, the number of its compiled predicates, and their bytes.
-fn run_compile(line: &[u8], at: usize, space: &mut [u8]) {
-    let n = decode(laws::past(laws::past(line, at), 1), space);
-    if let Ok(d) = loading::read_diagram(&space[..n]) {
-        let c = compiling::compile(d);
-        print_name(b"compile, ", line, at);
-        io::print_decimal(STDOUT, c.number as u64);
-        let list = c.list;
-        print_entries(list, c.number);
+// A diagram file, the number of its compiled predicates, and their bytes, five of each.
+fn run_compile(c: Case<'_>, space: &mut [u8]) {
+    let n = decode(c.body, space);
+    if let Ok(d) = loading::read_diagram(laws::front(space, n)) {
+        let compiled = compiling::compile(d);
+        c.print_name(b"compile, ");
+        io::print_decimal(STDOUT, compiled.number as u64);
+        let list = compiled.list;
+        for b in laws::front(&list, compiled.number.min(64) * 5) {
+            io::write_all(STDOUT, b" ");
+            io::print_decimal(STDOUT, u64::from(*b));
+        }
         io::write_all(STDOUT, b"\n");
     }
 }
@@ -151,15 +155,15 @@ fn run_compile(line: &[u8], at: usize, space: &mut [u8]) {
 // One line: a diagram file (D), a record file (R), a record file under a diagram (J), a diagram to compile (C), or two diagrams to
 // compare (F), where there is only one witness also for its bytes (W), or a row of calls (B).
 fn run(line: &[u8], space: &mut [u8], other: &mut [u8], replies: &mut [u8]) {
-    let at = before(line, 58);
-    match laws::byte(line, 0) {
-        b'D' => run_diagram(line, at, space),
-        b'R' => run_record(line, at, space),
-        b'C' => run_compile(line, at, space),
-        b'J' => run_site(line, at, space, other),
-        b'F' => differences::run_compare(line, at, false, space),
-        b'W' => differences::run_compare(line, at, true, space),
-        b'B' => rows::run_row(line, at, space, replies),
+    let c = Case::of(line);
+    match c.letter {
+        b'D' => run_diagram(c, space),
+        b'R' => run_record(c, space),
+        b'C' => run_compile(c, space),
+        b'J' => run_site(c, space, other),
+        b'F' => differences::run_compare(c, false, space),
+        b'W' => differences::run_compare(c, true, space),
+        b'B' => rows::run_row(c, space, replies),
         _ => {}
     }
 }
@@ -168,7 +172,7 @@ fn run(line: &[u8], space: &mut [u8], other: &mut [u8], replies: &mut [u8]) {
 fn run_all(text: &[u8], space: &mut [u8], other: &mut [u8], replies: &mut [u8]) {
     let mut rest = text;
     while 0 < rest.len() {
-        let k = before(rest, 10);
+        let k = before(rest, b'\n');
         run(laws::front(rest, k), space, other, replies);
         rest = laws::past(laws::past(rest, k), 1);
     }

@@ -2,7 +2,7 @@
 // was not written shows; more than three equal bytes in a row are printed once, with a star and their number.
 ghost use Rattle.std.specs.Prelude.{◌≤◌, length};
 
-use crate::{STDOUT, decode, print_name};
+use crate::{Case, STDOUT, decode};
 
 // How many bytes at the front are b.
 fn alike(s: &[u8], b: u8) -> usize
@@ -18,7 +18,7 @@ fn print_runs(s: &[u8]) {
         let behind = laws::past(rest, 1);
         let k = alike(behind, b);
         io::write_all(STDOUT, b" ");
-        io::print_hex(STDOUT, b as u64, 2);
+        io::print_hex(STDOUT, u64::from(b), 2);
         if 2 < k {
             io::write_all(STDOUT, b"*");
             io::print_decimal(STDOUT, alike(rest, b) as u64);
@@ -30,11 +30,11 @@ fn print_runs(s: &[u8]) {
 }
 
 // The calls in bytes, and their replies.
-pub fn run_row(line: &[u8], at: usize, space: &mut [u8], replies: &mut [u8]) {
-    let n = decode(laws::past(laws::past(line, at), 1), space);
-    replies.fill(238);
+pub fn run_row(c: Case<'_>, space: &mut [u8], replies: &mut [u8]) {
+    let n = decode(c.body, space);
+    replies.fill(0xEE);
     let m = replay::replay(laws::front(space, n), replies);
-    print_name(b"row, ", line, at);
+    c.print_name(b"row, ");
     io::print_decimal(STDOUT, m as u64);
     io::write_all(STDOUT, b":");
     print_runs(replies);

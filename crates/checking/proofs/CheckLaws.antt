@@ -8,6 +8,7 @@ use native.Mathlib.Omega.{arith}
 use borrow.Author.Tests.{le-ltb, lt-ltb, ne_eqb}
 use mathlib.Core.List.{List}
 use mathlib.Core.Path.{◌≡◌, ap, refl, sym, ◌∙◌}
+use Rattle.std.specs.Borrow.{Bor}
 use Rattle.laws.specs.Bounded.{one}
 use Rattle.laws.specs.Connective.{imp}
 use Rattle.laws.proofs.SearchLaws.{tests}
@@ -45,26 +46,33 @@ before {x} n e h = ap not (lt-ltb x n (omega arith))
 -- for `search`, with the definition of the refusal unfolded
 pub ruleset checks = (tests, holds-not, fails-not, falls, rises, beyond, before)
 
--- ---- the numbers behind a field
+-- ---- what is left behind a field
 
-module _ (s : Progress) (t : ℕ) (c : List ℕ) where
-  counted-by : {n o v l : ℕ} → n ≡ cond (eqb t 0x60) (byte c 0) s.count → o ≡ s.objects + one (eqb t 0x61) → v ≡ s.values + one (eqb t 0x62) → l ≡ s.links + one (eqb t 0x63)
-      → record { last = t; count = n; objects = o; values = v; links = l } ≡ counted s t c
+module _ (s : Progress) (t : ℕ) (c : Bor (List ℕ)) where
+  counted-by : {n o v l : ℕ} {x y : Bor (List ℕ)} → n ≡ cond (eqb t 0x60) (byte c.now 0) s.count → o ≡ s.objects + one (eqb t 0x61)
+      → v ≡ s.values + one (eqb t 0x62) → l ≡ s.links + one (eqb t 0x63) → x ≡ cond (eqb t 0x62) c s.value → y ≡ cond (eqb t 0x63) c s.link
+      → record { last = t; count = n; objects = o; values = v; links = l; value = x; link = y } ≡ counted s t c
   unfolding counted
-  counted-by p q r m = rw (p, q, r, m)
+  counted-by p q r m x y = rw (p, q, r, m, x, y)
 
-  pub count-60 : {n : ℕ} → t ≡ 0x60 → n ≡ byte c 0 → record { last = t; count = n; objects = s.objects; values = s.values; links = s.links } ≡ counted s t c
-  count-60 e p = counted-by (rw e p) (rw (e, add-zero)) (rw (e, add-zero)) (rw (e, add-zero))
+  pub count-60 : {n : ℕ} → t ≡ 0x60 → n ≡ byte c.now 0
+      → record { last = t; count = n; objects = s.objects; values = s.values; links = s.links; value = s.value; link = s.link } ≡ counted s t c
+  count-60 e p = counted-by (rw e p) (rw (e, add-zero)) (rw (e, add-zero)) (rw (e, add-zero)) (rw e) (rw e)
 
-  pub count-61 : t ≡ 0x61 → record { last = t; count = s.count; objects = s.objects + 1; values = s.values; links = s.links } ≡ counted s t c
-  count-61 e = counted-by (rw e) (rw e) (rw (e, add-zero)) (rw (e, add-zero))
+  pub count-61 : t ≡ 0x61
+      → record { last = t; count = s.count; objects = s.objects + 1; values = s.values; links = s.links; value = s.value; link = s.link } ≡ counted s t c
+  count-61 e = counted-by (rw e) (rw e) (rw (e, add-zero)) (rw (e, add-zero)) (rw e) (rw e)
 
-  pub count-62 : t ≡ 0x62 → record { last = t; count = s.count; objects = s.objects; values = s.values + 1; links = s.links } ≡ counted s t c
-  count-62 e = counted-by (rw e) (rw (e, add-zero)) (rw e) (rw (e, add-zero))
+  pub count-62 : t ≡ 0x62
+      → record { last = t; count = s.count; objects = s.objects; values = s.values + 1; links = s.links; value = c; link = s.link } ≡ counted s t c
+  count-62 e = counted-by (rw e) (rw (e, add-zero)) (rw e) (rw (e, add-zero)) (rw e) (rw e)
 
-  pub count-63 : t ≡ 0x63 → record { last = t; count = s.count; objects = s.objects; values = s.values; links = s.links + 1 } ≡ counted s t c
-  count-63 e = counted-by (rw e) (rw (e, add-zero)) (rw (e, add-zero)) (rw e)
+  pub count-63 : t ≡ 0x63
+      → record { last = t; count = s.count; objects = s.objects; values = s.values; links = s.links + 1; value = s.value; link = c } ≡ counted s t c
+  count-63 e = counted-by (rw e) (rw (e, add-zero)) (rw (e, add-zero)) (rw e) (rw e) (rw e)
 
-  pub count-other : (t ≡ 0x60 → ⊥) → (t ≡ 0x61 → ⊥) → (t ≡ 0x62 → ⊥) → (t ≡ 0x63 → ⊥) → record { last = t; count = s.count; objects = s.objects; values = s.values; links = s.links } ≡ counted s t c
+  pub count-other : (t ≡ 0x60 → ⊥) → (t ≡ 0x61 → ⊥) → (t ≡ 0x62 → ⊥) → (t ≡ 0x63 → ⊥)
+      → record { last = t; count = s.count; objects = s.objects; values = s.values; links = s.links; value = s.value; link = s.link } ≡ counted s t c
   count-other d e f g =
       counted-by (rw (ne_eqb t 0x60 d)) (rw (ne_eqb t 0x61 e, add-zero)) (rw (ne_eqb t 0x62 f, add-zero)) (rw (ne_eqb t 0x63 g, add-zero))
+      (rw (ne_eqb t 0x62 f)) (rw (ne_eqb t 0x63 g))

@@ -3,10 +3,11 @@
 use Prim.Native.Nat.{◌<◌, suc, zero, ℕ}
 use native.Mathlib.Omega.{arith}
 use mathlib.Core.Bool.{Bool, cond, false, not, true}
-use mathlib.Core.List.{List}
+use mathlib.Core.List.{List, []}
 use mathlib.Core.Path.{◌∙◌, ◌≡◌, ap, refl, sym}
 use lib.Dec.{eqb}
-use lib.ListN.{length, take}
+use lib.ListN.{length}
+use Rattle.std.specs.Borrow.{Bor}
 use Rattle.laws.specs.Connective.{refuse}
 use Rattle.files.specs.Content.{byte}
 use Rattle.files.specs.Field.{Rows, cut, end, row, rows}
@@ -24,19 +25,18 @@ use Rattle.checking.specs.declared.Progress.{Progress}
 use Rattle.checking.specs.Progress.{counted, end_no, field_no}
 use Rattle.checking.proofs.SeenLaws.{Seen, field-refusal, keeps, seen_nothing}
 
--- The rest of the file decides as the whole does, behind the record read so far, of which s, v and k tell.
-pub record Reading (file : List ℕ) (s : Progress) (v k rest : List ℕ) : Type 0 where
+-- The rest of the file decides as the whole does, behind the record read so far, of which s tells.
+pub record Reading (file : List ℕ) (s : Progress) (rest : List ℕ) : Type 0 where
   pub so_far : Record
-  pub seen : Seen s v k so_far
+  pub seen : Seen s so_far
   pub same : refusal_of (read_record file) ≡ refusal_of (record_from s.last s.count so_far (rows rest))
 
-pub reading-begin : (file : List ℕ) {v k : List ℕ} → v ≡ take 0 file → k ≡ take 0 file
-    → Reading file (record { last = 0; count = 0; objects = 0; values = 0; links = 0 }) v k file
+pub reading-begin : (file : List ℕ) {x y : Bor (List ℕ)} → x.now ≡ [] → y.now ≡ []
+    → Reading file (record { last = 0; count = 0; objects = 0; values = 0; links = 0; value = x; link = y }) file
 unfolding read_record
-reading-begin file p q =
-    rw (p, q) (record { so_far = no_record; seen = seen_nothing; same = refl })
+reading-begin file p q = record { so_far = no_record; seen = seen_nothing p q; same = refl }
 
-module _ (file : List ℕ) (s : Progress) (v k rest : List ℕ) (at : Reading file s v k rest) where
+module _ (file : List ℕ) (s : Progress) (rest : List ℕ) (at : Reading file s rest) where
   -- ---- nothing is left
 
   end-refusal : (r : Record) → s.objects ≡ length r.objects → refusal_of (record_from s.last s.count r end) ≡ end_no s
@@ -67,13 +67,13 @@ module _ (file : List ℕ) (s : Progress) (v k rest : List ℕ) (at : Reading fi
     later : Answer Record
     later = record_from f.tag (cond (eqb f.tag 0x60) (byte f.content.now 0) s.count) (record_with at.so_far f.tag f.content.now) (rows f.rest.now)
 
-    step : (m : ℕ) → m ≡ field_no s v k f.tag f.content.now → refusal_of (read_record file) ≡ refusal_of (or_refused m later)
+    step : (m : ℕ) → m ≡ field_no s f.tag f.content.now → refusal_of (read_record file) ≡ refusal_of (or_refused m later)
     unfolding record_from later
     step m e =
         from (row f.tag f.content.now (rows f.rest.now)) front.is
-        ∙ ap (λ (n : ℕ). refusal_of (or_refused n later)) (sym (e ∙ field-refusal s v k at.so_far at.seen f.tag f.content.now))
+        ∙ ap (λ (n : ℕ). refusal_of (or_refused n later)) (sym (e ∙ field-refusal s at.so_far at.seen f.tag f.content.now))
 
-    pub reading-refused : {T : Type 0} (y : Refusal) (r : Result T Refusal) → number_of y ≡ field_no s v k f.tag f.content.now → IsErrAnd r (λ z. z ≡ y)
+    pub reading-refused : {T : Type 0} (y : Refusal) (r : Result T Refusal) → number_of y ≡ field_no s f.tag f.content.now → IsErrAnd r (λ z. z ≡ y)
         → refusal_number r ≡ refusal_of (read_record file)
     unfolding refusal_of or_refused
     reading-refused y r e q = passed-number r y q ∙ sym (step (number_of y) e ∙ go (number_of y) (numbered y) later)
@@ -82,13 +82,12 @@ module _ (file : List ℕ) (s : Progress) (v k rest : List ℕ) (at : Reading fi
         go zero h a = absurd (omega arith)
         go (suc m) h a = refl
 
-    pub reading-on : {s' : Progress} {v' k' : List ℕ} → 0 ≡ field_no s v k f.tag f.content.now → s' ≡ counted s f.tag f.content.now
-        → v' ≡ cond (eqb f.tag 0x62) f.content.now v → k' ≡ cond (eqb f.tag 0x63) f.content.now k → Reading file s' v' k' f.rest.now
+    pub reading-on : {s' : Progress} → 0 ≡ field_no s f.tag f.content.now → s' ≡ counted s f.tag f.content → Reading file s' f.rest.now
     unfolding counted or_refused later
-    reading-on z es ev ek =
-        rw (es, ev, ek)
+    reading-on z es =
+        rw es
         (record {
           so_far = record_with at.so_far f.tag f.content.now;
-          seen = keeps s v k at.so_far f.content.now f.tag at.seen (sym (z ∙ field-refusal s v k at.so_far at.seen f.tag f.content.now));
+          seen = keeps s at.so_far f.content f.tag at.seen (sym (z ∙ field-refusal s at.so_far at.seen f.tag f.content.now));
           same = step 0 z;
         })

@@ -1,7 +1,8 @@
--- The refusals of a record file's fields over numbers and contents: what the fields before left is how many came, and the
--- contents of the last value and the last link.
+-- The refusals of a record file's fields over what the fields before left: how many came, and the contents of the last value and
+-- the last link.
 -- Assumes nothing.
 use Rattle.std.specs.Prelude.{◌+◌, ℕ, cond, not, List, eqb, leb, ltb}
+use Rattle.std.specs.Borrow.{Bor}
 use Rattle.laws.specs.Bounded.{one}
 use Rattle.laws.specs.Connective.{both, imp, refuse}
 use Rattle.files.specs.Content.{byte}
@@ -32,22 +33,24 @@ link_no count links p c =
     (refuse (not (imp (ltb 0 links) (link_before (link_of p) (link_of c)))) 5
     (refuse (not (both (ltb (link_of c).from count) (ltb (link_of c).to count))) 6 0)))
 
--- a field with the tag t and the content c behind those; v is the last value's content and k the last link's
-unfoldable pub field_no : Progress → List ℕ → List ℕ → ℕ → List ℕ → ℕ
-field_no s v k t c =
+-- a field with the tag t and the content c behind those
+unfoldable pub field_no : Progress → ℕ → List ℕ → ℕ
+field_no s t c =
     refuse (misplaced 0x60 record_tags s.last t) 2
     (cond (eqb t 0x60) (count_refusal c)
     (cond (eqb t 0x61) (object_no s.count s.objects c)
-    (cond (eqb t 0x62) (value_no s.count s.values v c) (link_no s.count s.links k c))))
+    (cond (eqb t 0x62) (value_no s.count s.values s.value.now c) (link_no s.count s.links s.link.now c))))
 
--- the numbers behind that field
-unfoldable pub counted : Progress → ℕ → List ℕ → Progress
+-- what is left behind that field
+unfoldable pub counted : Progress → ℕ → Bor (List ℕ) → Progress
 counted s t c = record {
   last = t;
-  count = cond (eqb t 0x60) (byte c 0) s.count;
+  count = cond (eqb t 0x60) (byte c.now 0) s.count;
   objects = s.objects + one (eqb t 0x61);
   values = s.values + one (eqb t 0x62);
   links = s.links + one (eqb t 0x63);
+  value = cond (eqb t 0x62) c s.value;
+  link = cond (eqb t 0x63) c s.link;
 }
 
 -- at the end: a file with no field, then missing objects

@@ -1,7 +1,7 @@
 // The reader of record files that keeps nothing of them but the answer. A record here holds names, and no diagram is asked.
 #![tactic(auto)]
 
-ghost use Rattle.std.specs.Prelude.{◌≡◌, cond, ◌≤◌, ltb};
+ghost use Rattle.std.specs.Prelude.{◌≡◌, ◌≤◌, ltb};
 ghost use Rattle.laws.specs.Connective.{both};
 ghost use Rattle.fields.specs.Refusal.{refusal_number};
 ghost use Rattle.files.specs.RecordFile.{count_refusal, link_before, read_record, value_before};
@@ -11,28 +11,21 @@ ghost use Rattle.checking.specs.Progress.{counted, end_no, field_no, link_no, ob
 
 use fields::Refusal;
 
-// What the fields so far left: the last tag, the count that the file gives, and how many of each have come. The last tag is 0 before
-// the first field: no tag is 0, and none falls behind it. The contents of the last value and link go beside as slices, and not as
+// What the fields so far left: the last tag, 0 before the first field, as `fields::is_misplaced` asks for it; the count that the file
+// gives; how many of each have come; and the contents of the last value and of the last link, empty where there is none. These are no
 // Options: the numbers say already whether there is one, and two that say it would have to agree.
 #[derive(Clone, Copy)]
-pub struct Progress {
+pub struct Progress<'a> {
     pub last: u8,
     pub count: u8,
     pub objects: u8,
     pub values: usize,
     pub links: usize,
+    pub value: &'a [u8],
+    pub link: &'a [u8],
 }
 
-// ---- small parts
-
-// The content a where the test holds, else b.
-fn choose<'a>(test: bool, a: &'a [u8], b: &'a [u8]) -> &'a [u8]
-    ensures { result.now ≡ cond test a.now b.now }
-{
-    if test { a } else { b }
-}
-
-// ---- strictly rising
+// ---- strictly rising. The tests are written out, and not orders of tuples, since these would compare names past `fields::name_before`.
 
 // By object, then attribute name.
 fn value_before(a: &[u8], b: &[u8]) -> bool
@@ -130,9 +123,9 @@ fn check_link(count: u8, links: usize, p: &[u8], c: &[u8]) -> Result<(), Refusal
     Ok(())
 }
 
-// A field behind those of s; value and link are the contents of the last value and the last link.
-fn check_field(s: Progress, value: &[u8], link: &[u8], tag: u8, c: &[u8]) -> Result<(), Refusal>
-    ensures { refusal_number result ≡ field_no s value.now link.now tag c.now }
+// A field behind those of s.
+fn check_field(s: Progress<'_>, tag: u8, c: &[u8]) -> Result<(), Refusal>
+    ensures { refusal_number result ≡ field_no s.entry tag c.now }
 {
     if fields::is_misplaced(0x60, &[0x60, 0x61, 0x62, 0x63], s.last, tag) {
         return Err(Refusal::Misplaced);
@@ -140,17 +133,17 @@ fn check_field(s: Progress, value: &[u8], link: &[u8], tag: u8, c: &[u8]) -> Res
     match tag {
         0x60 => check_count(c),
         0x61 => check_object(s.count, s.objects, c),
-        0x62 => check_value(s.count, s.values, value, c),
-        _ => check_link(s.count, s.links, link, c),
+        0x62 => check_value(s.count, s.values, s.value, c),
+        _ => check_link(s.count, s.links, s.link, c),
     }
 }
 
 // ---- a file
 
-// The numbers behind a field.
-fn count_field(s: Progress, tag: u8, c: &[u8]) -> Progress
+// What is left behind a field.
+fn count_field<'a>(s: Progress<'a>, tag: u8, c: &'a [u8]) -> Progress<'a>
     requires { (s.objects ≤ 8) × ((s.values ≤ 256) × (s.links ≤ 2048)) }
-    ensures { result ≡ counted s tag c.now }
+    ensures { result ≡ counted s.entry tag c.entry }
 {
     let now = Progress { last: tag, ..s };
     match tag {
@@ -164,10 +157,12 @@ fn count_field(s: Progress, tag: u8, c: &[u8]) -> Progress
         },
         0x62 => Progress {
             values: s.values + 1,
+            value: c,
             ..now
         },
         0x63 => Progress {
             links: s.links + 1,
+            link: c,
             ..now
         },
         _ => now,
@@ -175,8 +170,8 @@ fn count_field(s: Progress, tag: u8, c: &[u8]) -> Progress
 }
 
 // A file with no field, then missing objects.
-fn check_end(s: Progress) -> Result<(), Refusal>
-    ensures { refusal_number result ≡ end_no s }
+fn check_end(s: Progress<'_>) -> Result<(), Refusal>
+    ensures { refusal_number result ≡ end_no s.entry }
 {
     if s.last == 0 {
         return Err(Refusal::Misplaced);
@@ -197,15 +192,13 @@ pub fn check_record(file: &[u8]) -> Result<(), Refusal>
         objects: 0,
         values: 0,
         links: 0,
+        value: &[],
+        link: &[],
     };
-    let mut value = laws::front(file, 0);
-    let mut link = value;
     let mut rest = file;
     while let Some(field) = fields::read_field(rest)? {
-        check_field(s, value, link, field.tag, field.content)?;
+        check_field(s, field.tag, field.content)?;
         s = count_field(s, field.tag, field.content);
-        value = choose(field.tag == 0x62, field.content, value);
-        link = choose(field.tag == 0x63, field.content, link);
         rest = field.rest;
     }
     check_end(s)

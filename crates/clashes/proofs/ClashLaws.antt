@@ -18,6 +18,7 @@ use Rattle.link_search.specs.Nets.{InLimits}
 use Rattle.worlds.specs.declared.Lines.{Lines}
 use Rattle.worlds.specs.Kept.{ColumnsKept, MirrorsKept, RowsKept, WholesKept, whole_by, whole_of}
 use Rattle.clashes.specs.Clashes.{FirstSources, LinkedBack, Never, OtherSources, TurnedSources}
+use Rattle.worlds.specs.Lined.{column_at, mirror_at, whole_at}
 
 -- an object that is a whole by one association is a whole
 pub whole-by : (x : Lines) (w : World) (p o j : ℕ) → j < 16 → whole_by x w p o j ≡ true → whole_of x w p o ≡ true
@@ -81,59 +82,59 @@ module _ (first here s mask least most : ℕ) where
 -- ---- a mirror, read from the left to the right, and from the right to the left
 
 module _ (x : Lines) (j s : ℕ) (small : j < 16) (w : World) (some : 0 < w.size) (mirrors : MirrorsKept x w) where
-  pub linked-right : get_or x.mirrorright j 0 ≡ s → bit (w.kind 0) (get_or x.mirrorto j 0) ≡ true → LinkedBack s (get_or x.mirrorfrom j 0) (get_or x.mirrorleft j 0) w
+  pub linked-right : (mirror_at x j).right ≡ s → bit (w.kind 0) (mirror_at x j).to ≡ true → LinkedBack s (mirror_at x j).from (mirror_at x j).left w
   linked-right e to = record { at = λ o l h. ap (λ (z : ℕ). w.link z o 0) (sym e) ∙ mirrors.at j o 0 small l some h to }
 
-  pub linked-left : get_or x.mirrorleft j 0 ≡ s → bit (w.kind 0) (get_or x.mirrorfrom j 0) ≡ true → LinkedBack s (get_or x.mirrorto j 0) (get_or x.mirrorright j 0) w
+  pub linked-left : (mirror_at x j).left ≡ s → bit (w.kind 0) (mirror_at x j).from ≡ true → LinkedBack s (mirror_at x j).to (mirror_at x j).right w
   linked-left e from = record { at = λ o l h. ap (λ (z : ℕ). w.link z o 0) (sym e) ∙ sym (mirrors.at j 0 o small some l from h) }
 
 -- ---- what is known besides, as limits of this form
 
 module _ (first here s mask least most : ℕ) where
   module _ (x : Lines) (j : ℕ) (small : j < 16) where
-    pub never-column : get_or x.columnslot j 0 ≡ s → bit first (get_or x.columnto j 0) ≡ true
-        → Never (λ w. FirstSources first here s mask least most w × OtherSources s (get_or x.columnfrom j 0) (get_or x.columnlow j 0) (get_or x.columnhigh j 0) w)
+    pub never-column : (column_at x j).slot ≡ s → bit first (column_at x j).to ≡ true
+        → Never (λ w. FirstSources first here s mask least most w × OtherSources s (column_at x j).from (column_at x j).low (column_at x j).high w)
         → Never (λ w. FirstSources first here s mask least most w × ColumnsKept x w)
     never-column e to f = record {
       at = λ w p. f.at w (
         p.0,
-        subst (λ (z : ℕ). InLimits (get_or x.columnlow j 0) (get_or x.columnhigh j 0) (source_count w z (get_or x.columnfrom j 0) 0)) e
-            (p.1.at j 0 small p.0.some (ap (λ (t : ℕ). bit t (get_or x.columnto j 0)) p.0.kind ∙ to)),
+        subst (λ (z : ℕ). InLimits (column_at x j).low (column_at x j).high (source_count w z (column_at x j).from 0)) e
+            (p.1.at j 0 small p.0.some (ap (λ (t : ℕ). bit t (column_at x j).to) p.0.kind ∙ to)),
       );
     }
 
-    pub never-whole : get_or x.wholeslot j 0 ≡ s → bit first (get_or x.wholeto j 0) ≡ true
-        → Never (λ w. FirstSources first here s mask least most w × OtherSources s (get_or x.wholefrom j 0) 0 1 w)
+    pub never-whole : (whole_at x j).slot ≡ s → bit first (whole_at x j).to ≡ true
+        → Never (λ w. FirstSources first here s mask least most w × OtherSources s (whole_at x j).from 0 1 w)
         → Never (λ w. FirstSources first here s mask least most w × WholesKept x w)
     never-whole e to f = record {
       at = λ w p. f.at w
           (p.0, record { least = omega arith; most = let m = p.1.at 0 p.0.some in omega (arith, fewest w p.0) });
     }
       where
-        fewest : (w : World) → FirstSources first here s mask least most w → source_count w s (get_or x.wholefrom j 0) 0 ≤ tally (whole_of x w 0) w.size
-        fewest w a = tally-mono (λ o. bit (w.kind o) (get_or x.wholefrom j 0) && w.link s o 0) (whole_of x w 0) w.size
+        fewest : (w : World) → FirstSources first here s mask least most w → source_count w s (whole_at x j).from 0 ≤ tally (whole_of x w 0) w.size
+        fewest w a = tally-mono (λ o. bit (w.kind o) (whole_at x j).from && w.link s o 0) (whole_of x w 0) w.size
             (λ o l h. whole-by x w 0 o j small
-            (and_both (bit (w.kind o) (get_or x.wholefrom j 0)) (bit (w.kind 0) (get_or x.wholeto j 0) && w.link (get_or x.wholeslot j 0) o 0)
-            (and_left (bit (w.kind o) (get_or x.wholefrom j 0)) (w.link s o 0) h)
-            (and_both (bit (w.kind 0) (get_or x.wholeto j 0)) (w.link (get_or x.wholeslot j 0) o 0) (ap (λ (t : ℕ). bit t (get_or x.wholeto j 0)) a.kind ∙ to)
-            (ap (λ (z : ℕ). w.link z o 0) e ∙ and_right (bit (w.kind o) (get_or x.wholefrom j 0)) (w.link s o 0) h))))
+            (and_both (bit (w.kind o) (whole_at x j).from) (bit (w.kind 0) (whole_at x j).to && w.link (whole_at x j).slot o 0)
+            (and_left (bit (w.kind o) (whole_at x j).from) (w.link s o 0) h)
+            (and_both (bit (w.kind 0) (whole_at x j).to) (w.link (whole_at x j).slot o 0) (ap (λ (t : ℕ). bit t (whole_at x j).to) a.kind ∙ to)
+            (ap (λ (z : ℕ). w.link z o 0) e ∙ and_right (bit (w.kind o) (whole_at x j).from) (w.link s o 0) h))))
 
     -- by a mirror: read from the left to the right, and from the right to the left
     module _ (targets lows highs : List ℕ) where
-      pub never-mirror : get_or x.mirrorright j 0 ≡ s → bit first (get_or x.mirrorto j 0) ≡ true
-          → Never (λ w. FirstSources first here s mask least most w × RowsKept targets lows highs w × LinkedBack s (get_or x.mirrorfrom j 0) (get_or x.mirrorleft j 0) w)
+      pub never-mirror : (mirror_at x j).right ≡ s → bit first (mirror_at x j).to ≡ true
+          → Never (λ w. FirstSources first here s mask least most w × RowsKept targets lows highs w × LinkedBack s (mirror_at x j).from (mirror_at x j).left w)
           → Never (λ w. FirstSources first here s mask least most w × RowsKept targets lows highs w × MirrorsKept x w)
       never-mirror e to f = record {
         at = λ w p. f.at w
-            (p.0, p.1, linked-right x j s small w p.0.some p.2 e (ap (λ (t : ℕ). bit t (get_or x.mirrorto j 0)) p.0.kind ∙ to));
+            (p.0, p.1, linked-right x j s small w p.0.some p.2 e (ap (λ (t : ℕ). bit t (mirror_at x j).to) p.0.kind ∙ to));
       }
 
-      pub never-mirror-back : get_or x.mirrorleft j 0 ≡ s → bit first (get_or x.mirrorfrom j 0) ≡ true
-          → Never (λ w. FirstSources first here s mask least most w × RowsKept targets lows highs w × LinkedBack s (get_or x.mirrorto j 0) (get_or x.mirrorright j 0) w)
+      pub never-mirror-back : (mirror_at x j).left ≡ s → bit first (mirror_at x j).from ≡ true
+          → Never (λ w. FirstSources first here s mask least most w × RowsKept targets lows highs w × LinkedBack s (mirror_at x j).to (mirror_at x j).right w)
           → Never (λ w. FirstSources first here s mask least most w × RowsKept targets lows highs w × MirrorsKept x w)
       never-mirror-back e from f = record {
         at = λ w p. f.at w
-            (p.0, p.1, linked-left x j s small w p.0.some p.2 e (ap (λ (t : ℕ). bit t (get_or x.mirrorfrom j 0)) p.0.kind ∙ from));
+            (p.0, p.1, linked-left x j s small w p.0.some p.2 e (ap (λ (t : ℕ). bit t (mirror_at x j).from) p.0.kind ∙ from));
       }
 
   -- y: where the tables have the row of the first object in slot t

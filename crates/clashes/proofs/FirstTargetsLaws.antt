@@ -15,6 +15,7 @@ use Rattle.clashes.specs.Clashes.{FirstSources, FirstTargets, LinkedBack, Never,
 use Rattle.clashes.specs.Sources.{SourcesKept}
 use Rattle.clashes.specs.Refuted.{Begun, Refuted}
 use Rattle.clashes.proofs.ClashLaws.{linked-left, linked-right}
+use Rattle.worlds.specs.Lined.{column_at, mirror_at}
 
 -- y: where the table has the row of the first object in the slot
 pub first-targets : (targets lows highs types : List ℕ) (first row low high y seeds : ℕ) → row < 32 → first ≡ get_or types 0 0 → y ≡ get_or types 0 0 * 32 + row → 0 < seeds
@@ -32,8 +33,8 @@ first-targets targets lows highs types first row low high y seeds small is e som
 
 module _ (first mask low high : ℕ) where
   -- y: where the table has the sources of the first object in slot s
-  pub never_back : (x : Lines) (sources : List ℕ) (i s there y : ℕ) → i < 16 → s < 32 → get_or x.columnslot i 0 ≡ s → bit first (get_or x.columnto i 0) ≡ true → y ≡ first * 32 + s
-      → ((t : ℕ) → Never (λ w. FirstSources first (get_or sources y 0) s (get_or x.columnfrom i 0) (get_or x.columnlow i 0) (get_or x.columnhigh i 0) w × TurnedSources s there t mask low high w))
+  pub never_back : (x : Lines) (sources : List ℕ) (i s there y : ℕ) → i < 16 → s < 32 → (column_at x i).slot ≡ s → bit first (column_at x i).to ≡ true → y ≡ first * 32 + s
+      → ((t : ℕ) → Never (λ w. FirstSources first (get_or sources y 0) s (column_at x i).from (column_at x i).low (column_at x i).high w × TurnedSources s there t mask low high w))
       → (t : ℕ) → Never (λ w. FirstTargets first t mask low high w × SourcesKept sources w × ColumnsKept x w × LinkedBack s there t w)
   never_back x sources i s there y small slot e to is f t = record {
     at = λ w p.
@@ -44,37 +45,37 @@ module _ (first mask low high : ℕ) where
             some = p.0.some;
             kind = k;
             typed = λ o l h. subst (λ (v : ℕ). bit (w.kind o) (get_or sources v 0) ≡ true) z (p.1.at s o 0 slot l p.0.some h);
-            within = subst (λ (v : ℕ). InLimits (get_or x.columnlow i 0) (get_or x.columnhigh i 0) (source_count w v (get_or x.columnfrom i 0) 0)) e
-                (p.2.at i 0 small p.0.some (ap (λ (u : ℕ). bit u (get_or x.columnto i 0)) k ∙ to));
+            within = subst (λ (v : ℕ). InLimits (column_at x i).low (column_at x i).high (source_count w v (column_at x i).from 0)) e
+                (p.2.at i 0 small p.0.some (ap (λ (u : ℕ). bit u (column_at x i).to) k ∙ to));
           },
           record { same = p.3; typed = p.0.typed; within = p.0.within },
         );
   }
 
   module _ (x : Lines) (sources : List ℕ) (j s row : ℕ) (small : j < 16) where
-    pub never-right : get_or x.mirrorright j 0 ≡ s → get_or x.mirrorleft j 0 ≡ row → bit first (get_or x.mirrorto j 0) ≡ true
-        → ((t : ℕ) → Never (λ w. FirstTargets first t mask low high w × SourcesKept sources w × ColumnsKept x w × LinkedBack s (get_or x.mirrorfrom j 0) t w))
+    pub never-right : (mirror_at x j).right ≡ s → (mirror_at x j).left ≡ row → bit first (mirror_at x j).to ≡ true
+        → Never (λ w. FirstTargets first row mask low high w × SourcesKept sources w × ColumnsKept x w × LinkedBack s (mirror_at x j).from row w)
         → Never (λ w. FirstTargets first row mask low high w × (SourcesKept sources w × ColumnsKept x w × MirrorsKept x w))
     never-right e r to f = record {
-      at = λ w p. (f row).at w (
+      at = λ w p. f.at w (
         p.0,
         p.1.0,
         p.1.1,
-        subst (λ (v : ℕ). LinkedBack s (get_or x.mirrorfrom j 0) v w) r
-            (linked-right x j s small w p.0.some p.1.2 e (ap (λ (u : ℕ). bit u (get_or x.mirrorto j 0)) p.0.kind ∙ to)),
+        subst (λ (v : ℕ). LinkedBack s (mirror_at x j).from v w) r
+            (linked-right x j s small w p.0.some p.1.2 e (ap (λ (u : ℕ). bit u (mirror_at x j).to) p.0.kind ∙ to)),
       );
     }
 
-    pub never-left : get_or x.mirrorleft j 0 ≡ s → get_or x.mirrorright j 0 ≡ row → bit first (get_or x.mirrorfrom j 0) ≡ true
-        → ((t : ℕ) → Never (λ w. FirstTargets first t mask low high w × SourcesKept sources w × ColumnsKept x w × LinkedBack s (get_or x.mirrorto j 0) t w))
+    pub never-left : (mirror_at x j).left ≡ s → (mirror_at x j).right ≡ row → bit first (mirror_at x j).from ≡ true
+        → Never (λ w. FirstTargets first row mask low high w × SourcesKept sources w × ColumnsKept x w × LinkedBack s (mirror_at x j).to row w)
         → Never (λ w. FirstTargets first row mask low high w × (SourcesKept sources w × ColumnsKept x w × MirrorsKept x w))
     never-left e r from f = record {
-      at = λ w p. (f row).at w (
+      at = λ w p. f.at w (
         p.0,
         p.1.0,
         p.1.1,
-        subst (λ (v : ℕ). LinkedBack s (get_or x.mirrorto j 0) v w) r
-            (linked-left x j s small w p.0.some p.1.2 e (ap (λ (u : ℕ). bit u (get_or x.mirrorfrom j 0)) p.0.kind ∙ from)),
+        subst (λ (v : ℕ). LinkedBack s (mirror_at x j).to v w) r
+            (linked-left x j s small w p.0.some p.1.2 e (ap (λ (u : ℕ). bit u (mirror_at x j).from) p.0.kind ∙ from)),
       );
     }
 

@@ -1,3 +1,4 @@
+pub mod AnyLaws
 pub mod SolutionLaws
 pub mod BitsLaws
 pub mod ClashLaws

@@ -13,6 +13,7 @@ use Rattle.worlds.specs.declared.Lines.{Lines}
 use Rattle.worlds.specs.Kept.{MirrorsKept}
 use Rattle.clashes.specs.Clashes.{Never}
 use Rattle.clashes.specs.Refuted.{BitsKept, MirroredBetween, Refuted}
+use Rattle.worlds.specs.Lined.{mirror_at}
 
 module _ (must shut : List ℕ) (o right p left : ℕ) (small-o : o < 8) (small-right : right < 32) (small-p : p < 8) (small-left : left < 32) where
   pub pair-first : net_of must (o * 32 + right) p ≡ true → net_of shut (p * 32 + left) o ≡ true
@@ -37,6 +38,6 @@ module _ (must shut types : List ℕ) (seeds : ℕ) where
   }
 
   pub turn-refuted : (x : Lines) (j : ℕ) → j < 16
-      → Refuted (λ w. BitsKept must shut w × MirroredBetween (get_or x.mirrorfrom j 0) (get_or x.mirrorto j 0) (get_or x.mirrorright j 0) (get_or x.mirrorleft j 0) w) types seeds
+      → Refuted (λ w. BitsKept must shut w × MirroredBetween (mirror_at x j).from (mirror_at x j).to (mirror_at x j).right (mirror_at x j).left w) types seeds
       → Refuted (λ w. BitsKept must shut w × MirrorsKept x w) types seeds
   turn-refuted x j l f = record { at = λ w b h. f.at w b (h.0, record { at = λ o p. h.1.at j o p l }) }

@@ -19,22 +19,23 @@ use Rattle.worlds.specs.Coherent.{Slotted}
 use Rattle.worlds.specs.Kept.{WholesKept, whole_of}
 use Rattle.clashes.specs.Refuted.{Begun, BitsKept, Refuted, must_whole, must_whole_by}
 use Rattle.clashes.proofs.ClashLaws.{whole-by}
+use Rattle.worlds.specs.Lined.{whole_at}
 
 module _ (x : Lines) (slotted : Slotted x) (must shut types : List ℕ) (seeds p : ℕ) (eight : seeds ≤ 8) (given : p < seeds) where
   must-whole : (w : World) → Begun types seeds w → BitsKept must shut w → (o : ℕ) → o < seeds → must_whole x must types p o ≡ true → whole_of x w p o ≡ true
   must-whole w b h o l e =
       let v = any_at (must_whole_by x must types p o) 16 e in
       let j = v.0 in
-      let from = bit (get_or types o 0) (get_or x.wholefrom j 0) in
-      let to = bit (get_or types p 0) (get_or x.wholeto j 0) in
-      let net = net_of must (o * 32 + get_or x.wholeslot j 0) p in
+      let from = bit (get_or types o 0) (whole_at x j).from in
+      let to = bit (get_or types p 0) (whole_at x j).to in
+      let net = net_of must (o * 32 + (whole_at x j).slot) p in
       let front = and_left (from && to) net v.2 in
       whole-by x w p o j v.1
-      (and_both (bit (w.kind o) (get_or x.wholefrom j 0)) (bit (w.kind p) (get_or x.wholeto j 0) && w.link (get_or x.wholeslot j 0) o p)
-      (ap (λ (t : ℕ). bit t (get_or x.wholefrom j 0)) (b.kept o l) ∙ and_left from to front)
-      (and_both (bit (w.kind p) (get_or x.wholeto j 0)) (w.link (get_or x.wholeslot j 0) o p)
-      (ap (λ (t : ℕ). bit t (get_or x.wholeto j 0)) (b.kept p given) ∙ and_right from to front)
-      (h.must-stand o (get_or x.wholeslot j 0) p (omega arith) (slotted.whole j v.1) (omega arith) (and_right (from && to) net v.2))))
+      (and_both (bit (w.kind o) (whole_at x j).from) (bit (w.kind p) (whole_at x j).to && w.link (whole_at x j).slot o p)
+      (ap (λ (t : ℕ). bit t (whole_at x j).from) (b.kept o l) ∙ and_left from to front)
+      (and_both (bit (w.kind p) (whole_at x j).to) (w.link (whole_at x j).slot o p)
+      (ap (λ (t : ℕ). bit t (whole_at x j).to) (b.kept p given) ∙ and_right from to front)
+      (h.must-stand o (whole_at x j).slot p (omega arith) (slotted.whole j v.1) (omega arith) (and_right (from && to) net v.2))))
 
   pub part-refuted : 1 < tally (must_whole x must types p) seeds → Refuted (λ w. BitsKept must shut w × WholesKept x w) types seeds
   part-refuted two = record {

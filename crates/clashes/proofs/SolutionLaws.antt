@@ -31,7 +31,7 @@ module _ (x : Sheet) (q : Query) (n : ℕ) where
   bits-kept w s = record { must-stand = s.asked.must; must-not = s.asked.shut }
 
   pub first-column : (sources : List ℕ) → SourceTable x.targets sources → 0 < q.seeds → (w : World) → Solution x q n w
-      → FirstColumn x.targets sources x.lows x.highs x.lines q.column q.from q.least q.most w
+      → FirstColumn x.targets sources x.lows x.highs x.lines q.column.slot q.column.from q.column.least q.column.most w
   first-column sources turned some w s = record {
     rows = s.allowed.rows;
     back = sources-kept sources turned w s;

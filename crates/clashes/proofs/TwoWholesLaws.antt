@@ -5,7 +5,6 @@ use mathlib.Core.Bool.{◌&&◌, true}
 use mathlib.Core.Path.{◌∙◌, ◌≡◌, ap, sym}
 use native.Mathlib.Omega.{arith}
 use lib.Bits.{bit_and}
-use lib.ListN.{get_or}
 use Rattle.laws.specs.Bits.{bit}
 use Rattle.laws.proofs.BitLaws.{bit-and}
 use Rattle.laws.proofs.ConnectiveLaws.{and_both, and_left, and_right}
@@ -15,24 +14,25 @@ use Rattle.worlds.specs.declared.Lines.{Lines}
 use Rattle.worlds.specs.Kept.{MirrorsKept, WholesKept, whole_of}
 use Rattle.clashes.specs.Clashes.{FirstTargets, Never}
 use Rattle.clashes.proofs.ClashLaws.{whole-by}
+use Rattle.worlds.specs.Lined.{mirror_at, whole_at}
 
-module _ (x : Lines) (t slot mask j : ℕ) (small : j < 16) (left : get_or x.mirrorleft j 0 ≡ slot) (right : get_or x.wholeslot j 0 ≡ get_or x.mirrorright j 0)
-    (target : bit t (get_or x.mirrorto j 0) ≡ true) (part : bit t (get_or x.wholeto j 0) ≡ true)
-    (inside : (u : ℕ) → bit u mask ≡ true → bit u (bit_and (get_or x.mirrorfrom j 0) (get_or x.wholefrom j 0)) ≡ true) where
+module _ (x : Lines) (t slot mask j : ℕ) (small : j < 16) (left : (mirror_at x j).left ≡ slot) (right : (whole_at x j).slot ≡ (mirror_at x j).right)
+    (target : bit t (mirror_at x j).to ≡ true) (part : bit t (whole_at x j).to ≡ true)
+    (inside : (u : ℕ) → bit u mask ≡ true → bit u (bit_and (mirror_at x j).from (whole_at x j).from) ≡ true) where
   module _ (low high : ℕ) (w : World) (f : FirstTargets t slot mask low high w) (mirrors : MirrorsKept x w) where
     target-whole : (o : ℕ) → o < w.size → w.link slot 0 o ≡ true → whole_of x w 0 o ≡ true
     target-whole o l e =
         whole-by x w 0 o j small
-        (and_both (bit (w.kind o) (get_or x.wholefrom j 0)) (bit (w.kind 0) (get_or x.wholeto j 0) && w.link (get_or x.wholeslot j 0) o 0)
-        (and_right (bit (w.kind o) (get_or x.mirrorfrom j 0)) (bit (w.kind o) (get_or x.wholefrom j 0)) both)
-        (and_both (bit (w.kind 0) (get_or x.wholeto j 0)) (w.link (get_or x.wholeslot j 0) o 0) (ap (λ (u : ℕ). bit u (get_or x.wholeto j 0)) f.kind ∙ part) back))
+        (and_both (bit (w.kind o) (whole_at x j).from) (bit (w.kind 0) (whole_at x j).to && w.link (whole_at x j).slot o 0)
+        (and_right (bit (w.kind o) (mirror_at x j).from) (bit (w.kind o) (whole_at x j).from) both)
+        (and_both (bit (w.kind 0) (whole_at x j).to) (w.link (whole_at x j).slot o 0) (ap (λ (u : ℕ). bit u (whole_at x j).to) f.kind ∙ part) back))
       where
-        both : bit (w.kind o) (get_or x.mirrorfrom j 0) && bit (w.kind o) (get_or x.wholefrom j 0) ≡ true
-        both = sym (bit-and (w.kind o) (get_or x.mirrorfrom j 0) (get_or x.wholefrom j 0)) ∙ inside (w.kind o) (f.typed o l e)
+        both : bit (w.kind o) (mirror_at x j).from && bit (w.kind o) (whole_at x j).from ≡ true
+        both = sym (bit-and (w.kind o) (mirror_at x j).from (whole_at x j).from) ∙ inside (w.kind o) (f.typed o l e)
 
-        back : w.link (get_or x.wholeslot j 0) o 0 ≡ true
+        back : w.link (whole_at x j).slot o 0 ≡ true
         back = ap (λ (z : ℕ). w.link z o 0) right
-            ∙ mirrors.at j o 0 small l f.some (and_left (bit (w.kind o) (get_or x.mirrorfrom j 0)) (bit (w.kind o) (get_or x.wholefrom j 0)) both) (ap (λ (u : ℕ). bit u (get_or x.mirrorto j 0)) f.kind ∙ target)
+            ∙ mirrors.at j o 0 small l f.some (and_left (bit (w.kind o) (mirror_at x j).from) (bit (w.kind o) (whole_at x j).from) both) (ap (λ (u : ℕ). bit u (mirror_at x j).to) f.kind ∙ target)
             ∙ ap (λ (z : ℕ). w.link z 0 o) left ∙ e
 
   pub two-wholes : (low high : ℕ) → 2 ≤ low → Never (λ w. FirstTargets t slot mask low high w × (MirrorsKept x w × WholesKept x w))

@@ -1,3 +1,4 @@
 pub mod Sources
 pub mod Refuted
 pub mod Clashes
+pub mod Asked

@@ -6,6 +6,7 @@ use Rattle.laws.specs.Bounded.{any}
 use Rattle.growing.specs.World.{World}
 use Rattle.link_search.specs.Nets.{net_of}
 use Rattle.worlds.specs.declared.Lines.{Lines}
+use Rattle.worlds.specs.Lined.{whole_at}
 
 -- w begins with objects of the given types
 pub record Begun (types : List ℕ) (seeds : ℕ) (w : World) : Type 0 where
@@ -38,7 +39,7 @@ pub record MirroredBetween (from to right left : ℕ) (w : World) : Type 0 where
 -- a link from o to p that must stand makes o a whole of p by association j, by some association
 abbrev pub must_whole_by : Lines → List ℕ → List ℕ → ℕ → ℕ → ℕ → Bool
 must_whole_by x must types p o j =
-    bit (get_or types o 0) (get_or x.wholefrom j 0) && bit (get_or types p 0) (get_or x.wholeto j 0) && net_of must (o * 32 + get_or x.wholeslot j 0) p
+    bit (get_or types o 0) (whole_at x j).from && bit (get_or types p 0) (whole_at x j).to && net_of must (o * 32 + (whole_at x j).slot) p
 
 abbrev pub must_whole : Lines → List ℕ → List ℕ → ℕ → ℕ → Bool
 must_whole x must types p o = any (must_whole_by x must types p o) 16

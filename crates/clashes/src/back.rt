@@ -1,5 +1,5 @@
 // The number of targets of the first object that a query asks for, against the columns of the links back.
-ghost use Rattle.std.specs.Prelude.{◌≡◌, true, List, ℕ, ◌*◌, ◌<◌, get_or};
+ghost use Rattle.std.specs.Prelude.{◌≡◌, true, List, ℕ, ◌<◌, get_or};
 ghost use Rattle.growing.specs.World.{target_count};
 ghost use Rattle.link_search.specs.Nets.{InLimits};
 ghost use Rattle.worlds.specs.Kept.{ColumnsKept, MirrorsKept, RowsKept};
@@ -7,69 +7,89 @@ ghost use Rattle.clashes.specs.Clashes.{FirstTargets, LinkedBack, Never};
 ghost use Rattle.clashes.specs.Sources.{SourcesKept};
 ghost use Rattle.clashes.specs.Refuted.{Refuted};
 
-use crate::counts::Asked;
+use crate::asked::Asked;
 use laws::Mask;
-use worlds::{Tables, Types};
+use worlds::{ColumnLimits, RowLimits, Tables, Types};
 
-// Whether a column in the slot excludes them, where the links in the slot from types of the mask `there` are the links back.
-fn is_apart_from_back(
-    tables: &Tables,
-    first: u32,
-    slot: u8,
-    there: u32,
+// The targets of the first object in the slot `row`: it has the type `first`, they have types of the mask, and `low` to `high` of them are
+// asked for. The links in `slot` from types of the mask `there` are the links back.
+#[derive(Clone, Copy)]
+struct Back {
+    first: u8,
+    row: u8,
     mask: u32,
     low: u8,
     high: u8,
-) -> bool
-    requires { (first < 24) × (slot < 32) }
-    ensures { result ≡ true → (t : ℕ) → Never (λ w. FirstTargets first t mask low high w × SourcesKept tables.now.sources w × ColumnsKept tables.now.lines w × LinkedBack slot there t w) }
-{
-    let here = tables.sources[first as usize * 32 + usize::from(slot)];
-    let lines = &tables.lines;
-    for i in 0..16 {
-        if (lines.columnslot[i] == slot) & lines.columnto[i].has(first) {
-            let asked = Asked {
-                first,
-                here,
-                slot,
-                mask: lines.columnfrom[i],
-                least: lines.columnlow[i],
-                most: lines.columnhigh[i],
-            };
-            if crate::counts::is_apart_back(asked, there, mask, low, high) {
-                return true;
-            }
-        }
-    }
-    false
+    slot: u8,
+    there: u32,
+    ghost known: { first < 24 },
+    ghost inside: { slot < 32 },
 }
 
-// Whether a column excludes the limits of a row of the first object by a mirror, either way round.
-pub(crate) fn is_bad_first_back(tables: &Tables, types: &Types, row: u8, low: u8, high: u8) -> bool
-    requires { row < 32 }
-    ensures { result ≡ true → (lows highs : List ℕ) (seeds : ℕ) → 0 < seeds → Refuted (λ w. (RowsKept tables.now.targets lows highs w × InLimits low high (target_count w row 0)) × (SourcesKept tables.now.sources w × ColumnsKept tables.now.lines w × MirrorsKept tables.now.lines w)) types.now.at seeds }
+// Whether column j excludes them.
+fn is_apart_from_column(tables: &Tables, back: Back, j: usize) -> bool
+    requires { j < 16 }
+    ensures { result ≡ true → Never (λ w. FirstTargets back.first back.row back.mask back.low back.high w × SourcesKept tables.now.sources w × ColumnsKept tables.now.lines w × LinkedBack back.slot back.there back.row w) }
 {
-    if (low == 0) & (8 <= high) {
-        return false;
-    }
-    let first = crate::type_of(types, 0);
-    let mask = tables.targets[crate::rows_at(types, 0) + usize::from(row)];
-    let lines = &tables.lines;
-    for j in 0..16 {
-        let right = lines.mirrorright[j];
-        let left = lines.mirrorleft[j];
-        let from = lines.mirrorfrom[j];
-        let to = lines.mirrorto[j];
-        if (left == row) & to.has(first) {
-            if is_apart_from_back(tables, first, right, from, mask, low, high) {
-                return true;
-            }
-        }
-        if (right == row) & from.has(first) {
-            if is_apart_from_back(tables, first, left, to, mask, low, high) {
-                return true;
-            }
-        }
-    }
-    false
+    let column = tables.lines.columns[j];
+    let asked = Asked {
+        first: back.first,
+        here: tables.sources[laws::place(back.first, back.slot)],
+        limits: ColumnLimits {
+            slot: back.slot,
+            from: column.from,
+            least: column.low,
+            most: column.high,
+        },
+    };
+    (column.slot == back.slot) & column.to.has(u32::from(back.first))
+        && crate::counts::is_apart_back(asked, back.there, back.mask, back.low, back.high)
+}
+
+// Whether a column does.
+fn is_apart_from_columns(tables: &Tables, back: Back) -> bool
+    ensures { result ≡ true → Never (λ w. FirstTargets back.first back.row back.mask back.low back.high w × SourcesKept tables.now.sources w × ColumnsKept tables.now.lines w × LinkedBack back.slot back.there back.row w) }
+{
+    (0..16).any(|j| is_apart_from_column(tables, back, j))
+}
+
+// Whether columns exclude the limits of a row of the first object by mirror j, either way round, as in `counts::is_apart_from_mirror`.
+fn is_apart_by_mirror(tables: &Tables, first: u8, mask: u32, row: RowLimits, j: usize) -> bool
+    requires { (first < 24) × (j < 16) }
+    ensures { result ≡ true → Never (λ w. FirstTargets first row.slot mask row.low row.high w × (SourcesKept tables.now.sources w × ColumnsKept tables.now.lines w × MirrorsKept tables.now.lines w)) }
+{
+    let mirror = tables.lines.mirrors[j];
+    let right = Back {
+        first,
+        row: row.slot,
+        mask,
+        low: row.low,
+        high: row.high,
+        slot: mirror.right,
+        there: mirror.from,
+    };
+    let left = Back {
+        first,
+        row: row.slot,
+        mask,
+        low: row.low,
+        high: row.high,
+        slot: mirror.left,
+        there: mirror.to,
+    };
+    ((mirror.left == row.slot) & mirror.to.has(u32::from(first))
+        && is_apart_from_columns(tables, right))
+        || ((mirror.right == row.slot) & mirror.from.has(u32::from(first))
+            && is_apart_from_columns(tables, left))
+}
+
+// Whether they do by a mirror. Limits that no number breaks are not looked up.
+pub(crate) fn is_bad_first_back(tables: &Tables, types: &Types, row: RowLimits) -> bool
+    requires { row.slot < 32 }
+    ensures { result ≡ true → (lows highs : List ℕ) (seeds : ℕ) → 0 < seeds → Refuted (λ w. (RowsKept tables.now.targets lows highs w × InLimits row.low row.high (target_count w row.slot 0)) × (SourcesKept tables.now.sources w × ColumnsKept tables.now.lines w × MirrorsKept tables.now.lines w)) types.now.at seeds }
+{
+    let first = types.at[0];
+    let mask = tables.targets[types.row(0, row.slot)];
+    ((0 < row.low) | (row.high < 8))
+        && (0..16).any(|j| is_apart_by_mirror(tables, first, mask, row, j))
 }

@@ -9,14 +9,27 @@ use worlds::{Query, Types};
 // Whether a link of one row must stand and must not, or leads to a seed with no type of the mask.
 fn is_bad_row(must: u8, shut: u8, mask: u32, types: &Types, seeds: u8) -> bool
     requires { seeds ≤ 8 }
-    ensures { result ≡ true → any (bad_bit must shut mask types.now.at) seeds ≡ true }
+    ensures { result ≡ any (bad_bit must shut mask types.now.at) seeds }
 {
-    for p in 0..seeds {
-        if must.has(p) & (shut.has(p) | !mask.has(crate::type_of(types, p))) {
-            return true;
-        }
-    }
-    false
+    (0..seeds).any(|p| must.has(p) & (shut.has(p) | !mask.has(types.of(p))))
+}
+
+// Whether the row of object o in slot s is such.
+fn is_bad_row_of(targets: &[u32; 768], q: &Query, types: &Types, o: u8, s: u8) -> bool
+    requires { (q.now.seeds ≤ 8) × (o < q.now.seeds) × (s < 32) }
+    ensures { result ≡ true → Refuted (λ w. BitsKept q.now.must q.now.shut w × TargetsKept targets.now w) types.now.at q.now.seeds }
+{
+    let i = laws::place(o, s);
+    let must = q.must[i];
+    (must != 0) && is_bad_row(must, q.shut[i], targets[types.row(o, s)], types, q.seeds)
+}
+
+// Whether a row of object o is.
+fn has_bad_row(targets: &[u32; 768], q: &Query, types: &Types, o: u8) -> bool
+    requires { (q.now.seeds ≤ 8) × (o < q.now.seeds) }
+    ensures { result ≡ true → Refuted (λ w. BitsKept q.now.must q.now.shut w × TargetsKept targets.now w) types.now.at q.now.seeds }
+{
+    (0u8..32).any(|s| is_bad_row_of(targets, q, types, o, s))
 }
 
 // Whether there is such a row of a seed.
@@ -24,15 +37,5 @@ pub(crate) fn is_bad_bit(targets: &[u32; 768], q: &Query, types: &Types) -> bool
     requires { q.now.seeds ≤ 8 }
     ensures { result ≡ true → Refuted (λ w. BitsKept q.now.must q.now.shut w × TargetsKept targets.now w) types.now.at q.now.seeds }
 {
-    let end = usize::from(q.seeds) * 32;
-    for i in 0..end {
-        let m = q.must[i];
-        if m != 0 {
-            let x = crate::rows_at(types, (i / 32) as u8) + i % 32;
-            if is_bad_row(m, q.shut[i], targets[x], types, q.seeds) {
-                return true;
-            }
-        }
-    }
-    false
+    (0..q.seeds).any(|o| has_bad_row(targets, q, types, o))
 }

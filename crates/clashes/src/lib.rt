@@ -8,6 +8,7 @@ ghost use Rattle.worlds.specs.Asked.{Sane, Solution};
 
 use worlds::{Query, Tables, Types};
 
+mod asked;
 mod back;
 mod bits;
 mod counts;
@@ -16,23 +17,9 @@ mod mirrors;
 mod parts;
 mod wholes;
 
-// The type of object o.
-pub fn type_of(types: &Types, o: u8) -> u32
-    requires { o < 8 }
-    ensures { (result ≡ get_or types.now.at o 0) × (result < 24) }
-{
-    u32::from(types.at[usize::from(o)])
-}
-
-// Where the table has the rows of object o.
-pub fn rows_at(types: &Types, o: u8) -> usize
-    requires { o < 8 }
-    ensures { (result ≡ get_or types.now.at o 0 * 32) × (result ≤ 736) }
-{
-    usize::from(types.at[usize::from(o)]) * 32
-}
-
-// Whether the query contradicts the tables, where its seeds have the given types.
+// Whether the query contradicts the tables, where its seeds have the given types. Each test is an `if` of its own, here and in
+// `counts::is_bad_first_column`: of one chain with `||` the check knows the value by branches within branches, which a proof takes apart
+// test by test.
 pub fn is_implied(tables: &Tables, q: Query, types: Types, n: u8) -> bool
     requires { Sane q × (n ≤ 8) }
     ensures { result ≡ true → Nowhere (Solution (sheet_of tables.now) q n) types.at q.seeds q.never n }
@@ -49,14 +36,14 @@ pub fn is_implied(tables: &Tables, q: Query, types: Types, n: u8) -> bool
     if wholes::is_bad_part(tables, &q, &types) {
         return true;
     }
-    if parts::is_bad_first_part(tables, &types, q.row, q.low) {
+    if parts::is_bad_first_part(tables, &types, q.row) {
         return true;
     }
-    if back::is_bad_first_back(tables, &types, q.row, q.low, q.high) {
+    if back::is_bad_first_back(tables, &types, q.row) {
         return true;
     }
-    if first::is_bad_first_row(tables, &types, q.row, q.low, q.high) {
+    if first::is_bad_first_row(tables, &types, q.row) {
         return true;
     }
-    counts::is_bad_first_column(tables, &types, q.column, q.from, q.least, q.most)
+    counts::is_bad_first_column(tables, &types, q.column)
 }

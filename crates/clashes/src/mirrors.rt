@@ -12,36 +12,36 @@ fn is_bad_pair(must: &[u8; 256], shut: &[u8; 256], o: u8, right: u8, p: u8, left
     requires { (o < 8) × (right < 32) × (p < 8) × (left < 32) }
     ensures { result ≡ true → Never (λ w. BitsKept must.now shut.now w × (w.link right o p ≡ w.link left p o)) }
 {
-    if records::is_linked(must, o, right, p) {
-        return records::is_linked(shut, p, left, o);
-    }
-    records::is_linked(must, p, left, o) & records::is_linked(shut, o, right, p)
+    (records::is_linked(must, o, right, p) && records::is_linked(shut, p, left, o))
+        || (records::is_linked(must, p, left, o) && records::is_linked(shut, o, right, p))
 }
 
-// Whether mirror j has such a pair of seeds.
+// Whether seeds o and p are such a pair by mirror j.
+fn is_bad_by(tables: &Tables, q: &Query, types: &Types, j: usize, o: u8, p: u8) -> bool
+    requires { (j < 16) × (q.now.seeds ≤ 8) × (o < q.now.seeds) × (p < q.now.seeds) }
+    ensures { result ≡ true → Refuted (λ w. BitsKept q.now.must q.now.shut w × MirrorsKept tables.now.lines w) types.now.at q.now.seeds }
+{
+    let mirror = tables.lines.mirrors[j];
+    mirror.from.has(types.of(o))
+        && mirror.to.has(types.of(p))
+        && is_bad_pair(&q.must, &q.shut, o, mirror.right, p, mirror.left)
+}
+
+// Whether o is with some p.
+fn is_bad_source(tables: &Tables, q: &Query, types: &Types, j: usize, o: u8) -> bool
+    requires { (j < 16) × (q.now.seeds ≤ 8) × (o < q.now.seeds) }
+    ensures { result ≡ true → Refuted (λ w. BitsKept q.now.must q.now.shut w × MirrorsKept tables.now.lines w) types.now.at q.now.seeds }
+{
+    (0..q.seeds).any(|p| is_bad_by(tables, q, types, j, o, p))
+}
+
+// Whether mirror j has such a pair of seeds; one that asks nothing is passed over.
 fn is_bad_mirror(tables: &Tables, q: &Query, types: &Types, j: usize) -> bool
     requires { (j < 16) × (q.now.seeds ≤ 8) }
     ensures { result ≡ true → Refuted (λ w. BitsKept q.now.must q.now.shut w × MirrorsKept tables.now.lines w) types.now.at q.now.seeds }
 {
-    let from = tables.lines.mirrorfrom[j];
-    if from == 0 {
-        return false;
-    }
-    let to = tables.lines.mirrorto[j];
-    let right = tables.lines.mirrorright[j];
-    let left = tables.lines.mirrorleft[j];
-    for y in 0u8..64 {
-        let o = y / 8;
-        let p = y % 8;
-        if (o < q.seeds) & (p < q.seeds) {
-            if from.has(crate::type_of(types, o)) & to.has(crate::type_of(types, p)) {
-                if is_bad_pair(&q.must, &q.shut, o, right, p, left) {
-                    return true;
-                }
-            }
-        }
-    }
-    false
+    (tables.lines.mirrors[j].from != 0)
+        && (0..q.seeds).any(|o| is_bad_source(tables, q, types, j, o))
 }
 
 // Whether one of the mirrors has.
@@ -49,10 +49,5 @@ pub(crate) fn is_bad_turn(tables: &Tables, q: &Query, types: &Types) -> bool
     requires { q.now.seeds ≤ 8 }
     ensures { result ≡ true → Refuted (λ w. BitsKept q.now.must q.now.shut w × MirrorsKept tables.now.lines w) types.now.at q.now.seeds }
 {
-    for j in 0..16 {
-        if is_bad_mirror(tables, q, types, j) {
-            return true;
-        }
-    }
-    false
+    (0..16).any(|j| is_bad_mirror(tables, q, types, j))
 }

@@ -2,52 +2,52 @@
 ghost use Rattle.std.specs.Prelude.{◌≡◌, true, List, ℕ, ◌<◌, ◌≤◌, get_or};
 ghost use Rattle.laws.specs.Bounded.{tally};
 ghost use Rattle.worlds.specs.Kept.{WholesKept};
-ghost use Rattle.clashes.specs.Refuted.{BitsKept, Refuted, must_whole};
+ghost use Rattle.clashes.specs.Refuted.{BitsKept, Refuted, must_whole, must_whole_by};
 
 use laws::Mask;
 use worlds::{Query, Tables, Types};
 
-// Whether a link from o to p that must stand makes o a whole of p.
+// Whether a link from o to p that must stand makes o a whole of p by association j.
+fn is_whole_by(tables: &Tables, must: &[u8; 256], types: &Types, p: u8, o: u8, j: usize) -> bool
+    requires { (p < 8) × (o < 8) × (j < 16) }
+    ensures { result ≡ must_whole_by tables.now.lines must.now types.now.at p o j }
+{
+    let whole = tables.lines.wholes[j];
+    whole.from.has(types.of(o))
+        & whole.to.has(types.of(p))
+        & records::is_linked(must, o, whole.slot, p)
+}
+
+// Whether a link from o to p that must stand makes o a whole of p. Apart from `link_search`, whose wholes are told by other objects' sets.
 fn is_whole(tables: &Tables, must: &[u8; 256], types: &Types, p: u8, o: u8) -> bool
     requires { (p < 8) × (o < 8) }
     ensures { result ≡ must_whole tables.now.lines must.now types.now.at p o }
 {
-    let whole = crate::type_of(types, o);
-    let part = crate::type_of(types, p);
-    for j in 0..16 {
-        if tables.lines.wholefrom[j].has(whole)
-            & tables.lines.wholeto[j].has(part)
-            & records::is_linked(must, o, tables.lines.wholeslot[j], p)
-        {
-            return true;
-        }
-    }
-    false
+    (0..16).any(|j| is_whole_by(tables, must, types, p, o, j))
 }
 
 // How many seeds are wholes of p so.
-fn count_wholes(tables: &Tables, must: &[u8; 256], types: &Types, seeds: u8, p: u8) -> u8
+fn count_wholes(tables: &Tables, must: &[u8; 256], types: &Types, seeds: u8, p: u8) -> usize
     requires { (seeds ≤ 8) × (p < 8) }
     ensures { result ≡ tally (must_whole tables.now.lines must.now types.now.at p) seeds }
 {
-    let mut n: u8 = 0;
-    for o in 0..seeds {
-        if is_whole(tables, must, types, p, o) {
-            n += 1;
-        }
-    }
-    n
+    (0..seeds)
+        .filter(|o| is_whole(tables, must, types, p, *o))
+        .count()
+}
+
+// Whether p has two wholes.
+fn is_bad_part_at(tables: &Tables, q: &Query, types: &Types, p: u8) -> bool
+    requires { (q.now.seeds ≤ 8) × (p < q.now.seeds) }
+    ensures { result ≡ true → Refuted (λ w. BitsKept q.now.must q.now.shut w × WholesKept tables.now.lines w) types.now.at q.now.seeds }
+{
+    1 < count_wholes(tables, &q.must, types, q.seeds, p)
 }
 
 // Whether a seed has two wholes.
 pub(crate) fn is_bad_part(tables: &Tables, q: &Query, types: &Types) -> bool
     requires { q.now.seeds ≤ 8 }
-    ensures { result ≡ true → (shut : List ℕ) → Refuted (λ w. BitsKept q.now.must shut w × WholesKept tables.now.lines w) types.now.at q.now.seeds }
+    ensures { result ≡ true → Refuted (λ w. BitsKept q.now.must q.now.shut w × WholesKept tables.now.lines w) types.now.at q.now.seeds }
 {
-    for p in 0..q.seeds {
-        if 1 < count_wholes(tables, &q.must, types, q.seeds, p) {
-            return true;
-        }
-    }
-    false
+    (0..q.seeds).any(|p| is_bad_part_at(tables, q, types, p))
 }

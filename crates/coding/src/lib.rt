@@ -13,7 +13,7 @@ use bench::Reply;
 // ---- calls
 
 // The call at the front of a list of calls: its code, a byte, where a file stands and how long it is, how long a buffer is to lend,
-// and how many bytes the call takes.
+// and how many bytes the call takes. The code is the byte of the list, by which the format defines the operands and the call.
 #[derive(Clone, Copy)]
 pub struct Next {
     pub code: u8,
@@ -57,7 +57,8 @@ const NONE: Row = Row {
     buffers: 0,
 };
 
-// By code. No call has the code 0.
+// By code. No call has the code 0, nor one past the table: NONE stands there, as in the definition, and the one test of the code is that in
+// `read_next`.
 const ROWS: [Row; 9] = [NONE, FILE, BYTE, FILE, BYTE, FILE, BYTE, BUFFER, FILE];
 
 fn row_at(code: u8) -> Row
@@ -138,13 +139,11 @@ pub fn say(out: &mut [u8], r: Reply, list: &[u8]) -> Option<usize>
     ensures { Puts (reply_bytes (reply_of r list.now)) out.old result out.new }
 {
     match r {
-        Reply::Done => put(out, &[0], &[]),
-        Reply::Rule(n) => put(out, &[0, n], &[]),
+        Reply::Done | Reply::Written(_) => put(out, &[0], &[]),
+        Reply::Rule(n) | Reply::FirstFalse(n) => put(out, &[0, n], &[]),
         Reply::Records(n) => put(out, &[0, n], list),
-        Reply::FirstFalse(n) => put(out, &[0, n], &[]),
         Reply::NoDifference => put(out, &[0, 0], &[]),
         Reply::Difference(n) => put(out, &[0, 1, n], &[]),
-        Reply::Written(_) => put(out, &[0], &[]),
         Reply::Refused(refusal) => put(out, &[refusal.number()], &[]),
     }
 }

@@ -4,21 +4,22 @@
 
 ghost use Rattle.std.specs.Prelude.{◌≤◌};
 ghost use Rattle.diagrams.specs.View.{diagram_of};
-ghost use Rattle.type_tables.specs.Releases.{new_of, old_of};
+ghost use Rattle.type_tables.specs.Pairs.{new_of, old_of};
 ghost use Rattle.searching.specs.Ready.{Ready};
 ghost use Rattle.comparing.specs.Sought.{Sought};
 ghost use Rattle.comparing.specs.Compared.{Compares};
 
 use diagrams::ReadDiagram;
 use records::MemoryRecord;
-use sheets::{Pair, Rows};
-use type_tables::Releases;
+use sheets::Rows;
+use type_tables::{Pair, PairDues};
 use worlds::{Others, Tables};
 
 // The least number of objects first: the first witness found has fewest.
-fn least(by: &Releases, tables: &Tables, others: &Others, most: u8) -> Option<MemoryRecord>
-    requires { Ready (old_of by.now) (new_of by.now) tables.now others.now × (most ≤ 8) }
-    ensures { Sought (old_of by.now) (new_of by.now) most result }
+// A loop, since what it keeps, that there is none below n, is what the promise says of the one that is found.
+fn least(by: &PairDues, tables: &Tables, others: &Others, most: u8) -> Option<MemoryRecord>
+    requires { Ready (old_of by.now.pair) (new_of by.now.pair) tables.now others.now × (most ≤ 8) }
+    ensures { Sought (old_of by.now.pair) (new_of by.now.pair) most result }
 {
     for n in 0..=most {
         if let Some(witness) = searching::search(by, tables, others, n) {
@@ -33,11 +34,6 @@ pub fn compare(old: ReadDiagram, new: ReadDiagram, bound: u8) -> Option<MemoryRe
     ensures { Compares (diagram_of old.stored) (diagram_of new.stored) bound result }
 {
     let dues = &type_tables::due_values(&old);
-    let by = &Releases {
-        old: &old,
-        new: &new,
-        dues,
-    };
     let own = &Pair {
         old: &old,
         new: &old,
@@ -46,6 +42,7 @@ pub fn compare(old: ReadDiagram, new: ReadDiagram, bound: u8) -> Option<MemoryRe
         old: &old,
         new: &new,
     };
+    let by = &PairDues::of(&old, &new, dues);
     let usable = sheets::usable_types(by);
     let Rows {
         targets,

@@ -5,10 +5,12 @@ use native.Mathlib.Nat.{add-zero, add-suc, suc-mul}
 use native.Mathlib.Omega.{arith}
 use mathlib.Core.List.{List, [], ◌∷◌, ◌++◌, append_assoc, append-nil}
 use mathlib.Core.Path.{◌≡◌, refl, sym, ap, ap₂, ◌∙◌}
-use lib.ListN.{length, set, replicate, length-append, length-replicate, drop_of_length-le, replicate-append-replicate, get_or-eq_default}
+use lib.ListN.{length, take, drop, replicate, length-append, length-replicate, drop_of_length-le, replicate-append-replicate, get_or-eq_default}
+use lib.Seq.{take_at, drop_at, drop-drop}
+use borrow.Rule.Slice.PartMut.{put_mid}
 use Rattle.laws.specs.Lists.{joined, over}
 use Rattle.laws.proofs.JoinedLaws.{joined-more, joined-ext}
-use Rattle.laws.proofs.OverLaws.{set_on, over-nil}
+use Rattle.laws.proofs.OverLaws.{over-nil}
 use Rattle.diagrams.specs.View.{diagram_of}
 use Rattle.diagrams.specs.declared.StoredDiagram.{StoredDiagram}
 use Rattle.rules.specs.Compile.{Entry, bare, compile, compiled_bytes, entry_at, entry_bytes}
@@ -23,27 +25,15 @@ zeros = replicate 320 0
 no_more : length zeros ≡ 320
 no_more = length-replicate {A = ℕ} 320 0
 
-longer : (l : List ℕ) (v : ℕ) {at : ℕ} → length l ≡ at → length (l ++ (v ∷ [])) ≡ at + 1
-longer l v e = omega (arith, length-append l (v ∷ []))
-
--- five stores behind xs
-five : (xs d : List ℕ) (at k i s o u : ℕ) → length xs ≡ at → at + 4 < length d
-    → set (set (set (set (set (over xs d) at k) (at + 1) i) (at + 2) s) (at + 3) o) (at + 4) u ≡ over (xs ++ (k ∷ i ∷ s ∷ o ∷ u ∷ [])) d
-five xs d at k i s o u e h =
-    let l1 : List ℕ = xs ++ (k ∷ []) in
-    let l2 : List ℕ = l1 ++ (i ∷ []) in
-    let l3 : List ℕ = l2 ++ (s ∷ []) in
-    let l4 : List ℕ = l3 ++ (o ∷ []) in
-    let e1 : length l1 ≡ at + 1 = longer xs k e in
-    let e2 : length l2 ≡ at + 2 = omega (arith, longer l1 i e1) in
-    let e3 : length l3 ≡ at + 3 = omega (arith, longer l2 s e2) in
-    let e4 : length l4 ≡ at + 4 = omega (arith, longer l3 o e3) in
-    let q : l4 ++ (u ∷ []) ≡ xs ++ (k ∷ i ∷ s ∷ o ∷ u ∷ []) = simp append_assoc in
-    ap (λ (b : List ℕ). set (set (set (set b (at + 1) i) (at + 2) s) (at + 3) o) (at + 4) u) (set_on xs d at k e (omega arith))
-    ∙ ap (λ (b : List ℕ). set (set (set b (at + 2) s) (at + 3) o) (at + 4) u) (set_on l1 d (at + 1) i e1 (omega arith))
-    ∙ ap (λ (b : List ℕ). set (set b (at + 3) o) (at + 4) u) (set_on l2 d (at + 2) s e2 (omega arith))
-    ∙ ap (λ (b : List ℕ). set b (at + 4) u) (set_on l3 d (at + 3) o e3 (omega arith)) ∙ set_on l4 d (at + 4) u e4 (omega arith)
-    ∙ ap (λ (l : List ℕ). over l d) q
+-- zs behind the a bytes xs
+put-more : (xs zs d d' : List ℕ) (a n : ℕ) → length xs ≡ a → length zs ≡ n → d' ≡ over xs d → put_mid a n d' zs ≡ over (xs ++ zs) d
+unfolding over
+put-more xs zs d d' a n e f p =
+    let front : take a d' ≡ xs = ap (take a) p ∙ take_at xs (drop (length xs) d) a e in
+    let back : drop a d' ≡ drop a d = ap (drop a) p ∙ drop_at xs (drop (length xs) d) a e ∙ ap (λ (k : ℕ). drop k d) e in
+    let size : length (xs ++ zs) ≡ a + n = omega (arith, length-append xs zs) in
+    ap₂ (λ (x y : List ℕ). x ++ (zs ++ drop n y)) front back ∙ sym (append_assoc xs zs (drop n (drop a d)))
+    ∙ ap (λ (y : List ℕ). (xs ++ zs) ++ y) (drop-drop n a d ∙ ap (λ (m : ℕ). drop m d) (sym size))
 
 module _ (e : Entries) where
   length-bytes : (n : ℕ) → length (bytes_to e n) ≡ n * 5
@@ -59,17 +49,11 @@ module _ (e : Entries) where
   unfolding bytes_to
   next i = joined-more (λ k. entry_bytes (entry_in e k)) i
 
-  pub bytes-more : (list : List ℕ) (i : ℕ) → i < 64 → list ≡ written e i
-      → set (set (set (set (set list (i * 5) (entry_in e i).kind) (i * 5 + 1) (entry_in e i).association) (i * 5 + 2) (entry_in e i).side) (i * 5 + 3) (entry_in e i).low) (i * 5 + 4) (entry_in e i).up
-      ≡ written e (i + 1)
+  pub bytes-more : (list es : List ℕ) (i k : ℕ) → i < 64 → k ≡ 5 → list ≡ written e i → es ≡ entry_bytes (entry_in e i) → put_mid (i * 5) k list es ≡ written e (i + 1)
   unfolding written
-  bytes-more list i h p =
-      let x = entry_in e i in
-      let room : i * 5 + 4 < length zeros = omega (arith, no_more) in
-      let more : bytes_to e (i + 1) ≡ bytes_to e i ++ entry_bytes x = next i in
-      ap (λ (l : List ℕ). set (set (set (set (set l (i * 5) x.kind) (i * 5 + 1) x.association) (i * 5 + 2) x.side) (i * 5 + 3) x.low) (i * 5 + 4) x.up) p
-      ∙ five (bytes_to e i) zeros (i * 5) x.kind x.association x.side x.low x.up (length-bytes i) room
-      ∙ ap (λ (l : List ℕ). over l zeros) (sym more)
+  bytes-more list es i k h w p q =
+      put-more (bytes_to e i) es zeros list (i * 5) k (length-bytes i) (ap length q ∙ sym w) p
+      ∙ ap (λ (l : List ℕ). over l zeros) (ap (λ (l : List ℕ). bytes_to e i ++ l) q ∙ sym (next i))
 
   pub bytes-end : (n : ℕ) → n ≡ 64 → written e n ≡ bytes_to e 64
   unfolding written over

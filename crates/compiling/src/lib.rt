@@ -4,10 +4,10 @@
 
 ghost use Rattle.std.specs.Prelude.{◌≡◌, [], ◌∷◌, ◌+◌, ◌<◌, ◌≤◌};
 ghost use Rattle.diagrams.specs.View.{association_in, upper_in};
-ghost use Rattle.rules.specs.Compile.{entries_of, limited, row_of};
+ghost use Rattle.rules.specs.Compile.{entry_for, entries_of, limited, row_of};
 ghost use Rattle.rules.specs.Evaluate.{side_of};
 ghost use Rattle.entries.specs.View.{Appends};
-ghost use Rattle.compiling.specs.Table.{asked, entries_for, whole_for};
+ghost use Rattle.compiling.specs.Table.{asked, entries_for, row_at, whole_for};
 ghost use Rattle.compiling.specs.Compiled.{Compiles, Gives, Small, bytes_to, written};
 
 use diagrams::{Associations, ReadDiagram};
@@ -20,72 +20,63 @@ pub struct Compiled {
     pub list: [u8; 320],
 }
 
-// Of each arrow, the kinds of its entries in order with their sides, kind 0 for none. Kinds and sides are numbers of the compiled
-// record, and a row of fixed length with a kind for none is how the table of the definition reads.
-const ROWS: [[(u8, u8); 3]; 5] = [
-    [(0, 0), (0, 0), (0, 0)], // no arrow has the number 0
-    [(1, 0), (3, 0), (0, 0)], // arrow 1
-    [(1, 1), (3, 1), (0, 0)], // arrow 2
-    [(1, 0), (1, 1), (5, 0)], // arrow 3
-    [(1, 0), (1, 1), (5, 0)], // arrow 4
-];
+// The row of an arrow: the kinds of its entries in order with their sides, as numbers of the compiled record.
+#[tactic(auto, unfolding(crate::specs::Table::row_at))]
+fn row(arrow: u8) -> &'static [(u8, u8)]
+    ensures { result.now ≡ row_at arrow }
+{
+    match arrow {
+        1 => &[(1, 0), (3, 0)],
+        2 => &[(1, 1), (3, 1)],
+        3 => &[(1, 0), (1, 1), (5, 0)],
+        4 => &[(1, 0), (1, 1), (5, 0)],
+        _ => &[],
+    }
+}
 
-// ---- entries
+// ---- entries. The list, the associations and the index of one go through four functions: a struct of them would borrow the list for changes,
+// and its contracts would say of that field what these say of `r`.
 
 // One entry more, of a kind with limits: without an upper one it is the next kind, and up is 0.
 fn push_limited(r: &mut Entries, kind: u8, association: u8, side: u8, low: u16, up: u16)
     requires { (r.old.number < 64) × ((kind < 4) × (side ≤ 1)) }
     ensures { Appends r.old r.new (limited kind association (side_of side) low (upper_in up) ∷ []) × (r.new.number ≡ r.old.number + 1) }
 {
-    if up == 65535 {
-        r.push(Entry {
-            kind: kind + 1,
-            association,
-            side,
-            low,
-            up: 0,
-        });
+    let (kind, up) = if up == 65535 {
+        (kind + 1, 0)
     } else {
-        r.push(Entry {
-            kind,
-            association,
-            side,
-            low,
-            up,
-        });
-    }
+        (kind, up)
+    };
+    r.push(Entry {
+        kind,
+        association,
+        side,
+        low,
+        up,
+    });
 }
 
 // What a place of the table asks for, of association i. Side 0 goes from the left end to the right one, side 1 back; rule 6 has the
 // limits of the end that the side's links go to, rule 7 those of the end that they come from.
 fn push_asked(r: &mut Entries, a: &Associations, i: usize, kind: u8, side: u8)
     requires { (r.old.number < 64) × ((i < 16) × (side ≤ 1)) }
-    ensures { Appends r.old r.new (entries_for i (association_in a.now i) (asked kind side)) × (r.new.number ≤ r.old.number + 1) }
+    ensures { Appends r.old r.new (entry_for i (association_in a.now i) (asked kind side) ∷ []) × (r.new.number ≡ r.old.number + 1) }
 {
-    if kind == 0 {
-        return;
-    }
-    if kind == 5 {
-        r.push(Entry::bare(5, i as u8));
-        return;
-    }
     let from = i * 2 + usize::from(side);
     let to = i * 2 + 1 - usize::from(side);
-    if kind == 1 {
-        push_limited(r, 1, i as u8, side, a.lows[to], a.ups[to]);
-    } else {
-        push_limited(r, 3, i as u8, side, a.lows[from], a.ups[from]);
+    match kind {
+        1 => push_limited(r, 1, i as u8, side, a.lows[to], a.ups[to]),
+        5 => r.push(Entry::bare(5, i as u8)),
+        _ => push_limited(r, 3, i as u8, side, a.lows[from], a.ups[from]),
     }
 }
 
 // What the row of association i's arrow asks for.
 fn push_row(r: &mut Entries, a: &Associations, i: usize)
-    requires { (r.old.number < 62) × ((i < 16) × ((association_in a.now i).arrow < 5)) }
+    requires { (r.old.number < 62) × (i < 16) }
     ensures { Appends r.old r.new (entries_for i (association_in a.now i) (row_of (association_in a.now i))) × (r.new.number ≤ r.old.number + 3) }
 {
-    let arrow = usize::from(a.arrows[i]);
-    let row = &ROWS[arrow];
-    for (kind, side) in row {
+    for (kind, side) in row(a.arrows[i]) {
         push_asked(r, a, i, *kind, *side);
     }
 }
@@ -102,7 +93,7 @@ fn push_whole(r: &mut Entries, a: &Associations, i: usize)
 
 // The entries of association i: its row's, and kind 6 last.
 fn push_association(r: &mut Entries, a: &Associations, i: usize)
-    requires { (r.old.number < 61) × ((i < 16) × ((association_in a.now i).arrow < 5)) }
+    requires { (r.old.number < 61) × (i < 16) }
     ensures { Appends r.old r.new (entries_of i (association_in a.now i)) × (r.new.number ≤ r.old.number + 4) }
 {
     push_row(r, a, i);
@@ -127,16 +118,17 @@ fn put_entry(list: &mut [u8; 320], e: &Entries, i: usize)
     requires { (i < 64) × ((list.old ≡ written e.now i) × Small e.now) }
     ensures { list.new ≡ written e.now (i + 1) }
 {
-    let at = i * 5;
     let entry = e.list[i];
-    list[at] = entry.kind;
-    list[at + 1] = entry.association;
-    list[at + 2] = entry.side;
-    list[at + 3] = entry.low as u8;
-    list[at + 4] = entry.up as u8;
+    list[i * 5..i * 5 + 5].copy_from_slice(&[
+        entry.kind,
+        entry.association,
+        entry.side,
+        entry.low as u8,
+        entry.up as u8,
+    ]);
 }
 
-// The 64 entries, five bytes each.
+// The 64 entries, five bytes each: by index, as the definition `bytes_to` joins them.
 pub fn list_bytes(e: Entries) -> [u8; 320]
     requires { Small e }
     ensures { result ≡ bytes_to e 64 }

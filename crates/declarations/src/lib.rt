@@ -7,7 +7,7 @@ ghost use Rattle.declarations.specs.Declares.{declares_at, agrees_at};
 
 use diagrams::Attributes;
 use laws::Mask;
-use tables::Tables;
+use tables::{Tables, Values};
 
 // The attributes of a diagram, with the tables of instances and of the attributes' slots.
 #[derive(Clone, Copy)]
@@ -16,15 +16,28 @@ pub struct Declarations<'a> {
     pub tables: &'a Tables,
 }
 
+// An object and a slot go by themselves: they are two numbers, and a value's place has no other name than they.
 impl<'a> Declarations<'a> {
+    // Those that a record in memory is judged by.
+    pub fn of(values: &'a Values<'a>) -> Self
+        ensures attributes { result.attributes.now ≡ values.now.diagram.now.stored.attributes }
+        ensures tables { result.tables.now ≡ values.now.tables }
+    {
+        Declarations {
+            attributes: &values.diagram.stored.attributes,
+            tables: &values.tables,
+        }
+    }
+
     // Attribute a is one of object o's type or of an ancestor, and has the name in slot s.
+    #[tactic(auto, unfolding(laws::specs::Connective::both, crate::specs::Declares::declares_at))]
     fn is_declaring(&self, o: u8, s: u8, a: usize) -> bool
         requires { o < 8 }
         ensures { result ≡ declares_at self.now.attributes.now.owners self.now.tables.now.masks self.now.tables.now.slots o s a }
     {
         let owner = laws::byte(&self.attributes.owners, a);
         laws::byte(&self.tables.masks, usize::from(owner)).has(o)
-            & (laws::byte(&self.tables.slots, a) == s)
+            && laws::byte(&self.tables.slots, a) == s
     }
 
     // One of the attributes is such a declaration.
@@ -36,14 +49,12 @@ impl<'a> Declarations<'a> {
     }
 
     // Attribute a, if it is a declaration for object o and slot s, has the value type.
+    #[tactic(auto, unfolding(laws::specs::Connective::imp, crate::specs::Declares::agrees_at))]
     fn is_agreeing(&self, o: u8, s: u8, value_type: u8, a: usize) -> bool
         requires { o < 8 }
         ensures { result ≡ agrees_at self.now.attributes.now.owners self.now.attributes.now.types self.now.tables.now.masks self.now.tables.now.slots o s value_type a }
     {
-        if !self.is_declaring(o, s, a) {
-            return true;
-        }
-        laws::byte(&self.attributes.types, a) == value_type
+        !self.is_declaring(o, s, a) || laws::byte(&self.attributes.types, a) == value_type
     }
 
     // Each of the attributes that is such a declaration has the value type.

@@ -19,6 +19,7 @@ use Rattle.demands.specs.declared.Start.{Start}
 use Rattle.demands.specs.Wishes.{Limited, Sharpens, Started}
 use Rattle.clashes.specs.Sources.{SourcesKept}
 use Rattle.demands.specs.Families.{SourcesWithin}
+use Rattle.worlds.specs.Lined.{column_at}
 
 module _ (s : Start) (sources : List ℕ) (best r : Option ℕ) where
   -- x: where the table has the sources of object p in the slot
@@ -50,6 +51,6 @@ module _ (s : Start) (sources : List ℕ) (best r : Option ℕ) where
   }
 
   pub columns-sharp : (lines : Lines) (j : ℕ) → j < 16
-      → Sharpens (λ w. SourcesKept sources w × SourcesWithin (get_or lines.columnslot j 0) (get_or lines.columnfrom j 0) (get_or lines.columnto j 0) (get_or lines.columnlow j 0) (get_or lines.columnhigh j 0) w) s best r
+      → Sharpens (λ w. SourcesKept sources w × SourcesWithin (column_at lines j).slot (column_at lines j).from (column_at lines j).to (column_at lines j).low (column_at lines j).high w) s best r
       → Sharpens (λ w. SourcesKept sources w × ColumnsKept lines w) s best r
   columns-sharp lines j l f = record { at = λ w a h. f.at w a (h.0, record { at = λ p. h.1.at j p l }) }

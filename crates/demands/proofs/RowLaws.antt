@@ -20,19 +20,19 @@ use Rattle.demands.specs.Families.{RowsOpen}
 pub within_both : (a b c d low high n : ℕ) → low ≡ max a c → high ≡ min b d → InLimits a b n → InLimits c d n → InLimits low high n
 within_both a b c d low high n e f u v = record { least = omega (arith, u.least, v.least); most = omega (arith, u.most, v.most) }
 
-module _ (targets lows highs shut : List ℕ) (s : Start) (o i x y : ℕ) (given : o < s.k) (slot : i < 32) (from : x ≡ get_or s.types.at o 0 * 32)
+module _ (targets lows highs shut : List ℕ) (s : Start) (o i x y : ℕ) (given : o < s.k) (slot : i < 32) (from : x ≡ get_or s.types.at o 0 * 32 + i)
     (at : y ≡ o * 32 + i) where
   -- where the row stands, by the type that the object has
-  place : (w : World) → Started s w → w.kind o * 32 + i ≡ x + i
+  place : (w : World) → Started s w → w.kind o * 32 + i ≡ x
   place w a = let e : w.kind o ≡ get_or s.types.at o 0 = a.kept o given in omega arith
 
   module _ (w : World) (a : Started s w) (h : RowsOpen targets lows highs shut w) where
-    row_within : InLimits (get_or lows (x + i) 0) (get_or highs (x + i) 0) (target_count w i o)
+    row_within : InLimits (get_or lows x 0) (get_or highs x 0) (target_count w i o)
     row_within =
         subst (λ (z : ℕ). InLimits (get_or lows z 0) (get_or highs z 0) (target_count w i o)) (place w a)
         (h.rows.limited i o slot (omega (arith, a.many)))
 
-    row-limited : (low high : ℕ) → InLimits low high (target_count w i o) → Limited low high (get_or targets (x + i) 0) (get_or shut y 0) (λ p. w.link i o p) w
+    row-limited : (low high : ℕ) → InLimits low high (target_count w i o) → Limited low high (get_or targets x 0) (get_or shut y 0) (λ p. w.link i o p) w
     row-limited low high l = record {
       within = l;
       typed = λ p b e. subst (λ (z : ℕ). bit (w.kind p) (get_or targets z 0) ≡ true) (place w a) (h.rows.allowed i o p slot (omega (arith, a.many)) b e);
@@ -48,12 +48,12 @@ module _ (targets lows highs shut : List ℕ) (s : Start) (o i x y : ℕ) (given
 
   module _ (best r : Option ℕ) where
     pub row-sharp
-        : ((p : World → ℕ → Bool) → Sharpens (λ w. Limited (get_or lows (x + i) 0) (get_or highs (x + i) 0) (get_or targets (x + i) 0) (get_or shut y 0) (p w) w) s best r)
+        : ((p : World → ℕ → Bool) → Sharpens (λ w. Limited (get_or lows x 0) (get_or highs x 0) (get_or targets x 0) (get_or shut y 0) (p w) w) s best r)
         → Sharpens (RowsOpen targets lows highs shut) s best r
     row-sharp f = record { at = λ w a h. (f (λ v p. v.link i o p)).at w a (row-limited w a h _ _ (row_within w a h)) }
 
-    pub own-sharp : (low high lower upper : ℕ) → lower ≡ max (get_or lows (x + i) 0) low → upper ≡ min (get_or highs (x + i) 0) high
-        → ((p : World → ℕ → Bool) → Sharpens (λ w. Limited lower upper (get_or targets (x + i) 0) (get_or shut y 0) (p w) w) s best r)
+    pub own-sharp : (low high lower upper : ℕ) → lower ≡ max (get_or lows x 0) low → upper ≡ min (get_or highs x 0) high
+        → ((p : World → ℕ → Bool) → Sharpens (λ w. Limited lower upper (get_or targets x 0) (get_or shut y 0) (p w) w) s best r)
         → Sharpens (λ w. RowsOpen targets lows highs shut w × InLimits low high (target_count w i o)) s best r
     own-sharp low high lower upper e g f = record {
       at = λ w a h. (f (λ v p. v.link i o p)).at w a

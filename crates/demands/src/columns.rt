@@ -9,46 +9,43 @@ ghost use Rattle.demands.specs.Families.{SourcesWithin};
 
 use crate::Start;
 use laws::Mask;
-use worlds::Tables;
-
-// What is asked of sources in a slot: `low` to `high` of them have types of the mask.
-#[derive(Clone, Copy)]
-pub(crate) struct Sources {
-    pub slot: u8,
-    pub mask: u32,
-    pub low: u8,
-    pub high: u8,
-    ghost inside: { slot < 32 },
-}
+use worlds::{ColumnLimits, Tables};
 
 // The sources of object p are as asked.
 pub(crate) fn with_sources(
     best: u32,
     s: Start,
     tables: &Tables,
-    asked: Sources,
+    asked: ColumnLimits,
     p: u8,
 ) -> Option<u32>
-    requires { p < s.k }
-    ensures { Sharpens (λ w. SourcesKept tables.now.sources w × InLimits asked.low asked.high (source_count w asked.slot asked.mask p)) s (Some best) result }
+    requires { (p < s.k) × (asked.slot < 32) }
+    ensures { Sharpens (λ w. SourcesKept tables.now.sources w × InLimits asked.least asked.most (source_count w asked.slot asked.from p)) s (Some best) result }
 {
-    let x = clashes::rows_at(&s.types, p) + usize::from(asked.slot);
+    let x = s.types.row(p, asked.slot);
     crate::needs::with_limits(
         best,
         s,
-        asked.mask & tables.sources[x],
+        asked.from & tables.sources[x],
         0,
-        asked.low,
-        asked.high,
+        asked.least,
+        asked.most,
     )
 }
 
 // One column: the sources of the given objects with a type of the mask `to` are as asked.
-fn with_column(mut best: u32, s: Start, tables: &Tables, asked: Sources, to: u32) -> Option<u32>
-    ensures { Sharpens (λ w. SourcesKept tables.now.sources w × SourcesWithin asked.slot asked.mask to asked.low asked.high w) s (Some best) result }
+fn with_column(
+    mut best: u32,
+    s: Start,
+    tables: &Tables,
+    asked: ColumnLimits,
+    to: u32,
+) -> Option<u32>
+    requires { asked.slot < 32 }
+    ensures { Sharpens (λ w. SourcesKept tables.now.sources w × SourcesWithin asked.slot asked.from to asked.least asked.most w) s (Some best) result }
 {
     for p in 0..s.k {
-        if to.has(clashes::type_of(&s.types, p)) {
+        if to.has(s.types.of(p)) {
             best = with_sources(best, s, tables, asked, p)?;
         }
     }
@@ -59,17 +56,16 @@ fn with_column(mut best: u32, s: Start, tables: &Tables, asked: Sources, to: u32
 pub(crate) fn with_columns(mut best: u32, s: Start, tables: &Tables) -> Option<u32>
     ensures { Sharpens (λ w. SourcesKept tables.now.sources w × ColumnsKept tables.now.lines w) s (Some best) result }
 {
-    let lines = &tables.lines;
     for j in 0..16 {
-        let low = lines.columnlow[j];
-        if 0 < low {
-            let asked = Sources {
-                slot: lines.columnslot[j],
-                mask: lines.columnfrom[j],
-                low,
-                high: lines.columnhigh[j],
+        let column = tables.lines.columns[j];
+        if 0 < column.low {
+            let asked = ColumnLimits {
+                slot: column.slot,
+                from: column.from,
+                least: column.low,
+                most: column.high,
             };
-            best = with_column(best, s, tables, asked, lines.columnto[j])?;
+            best = with_column(best, s, tables, asked, column.to)?;
         }
     }
     Some(best)

@@ -17,7 +17,8 @@ mod sets;
 mod singles;
 mod weighing;
 
-// The types of the first k objects, how many more there can be, and the types that these can have.
+// The types of the first k objects, how many more there can be, and the types that these can have. The tables and the query go beside it:
+// what a need sharpens is said of all worlds that start so (`Sharpens`), whichever tables allow them, and a query is `Sane` where it is read.
 #[derive(Clone, Copy)]
 struct Start {
     types: Types,

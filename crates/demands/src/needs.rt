@@ -26,16 +26,12 @@ pub(crate) fn with_need(best: u32, s: Start, g: u32, c: u8) -> Option<u32>
 }
 
 // How many of the first objects have a type of the mask and are not among the objects `shut`.
-fn count_candidates(s: Start, mask: u32, shut: u8) -> u8
+fn count_candidates(s: Start, mask: u32, shut: u8) -> usize
     ensures { result ≡ candidates (λ t. bit t mask) (λ o. bit o shut) s.types.at s.k }
 {
-    let mut n: u8 = 0;
-    for o in 0..s.k {
-        if mask.has(clashes::type_of(&s.types, o)) & !shut.has(o) {
-            n += 1;
-        }
-    }
-    n
+    (0..s.k)
+        .filter(|o| mask.has(s.types.of(*o)) & !shut.has(*o))
+        .count()
 }
 
 // At `low` to `high` objects something holds; these have types of the mask, and are not among the objects `shut`.
@@ -56,8 +52,8 @@ pub(crate) fn with_limits(
         return None;
     }
     let n = count_candidates(s, mask, shut);
-    if low <= n {
+    if usize::from(low) <= n {
         return Some(best);
     }
-    with_need(best, s, mask & s.free, low - n)
+    with_need(best, s, mask & s.free, low - n as u8)
 }

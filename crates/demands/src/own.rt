@@ -6,7 +6,6 @@ ghost use Rattle.clashes.specs.Sources.{SourcesKept};
 ghost use Rattle.demands.specs.Families.{RowsOpen};
 
 use crate::Start;
-use crate::columns::Sources;
 use worlds::{Query, Tables};
 
 // How many targets it has in one slot, and how many sources in one.
@@ -17,12 +16,6 @@ pub(crate) fn with_own(best: u32, s: Start, tables: &Tables, q: Query) -> Option
     if q.seeds == 0 {
         return Some(best);
     }
-    let row = crate::rows::with_first_row(best, s, tables, &q.shut, q.row, q.low, q.high)?;
-    let asked = Sources {
-        slot: q.column,
-        mask: q.from,
-        low: q.least,
-        high: q.most,
-    };
-    crate::columns::with_sources(row, s, tables, asked, 0)
+    let row = crate::rows::with_first_row(best, s, tables, &q.shut, q.row)?;
+    crate::columns::with_sources(row, s, tables, q.column, 0)
 }

@@ -6,25 +6,24 @@ ghost use Rattle.demands.specs.Wishes.{Sharpens};
 ghost use Rattle.demands.specs.Families.{RowsOpen};
 
 use crate::Start;
-use worlds::Tables;
+use worlds::{RowLimits, Tables};
 
 // The rows of object o.
 fn with_rows_of(mut best: u32, s: Start, tables: &Tables, shut: &[u8; 256], o: u8) -> Option<u32>
     requires { o < s.k }
     ensures { Sharpens (RowsOpen tables.now.targets tables.now.lows tables.now.highs shut.now) s (Some best) result }
 {
-    let x = clashes::rows_at(&s.types, o);
-    let y = usize::from(o) * 32;
-    for i in 0..32 {
-        let low = tables.lows[x + i];
+    for i in 0u8..32 {
+        let x = s.types.row(o, i);
+        let low = tables.lows[x];
         if 0 < low {
             best = crate::needs::with_limits(
                 best,
                 s,
-                tables.targets[x + i],
-                shut[y + i],
+                tables.targets[x],
+                shut[laws::place(o, i)],
                 low,
-                tables.highs[x + i],
+                tables.highs[x],
             )?;
         }
     }
@@ -47,21 +46,18 @@ pub(crate) fn with_first_row(
     s: Start,
     tables: &Tables,
     shut: &[u8; 256],
-    row: u8,
-    low: u8,
-    high: u8,
+    row: RowLimits,
 ) -> Option<u32>
-    requires { (0 < s.k) × (row < 32) }
-    ensures { Sharpens (λ w. RowsOpen tables.now.targets tables.now.lows tables.now.highs shut.now w × InLimits low high (target_count w row 0)) s (Some best) result }
+    requires { (0 < s.k) × (row.slot < 32) }
+    ensures { Sharpens (λ w. RowsOpen tables.now.targets tables.now.lows tables.now.highs shut.now w × InLimits row.low row.high (target_count w row.slot 0)) s (Some best) result }
 {
-    let i = usize::from(row);
-    let x = clashes::rows_at(&s.types, 0) + i;
+    let x = s.types.row(0, row.slot);
     crate::needs::with_limits(
         best,
         s,
         tables.targets[x],
-        shut[i],
-        tables.lows[x].max(low),
-        tables.highs[x].min(high),
+        shut[usize::from(row.slot)],
+        tables.lows[x].max(row.low),
+        tables.highs[x].min(row.high),
     )
 }

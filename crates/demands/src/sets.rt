@@ -11,11 +11,7 @@ pub(crate) fn types_present(types: &Types, k: u8) -> u32
     requires { k ≤ 8 }
     ensures { (t : ℕ) → bit t result ≡ present types.now.at k t }
 {
-    let mut mask: u32 = 0;
-    for o in 0..k {
-        mask = mask.with(clashes::type_of(types, o));
-    }
-    mask
+    (0..k).fold(0u32, |mask, o| mask.with(types.of(o)))
 }
 
 // The types that one more object can have, where `here` are the types of the first k.

@@ -14,10 +14,10 @@ fn askers(lines: &Lines, way: Way, j: usize) -> u32
     requires { j < 16 }
 {
     match way {
-        Way::Rows => lines.columnfrom[j],
-        Way::Columns => lines.columnto[j],
-        Way::There => lines.mirrorfrom[j],
-        Way::Back => lines.mirrorto[j],
+        Way::Rows => lines.columns[j].from,
+        Way::Columns => lines.columns[j].to,
+        Way::There => lines.mirrors[j].from,
+        Way::Back => lines.mirrors[j].to,
         Way::Wholes => 0xFFFFFF,
     }
 }

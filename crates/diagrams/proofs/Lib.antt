@@ -1,2 +1,3 @@
 pub mod ViewLaws
 pub mod NamedLaws
+pub mod EmptyLaws

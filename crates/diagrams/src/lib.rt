@@ -1,7 +1,7 @@
 // A diagram in memory: flat arrays, names in slots of 17 bytes.
 #![tactic(auto)]
 
-ghost use Rattle.std.specs.Prelude.{◌≡◌};
+ghost use Rattle.std.specs.Prelude.{◌≡◌, ◌||◌, eqb};
 ghost use Rattle.diagrams.specs.Empty.{empty_diagram};
 ghost use Rattle.diagrams.specs.Held.{Held};
 ghost use Rattle.diagrams.specs.HeldProp.{Held-prop};
@@ -9,7 +9,14 @@ ghost use Rattle.diagrams.specs.HeldProp.{Held-prop};
 // The kind of a type, the form and the arrow of an association are kept as the numbers that files have for them, so that the arrays
 // stay arrays of bytes and a number goes from file to diagram as it is.
 
-#[derive(Clone, Copy)]
+// A type of this kind may have objects: a class or a singleton class.
+pub fn has_objects(kind: u8) -> bool
+    ensures { result ≡ eqb kind 0 || eqb kind 3 }
+{
+    matches!(kind, 0 | 3)
+}
+
+#[derive(Clone, Copy, Default)]
 pub struct ValueTypes {
     pub count: usize,
     pub names: [u8; 204],
@@ -18,7 +25,7 @@ pub struct ValueTypes {
     pub constants: [u8; 1632],
 }
 
-#[derive(Clone, Copy)]
+#[derive(Clone, Copy, Default)]
 pub struct Types {
     pub count: usize,
     pub kinds: [u8; 24],
@@ -30,7 +37,7 @@ pub struct Types {
     pub sets: [u32; 24],
 }
 
-#[derive(Clone, Copy)]
+#[derive(Clone, Copy, Default)]
 pub struct Attributes {
     pub count: usize,
     pub owners: [u8; 32],
@@ -39,20 +46,20 @@ pub struct Attributes {
 }
 
 // The left end of association a is end a * 2, the right one end a * 2 + 1.
-#[derive(Clone, Copy)]
+#[derive(Clone, Copy, Default)]
 pub struct Associations {
     pub count: usize,
     pub forms: [u8; 16],
     pub arrows: [u8; 16],
     pub types: [u8; 32],
     pub lows: [u16; 32],
-    // 65,535 is no upper limit, which no file has as a number: so the limits stay one array of numbers.
+    // 65,535 stands for no upper limit: no file has it as a number, so that the limits stay one array of numbers.
     pub ups: [u16; 32],
     pub roles: [u8; 544],
 }
 
 // Passed by value, with flat arrays of names and indices: a rule of the project.
-#[derive(Clone, Copy)]
+#[derive(Clone, Copy, Default)]
 pub struct StoredDiagram {
     pub values: ValueTypes,
     pub types: Types,
@@ -67,39 +74,9 @@ pub struct ReadDiagram {
     ghost held: { Held stored } by { Held-prop stored },
 }
 
-// Nothing declared. Spelled out: a derived Default promises each element of an array, and not the array.
+// Nothing declared.
 pub fn empty_diagram() -> StoredDiagram
     ensures { result ≡ empty_diagram }
 {
-    StoredDiagram {
-        values: ValueTypes {
-            count: 0,
-            names: [0; 204],
-            sizes: [0; 12],
-            constants: [0; 1632],
-        },
-        types: Types {
-            count: 0,
-            kinds: [0; 24],
-            names: [0; 408],
-            sizes: [0; 24],
-            parents: [0; 96],
-            sets: [0; 24],
-        },
-        attributes: Attributes {
-            count: 0,
-            owners: [0; 32],
-            names: [0; 544],
-            types: [0; 32],
-        },
-        associations: Associations {
-            count: 0,
-            forms: [0; 16],
-            arrows: [0; 16],
-            types: [0; 32],
-            lows: [0; 32],
-            ups: [0; 32],
-            roles: [0; 544],
-        },
-    }
+    StoredDiagram::default()
 }

@@ -13,7 +13,7 @@ pub struct Entry {
     pub up: u16,
 }
 
-// The first `number` of the list are its entries.
+// The first `number` of the list are its entries: there is no heap, so a list has room for the 64 that the reply has.
 #[derive(Clone, Copy)]
 pub struct Entries {
     pub number: usize,

@@ -2,13 +2,16 @@
 -- Assumes nothing.
 use Prim.Native.Nat.{ℕ, zero, suc, ◌-◌, ◌<◌, ◌≤◌}
 use native.Mathlib.Omega.{arith}
-use mathlib.Core.Bool.{Bool, true, false, cond}
+use mathlib.Core.Bool.{Bool, true, false, cond, not, ◌&&◌}
 use mathlib.Core.List.{[], ◌∷◌}
 use mathlib.Core.Path.{◌≡◌, refl, sym, ap, ◌∙◌}
+use lib.Dec.{eqb}
 use lib.ListN.{length, get_or}
-use Rattle.laws.specs.Bounded.{first_not}
+use borrow.Author.Tests.{eq-eqb, ne_eqb}
+use Rattle.laws.specs.Bounded.{any, first, first_not}
 use Rattle.laws.specs.Lists.{joined}
-use Rattle.laws.proofs.BoundedLaws.{first_not-ext}
+use Rattle.laws.proofs.BoundedLaws.{any_at, first_not-ext}
+use Rattle.laws.proofs.FirstLaws.{first-none, first_below}
 use Rattle.laws.proofs.ListLaws.{append-each, one_each}
 use Rattle.laws.proofs.JoinedLaws.{joined-each}
 use Rattle.files.specs.Diagram.{Diagram, Upper, at_most, no_limit, Association, association_at, is_composition}
@@ -87,6 +90,26 @@ compiled-named {d} {e} held c = record {
       let is : (entry_in e k).association ≡ (entry_at (compile (diagram_of d)) k).association = ap (λ (x : Entry). x.association) (compiled-at d e c k) in
       omega arith;
 }
+
+-- the first that fails is the first of which the negation holds
+pub first-fails : (p : ℕ → Bool) (n : ℕ) → first (λ k. not (p k)) n ≡ first_not p n
+unfolding first first_not
+first-fails p zero = refl
+first-fails p (suc n) = go (any q n) refl ∙ ap (λ (k : ℕ). cond (eqb k n && p n) (suc n) k) (first-fails p n)
+  where
+    q : ℕ → Bool
+    q k = not (p k)
+
+    turned : (b : Bool) → cond (not b) n (suc n) ≡ cond b (suc n) n
+    turned true = refl
+    turned false = refl
+
+    go : (b : Bool) → any q n ≡ b → cond b (first q n) (cond (not (p n)) n (suc n)) ≡ cond (eqb (first q n) n && p n) (suc n) (first q n)
+    go true e =
+        let w = any_at q n e in
+        let l : first q n < n = first_below q n w.0 w.1 w.2 in
+        rw (ne_eqb (first q n) n (λ z. let o : ⊥ = omega arith in o)) refl
+    go false e = rw (first-none q n e, eq-eqb n n refl) (turned (p n))
 
 -- the entries as the arrays have them are those of the list
 pub failing-is : (d : Diagram) (x : Site) (e : Entries) {r : ℕ} → r ≡ first_not (λ k. holds d x (entry_in e k)) e.number → r ≡ first_failing d x (entries_in e)

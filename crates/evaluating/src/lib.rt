@@ -21,43 +21,41 @@ use tables::Roles;
 
 // ---- an entry, by its kind
 
-// An upper limit of 65,535 is a number as any other: no record has more objects. Kinds and sides are numbers of the compiled record.
+// Kinds and sides are numbers of the compiled record, as an entry has them.
 fn entry_holds(links: &Links, entry: Entry) -> bool
     requires { entry.association < links.now.associations.now.count }
-    ensures { let v = links.now in Says (λ d x. holds d x (entry_seen entry)) v.associations.now v.links.now v.tables.now.masks v.tables.now.slots v.count result }
+    ensures { Says (λ d x. holds d x (entry_seen entry)) links.now result }
 {
-    let i = usize::from(entry.association);
+    let association = links.association(usize::from(entry.association));
     let limits = Limits {
         low: entry.low,
-        up: entry.up,
+        up: Some(entry.up),
     };
     let lower = Limits {
         low: entry.low,
-        up: 65535,
+        up: None,
     };
     match entry.kind {
-        1 => links.targets_hold(i, entry.side, limits),
-        2 => links.targets_hold(i, entry.side, lower),
-        3 => links.sources_hold(i, entry.side, limits),
-        4 => links.sources_hold(i, entry.side, lower),
-        5 => links.mirror_holds(i),
-        _ => links.one_whole(i),
+        1 => association.targets_hold(entry.side, limits),
+        2 => association.targets_hold(entry.side, lower),
+        3 => association.sources_hold(entry.side, limits),
+        4 => association.sources_hold(entry.side, lower),
+        5 => association.mirror_holds(),
+        _ => association.one_whole(),
     }
 }
 
 // ---- a list of entries
 
 // The index of the first entry that does not hold, or their number, as the reply has it.
+#[tactic(auto, unfolding(entries::specs::View::entry_in))]
 fn first_failing(links: &Links, e: &Entries) -> usize
     requires { NamedIn links.now.associations.now e.now }
-    ensures { let v = links.now in Says (λ d x. first_failing d x (entries_in e.now)) v.associations.now v.links.now v.tables.now.masks v.tables.now.slots v.count result }
+    ensures { Says (λ d x. first_failing d x (entries_in e.now)) links.now result }
 {
-    for k in 0..e.number {
-        if !entry_holds(links, e.list[k]) {
-            return k;
-        }
-    }
-    e.number
+    (0..e.number)
+        .find(|k| !entry_holds(links, e.list[*k]))
+        .unwrap_or(e.number)
 }
 
 // ---- the compiled list

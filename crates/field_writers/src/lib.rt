@@ -1,17 +1,13 @@
-// Parts of a field, written into the unused rest of a buffer.
+// Parts of a field, written into the unused rest of a buffer. Lengths fit the casts, as the contracts ask.
+// Each writer takes a part of the caller's slice and gives how many bytes it put, so that its promise is about one list: a struct of a buffer
+// and a place would have to promise besides what stands before the place. A name of at most 16 bytes has no type of its own: three readers
+// find names in files, texts and memory and test them there, and the struct would be built at each call. Nor has a content's length, which is a
+// sum of numbers of type usize, cast here once.
 #![tactic(auto)]
 
 ghost use Rattle.std.specs.Prelude.{◌≡◌, ◌+◌, ◌≤◌, ◌<◌, length};
 ghost use Rattle.files.specs.Content.{name_bytes};
 ghost use Rattle.field_writers.specs.Put.{Put, head};
-
-// A number that is one byte. The library's conversions to a narrower number give a Result; this one cannot fail.
-pub fn narrow(n: usize) -> u8
-    requires { n < 256 }
-    ensures { result ≡ n }
-{
-    n as u8
-}
 
 // The tag and the length of a field whose content has n bytes, and the first of these.
 pub fn put_head(out: &mut [u8], tag: u8, n: usize, b: u8)
@@ -27,8 +23,6 @@ pub fn put_name(out: &mut [u8], w: &[u8]) -> usize
     requires { (length w.now ≤ 16) × (17 ≤ length out.old) }
     ensures { (result ≡ 1 + length w.now) × Put (name_bytes w.now) out.old result out.new }
 {
-    let n = w.len();
-    out[0] = narrow(n);
-    let m = laws::copy(w, &mut out[1..]);
-    1 + m
+    out[0] = w.len() as u8;
+    1 + laws::copy(w, &mut out[1..])
 }

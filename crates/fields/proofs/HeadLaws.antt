@@ -2,7 +2,7 @@
 -- Assumes nothing.
 use Prim.Native.Nat.{ℕ, ◌%◌, ◌+◌, ◌*◌, ◌-◌, ◌/◌, ◌<◌, ◌≤◌}
 use native.Mathlib.Omega.{arith}
-use mathlib.Core.Bool.{Bool, true, false, not, ◌&&◌, ◌||◌}
+use mathlib.Core.Bool.{Bool, true, false, not, beq, ◌||◌}
 use lib.Dec.{eqb, ltb}
 use Rattle.std.specs.List.{list_any}
 use Rattle.laws.specs.Connective.{both, either}
@@ -63,19 +63,26 @@ at-front s n f h e k t c r =
 
 -- ---- refusal 2
 
-one-of : (none falls again other : Bool) → ((none || falls) || again) || other ≡ either none (either falls (either again other))
+apart : (again first : Bool) → not (beq again first) ≡ either (both again (not first)) (both first (not again))
+unfolding either both
+apart true true = refl
+apart true false = refl
+apart false true = refl
+apart false false = refl
+
+one-of : (none falls other : Bool) → (none || falls) || other ≡ either none (either falls other)
 unfolding either
-one-of true falls again other = refl
-one-of false true again other = refl
-one-of false false true other = refl
-one-of false false false other = refl
+one-of true falls other = refl
+one-of false true other = refl
+one-of false false other = refl
 
 pub misplaced-by : (once last tag : ℕ) (tags : List ℕ) {r : Bool} → r ≡ list_any (λ y. eqb y tag) tags
-    → ((not r || ltb tag last) || (eqb tag once && not (eqb last 0))) || (eqb last 0 && not (eqb tag once)) ≡ misplaced once tags last tag
-unfolding misplaced both
-misplaced-by once last tag tags e =
-    one-of _ _ _ _
-    ∙ ap (λ (b : Bool). either (not b) (either (ltb tag last) (either (eqb tag once && not (eqb last 0)) (eqb last 0 && not (eqb tag once)))))
+    → (not r || ltb tag last) || not (beq (eqb tag once) (eqb last 0)) ≡ misplaced once tags last tag
+unfolding misplaced
+misplaced-by once last tag tags {r} e =
+    one-of (not r) (ltb tag last) _
+    ∙ ap (λ (b : Bool). either (not r) (either (ltb tag last) b)) (apart (eqb tag once) (eqb last 0))
+    ∙ ap (λ (b : Bool). either (not b) (either (ltb tag last) (either (both (eqb tag once) (not (eqb last 0))) (both (eqb last 0) (not (eqb tag once))))))
     (e ∙ list_any-slice (λ y. eqb y tag) tags)
 
 -- ---- a length that has two bytes

@@ -1,13 +1,13 @@
 // Fields and names, read off the unread rest of a file.
 #![tactic(auto)]
 
-ghost use Rattle.std.specs.Prelude.{◌≡◌, ◌≤◌};
+ghost use Rattle.std.specs.Prelude.{◌≡◌, ◌*◌, ◌<◌, ◌≤◌, ℕ, get_or};
 ghost use Rattle.files.specs.Name.{name_byte, valid_name, same_name, before};
 ghost use Rattle.files.specs.Refusal.{misplaced};
 ghost use Rattle.files.specs.Content.{name_in, past_name, starts_name, starts_constant};
 ghost use Rattle.fields.specs.Field.{ReadsField};
 ghost use Rattle.fields.specs.Refusal.{number_of};
-ghost use Rattle.fields.specs.Slot.{slot_name, slot_of, constant_name};
+ghost use Rattle.fields.specs.Slot.{slot_name, slot_of, known_in, constant_name};
 
 // ---- refusals
 
@@ -64,7 +64,8 @@ pub struct Field<'a> {
     pub rest: &'a [u8],
 }
 
-// The field at the front of a file's unread rest; none where nothing is left.
+// The field at the front of a file's unread rest; none where nothing is left. The three readers of files call it in a loop of their own: an
+// iterator of Results would leave them the same `?` at each field, and its contract would say again what is left of the file.
 pub fn read_field(s: &[u8]) -> Result<Option<Field<'_>>, Refusal>
     ensures { ReadsField s.now result }
 {
@@ -87,14 +88,12 @@ pub fn read_field(s: &[u8]) -> Result<Option<Field<'_>>, Refusal>
 }
 
 // The tag is none of the file's, falls, is that of the first field again, or is not that of the first field where it should be. The
-// tag of the field before is 0 where there is none: no tag is 0, so nothing falls behind it.
+// definitions `misplaced`, `diagram_refusal` and `record_refusal` take the tag of the field before, and 0 before the first: so does the
+// code, here and in all that calls this.
 pub fn is_misplaced(once: u8, tags: &[u8], last: u8, tag: u8) -> bool
     ensures { result ≡ misplaced once tags.now last tag }
 {
-    !tags.contains(&tag)
-        | (tag < last)
-        | ((tag == once) & (last != 0))
-        | ((last == 0) & (tag != once))
+    !tags.contains(&tag) | (tag < last) | ((tag == once) != (last == 0))
 }
 
 // ---- names
@@ -159,6 +158,10 @@ pub fn starts_constant(c: &[u8]) -> bool
 
 // ---- names in a row of slots, each a length byte and room for 16 bytes
 
+// A row and how many of its slots are in use go side by side through the functions of all crates, with the bound on the number where one is
+// needed: the row is a field of a diagram's table, whose number is that of the table's other rows too, and a struct of the two would be built
+// at each call.
+
 // The name in slot i.
 pub fn slot_name(names: &[u8], i: u8) -> &[u8]
     ensures { result.now ≡ slot_name names.now i }
@@ -183,6 +186,27 @@ pub fn slot_of(names: &[u8], k: u8, w: &[u8]) -> u8
     ensures { (result ≡ slot_of names.now k w.now) × (result ≤ k) }
 {
     (0..k).find(|i| is_named(names, *i, w)).unwrap_or(k)
+}
+
+// For each of n names its place among k others, or k; the entries behind are 0. A loop over n is as plain as `array::from_fn`, which would
+// look up all N.
+pub fn places<const N: usize>(names: &[u8], n: u8, others: &[u8], k: u8) -> [u8; N]
+    requires { n ≤ N }
+    ensures { ((i : ℕ) → i < n → get_or result i 0 ≡ slot_of others.now k (slot_name names.now i)) × ((i : ℕ) → get_or result i 0 ≤ k) }
+{
+    let mut r = [0u8; N];
+    for i in 0..n {
+        let at = slot_of(others, k, slot_name(names, i));
+        r[usize::from(i)] = at;
+    }
+    r
+}
+
+// Of so many constants c is one, or it is the unnamed value.
+pub fn is_known(size: u8, c: u8) -> bool
+    ensures { result ≡ known_in size c }
+{
+    (c < size) | ((size == 0) & (c == 0))
 }
 
 // The name of constant k % 8 of value type k / 8, which has `size` constants; the unnamed value's has length 0.

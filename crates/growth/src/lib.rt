@@ -6,11 +6,16 @@ ghost use Rattle.std.specs.Prelude.{◌≡◌, true, ℕ, ◌<◌, ◌≤◌, is
 ghost use Rattle.growing.specs.Growth.{Grown, Nowhere};
 ghost use Rattle.worlds.specs.Asked.{Answers, Sane, Solution, world_built};
 ghost use Rattle.worlds.specs.Kept.{sheet_of};
+ghost use Rattle.growth.specs.Wanted.{wanted};
 
+mod wanted;
+
+use crate::wanted::Wanted;
 use laws::Mask;
 use worlds::{Query, Site, Tables, Types};
 
-// The types with t at place k.
+// The types with t at place k. `grow` and `seed` cast to it: the library's conversions to a narrower number give a Result, and with it a path that
+// is never taken.
 fn put(types: Types, k: u8, t: u8) -> Types
     requires { (k < 8) × (t < 24) }
     ensures { result.at ≡ set types.at k t }
@@ -20,82 +25,86 @@ fn put(types: Types, k: u8, t: u8) -> Types
     Types { at }
 }
 
-// A world of n objects whose first k have the given types, and the others none of the types forb.
-fn grow(tables: &Tables, q: Query, types: Types, k: u8, forb: u32, n: u8) -> Option<Site>
-    requires { Sane q × (q.seeds ≤ k) × (k ≤ n) × (n ≤ 8) }
-    ensures { Grown (Solution (sheet_of tables.now) q n) types.at k forb n (is_some result) (world_built n result) }
-{
-    let g = demands::demand(tables, q, types, k, forb, n)?;
-    if k == n {
-        return leaves::ends(
+// `grow` and `seed` go by loops: a closure for `find_map` that calls them is in a cycle of calls, of which the check infers no promise, and the
+// one of `grow` changes f besides.
+impl<'a> Wanted<'a> {
+    // One whose first k objects have the given types, and the others none of the types forb.
+    fn grow(&self, types: Types, k: u8, forb: u32) -> Option<Site>
+        requires { (self.now.q.now.seeds ≤ k) × (k ≤ self.now.n) }
+        ensures { Grown (wanted self.now) types.at k forb self.now.n (is_some result) (world_built self.now.n result) }
+    {
+        let g = demands::demand(self.tables, *self.q, types, k, forb, self.n)?;
+        if k == self.n {
+            let tables = self.tables;
+            return leaves::ends(
+                &tables.targets,
+                &tables.lows,
+                &tables.highs,
+                tables.lines,
+                tables.usable,
+                tables.singles,
+                *self.q,
+                types,
+                self.n,
+            );
+        }
+        let mut f = forb;
+        for t in 0u32..24 {
+            if g.has(t) & !f.has(t) {
+                if let Some(site) = self.grow(put(types, k, t as u8), k + 1, f) {
+                    return Some(site);
+                }
+                f = f.with(t);
+            }
+        }
+        None
+    }
+
+    // Whether the seeds alone cannot stand together.
+    fn is_stuck(&self, types: Types) -> bool
+        ensures { result ≡ true → Nowhere (wanted self.now) types.at self.now.q.now.seeds self.now.q.now.never self.now.n }
+    {
+        let tables = self.tables;
+        relaxing::is_stuck(
             &tables.targets,
-            &tables.lows,
             &tables.highs,
-            tables.lines,
+            &tables.lines,
             tables.usable,
-            tables.singles,
-            q,
+            *self.q,
             types,
-            n,
-        );
+        )
     }
-    let mut f = forb;
-    for t in 0u32..24 {
-        if g.has(t) & !f.has(t) {
-            // By `or_else`, with the call in a closure, chains of such tests were not proved.
-            if let Some(site) = grow(tables, q, put(types, k, t as u8), k + 1, f, n) {
-                return Some(site);
+
+    // One whose first k objects, which are seeds, have the given types: the types of the other seeds are tried first.
+    fn seed(&self, types: Types, k: u8) -> Option<Site>
+        requires { (k ≤ self.now.q.now.seeds) × (self.now.q.now.seeds ≤ self.now.n) }
+        ensures { Grown (wanted self.now) types.at k 0 self.now.n (is_some result) (world_built self.now.n result) }
+    {
+        if k == self.q.seeds {
+            if clashes::is_implied(self.tables, *self.q, types, self.n) || self.is_stuck(types) {
+                return None;
             }
-            f = f.with(t);
+            return self.grow(types, k, self.q.never);
         }
-    }
-    None
-}
-
-// Whether the seeds alone cannot stand together.
-fn is_stuck(tables: &Tables, q: Query, types: Types) -> bool
-    requires { Sane q }
-    ensures { result ≡ true → (n : ℕ) → Nowhere (Solution (sheet_of tables.now) q n) types.at q.seeds q.never n }
-{
-    relaxing::is_stuck(
-        &tables.targets,
-        &tables.highs,
-        &tables.lines,
-        tables.usable,
-        q,
-        types,
-    )
-}
-
-// The same where the first k objects are seeds: the types of the other seeds are tried first.
-fn seed(tables: &Tables, q: Query, types: Types, k: u8, n: u8) -> Option<Site>
-    requires { Sane q × (k ≤ q.seeds) × (q.seeds ≤ n) × (n ≤ 8) }
-    ensures { Grown (Solution (sheet_of tables.now) q n) types.at k 0 n (is_some result) (world_built n result) }
-{
-    if k == q.seeds {
-        if clashes::is_implied(tables, q, types, n) || is_stuck(tables, q, types) {
-            return None;
-        }
-        return grow(tables, q, types, k, q.never, n);
-    }
-    let may = q.types[usize::from(k)];
-    for t in 0u32..24 {
-        if may.has(t) & tables.usable.has(t) {
-            if let Some(site) = seed(tables, q, put(types, k, t as u8), k + 1, n) {
-                return Some(site);
+        let may = self.q.types[usize::from(k)];
+        for t in 0u32..24 {
+            if may.has(t) & self.tables.usable.has(t) {
+                if let Some(site) = self.seed(put(types, k, t as u8), k + 1) {
+                    return Some(site);
+                }
             }
         }
+        None
     }
-    None
 }
 
 // A world of n objects that the tables allow and the query asks for.
-pub fn find(tables: &Tables, q: Query, n: u8) -> Option<Site>
-    requires { Sane q × (n ≤ 8) }
-    ensures { Answers (Solution (sheet_of tables.now) q n) (is_some result) (world_built n result) }
+pub fn find(tables: &Tables, q: &Query, n: u8) -> Option<Site>
+    requires { Sane q.now × (n ≤ 8) }
+    ensures { Answers (Solution (sheet_of tables.now) q.now n) (is_some result) (world_built n result) }
 {
     if n < q.seeds {
         return None;
     }
-    seed(tables, q, Types { at: [0; 8] }, 0, n)
+    Wanted { tables, q, n }.seed(Types { at: [0; 8] }, 0)
 }

@@ -15,7 +15,8 @@ use tables::{Roles, Values};
 
 // ---- all nine
 
-// The lowest that is broken, or 0: the rules' numbers are those of the reply.
+// The lowest that is broken, or 0, as the definition `lowest_in` has it: a number, and the reply's. An Option of a rule would be made into that
+// number again by each caller.
 pub fn lowest_broken(d: ReadDiagram, m: MemoryRecord) -> u8
     requires { Coded (diagram_of d.stored) m }
     ensures { result ≡ lowest_in (diagram_of d.stored) m }

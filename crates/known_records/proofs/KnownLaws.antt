@@ -1,7 +1,7 @@
 -- Whether the diagram has an index for everything in a record, in the terms of the arrays: one law for each way out of the functions.
 -- Assumes nothing.
 use Prim.Native.Nat.{ℕ, ◌%◌, ◌*◌, ◌+◌, ◌-◌, ◌/◌, ◌^◌, ◌<◌, ◌≤◌}
-use mathlib.Core.Bool.{Bool, true, false, ◌&&◌, ◌||◌}
+use mathlib.Core.Bool.{Bool, true, false}
 use mathlib.Core.List.{[]}
 use mathlib.Core.Path.{◌≡◌, sym, ap, ap₂, ◌∙◌}
 use lib.Dec.{eqb, ltb}
@@ -11,9 +11,8 @@ use Rattle.laws.specs.Bounded.{all}
 use Rattle.laws.specs.Connective.{both, either}
 use Rattle.laws.proofs.JoinedLaws.{length-each}
 use Rattle.laws.proofs.SearchLaws.{both-no, both_yes, either-no, either-yes}
-use Rattle.laws.proofs.ConnectiveLaws.{and-is-both, or-is-either}
 use Rattle.files.specs.Diagram.{value_type_at}
-use Rattle.fields.specs.Slot.{slot_name}
+use Rattle.fields.specs.Slot.{known_in, slot_name}
 use Rattle.diagrams.specs.declared.StoredDiagram.{StoredDiagram}
 use Rattle.diagrams.specs.View.{diagram_of, value_type_in}
 use Rattle.diagrams.proofs.ViewLaws.{association-count, attribute-count, type-count, value-type-at, value-type-count}
@@ -47,13 +46,12 @@ module _ (d : StoredDiagram) where
   size_of i l = ap (λ v. length v.constants) (value-type-at d i l) ∙ length-each (λ k. slot_name d.values.constants (i * 8 + k)) [] (get_or d.values.sizes i 0)
 
   pub value-typed : (v t n : ℕ) → (v ≡ 0 → ⊥) → t ≡ (v - 1) / 8 → t < d.values.count → n ≡ get_or d.values.sizes t 0
-      → ltb ((v - 1) % 8) n || (eqb n 0 && eqb ((v - 1) % 8) 0) ≡ value_known (diagram_of d) v
-  unfolding value_known named
+      → known_in n ((v - 1) % 8) ≡ value_known (diagram_of d) v
+  unfolding value_known named known_in
   value-typed v t n z e l q =
       either-no {b = named v} (ne_eqb v 0 z)
       (both_yes (ap₂ ltb (sym e) (value-type-count d) ∙ lt-ltb t d.values.count l)
-      (or-is-either (ltb ((v - 1) % 8) n) _ ∙ ap (either (ltb ((v - 1) % 8) n)) (and-is-both (eqb n 0) (eqb ((v - 1) % 8) 0))
-      ∙ ap (λ (k : ℕ). either (ltb ((v - 1) % 8) k) (both (eqb k 0) (eqb ((v - 1) % 8) 0))) size))
+      (ap (λ (k : ℕ). either (ltb ((v - 1) % 8) k) (both (eqb k 0) (eqb ((v - 1) % 8) 0))) size))
     where
       size : n ≡ length (value_type_at (diagram_of d) ((v - 1) / 8)).constants
       size = q ∙ sym (size_of t l) ∙ ap (λ (i : ℕ). length (value_type_at (diagram_of d) i).constants) e

@@ -8,7 +8,8 @@ ghost use Rattle.records.specs.WithinTest.{value_known, values_known, row_known,
 use diagrams::ReadDiagram;
 use records::MemoryRecord;
 
-// Each target in the mask is one of n objects.
+// Each target in the mask is one of n objects: by one comparison, since `Mask::is_inside` would ask for the mask of n objects, which takes
+// the same shift.
 fn row_known(n: usize, mask: u8) -> bool
     requires { n ≤ 8 }
     ensures { result ≡ row_known n mask }
@@ -16,7 +17,7 @@ fn row_known(n: usize, mask: u8) -> bool
     usize::from(mask) < 1 << n
 }
 
-// A record of few objects, and the diagram whose indices it has.
+// A record of at most 8 objects, and the diagram that is asked for its indices.
 #[derive(Clone, Copy)]
 struct Indexed<'a> {
     diagram: &'a ReadDiagram,
@@ -24,6 +25,7 @@ struct Indexed<'a> {
     ghost few: { memory.now.count ≤ 8 },
 }
 
+// Objects and slots are usize here, as the counts that they run to, so that `o * 32 + s` stands where `laws::place` would take bytes.
 impl<'a> Indexed<'a> {
     // No value, or one more than the code of a value of the diagram.
     fn value_known(&self, v: u8) -> bool
@@ -38,8 +40,7 @@ impl<'a> Indexed<'a> {
         if values.count <= t {
             return false;
         }
-        let n = values.sizes[t];
-        (k % 8 < n) | ((n == 0) & (k % 8 == 0))
+        fields::is_known(values.sizes[t], k % 8)
     }
 
     // Each value of object o is known.

@@ -1,11 +1,11 @@
 -- A list written into the middle of another, for code that copies into a part of a slice.
 -- Assumes nothing.
-use mathlib.Core.Path.{◌≡◌, refl, sym, ap, ◌∙◌}
-use Prim.Native.Nat.{ℕ, zero, suc, ◌+◌, ◌-◌, ◌≤◌, ◌<◌}
+use mathlib.Core.Path.{◌≡◌, refl, ap, ◌∙◌}
+use Prim.Native.Nat.{ℕ, zero, suc, ◌+◌, ◌-◌, ◌≤◌}
 use native.Mathlib.Omega.{arith}
-use mathlib.Core.List.{List, [], ◌∷◌, ◌++◌, append_assoc, append-nil}
-use lib.ListN.{length, take, drop, set, length-append, length-take, length-drop, drop_of_length-le}
-use lib.Seq.{take-take, take_at, drop_at, take-length, length-take-le, drop-drop, set_split, drop-set-lt}
+use mathlib.Core.List.{List, [], ◌∷◌, ◌++◌, append-nil}
+use lib.ListN.{length, take, drop, length-append, length-take, length-drop, drop_of_length-le}
+use lib.Seq.{take-take, take_at, drop_at, take-length, length-take-le, drop-drop}
 use borrow.Rule.Slice.PartMut.{put_mid}
 use Rattle.laws.proofs.ListLaws.{from_is}
 
@@ -32,18 +32,6 @@ drop-pasted d w a h = drop_at (take a d) (w ++ drop (a + length w) d) a (length-
 pub length-pasted : (d w : List ℕ) (a : ℕ) → a + length w ≤ length d → length (pasted d a w) ≡ length d
 length-pasted d w a h =
     omega (arith, length-append (take a d) (w ++ drop (a + length w) d), length-append w (drop (a + length w) d), length-take a d, length-drop (a + length w) d)
-
--- a byte stored at a, and w behind it
-pub pasted-behind : (d w : List ℕ) (a n : ℕ) → a < length d → pasted (set d a n) (a + 1) w ≡ pasted d a (n ∷ w)
-pasted-behind d w a n h =
-    let size : length (take a d) ≡ a = length-take-le a d (omega arith) in
-    let split : set d a n ≡ take a d ++ (n ∷ drop (suc a) d) = set_split d a n h in
-    let front : take (a + 1) (set d a n) ≡ take a d ++ (n ∷ []) =
-    ap (take (a + 1)) (split ∙ sym (append_assoc (take a d) (n ∷ []) (drop (suc a) d)))
-    ∙ take_at (take a d ++ (n ∷ [])) (drop (suc a) d) (a + 1) (omega (arith, length-append (take a d) (n ∷ []))) in
-    let back : drop (a + 1 + length w) (set d a n) ≡ drop (a + 1 + length w) d = drop-set-lt (a + 1 + length w) d a n (omega arith) in
-    let same : a + 1 + length w ≡ a + suc (length w) = omega arith in
-    cc (append_assoc (take a d) (n ∷ []) (w ++ drop (a + 1 + length w) d))
 
 -- a part of a list is a part of a long enough front of it
 pub part-front : (l : List ℕ) (m a k : ℕ) → a + m ≤ k → take m (drop a (take k l)) ≡ take m (drop a l)

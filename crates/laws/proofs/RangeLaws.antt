@@ -1,25 +1,33 @@
--- The library's `all`, `any` and `find` over a range, said of the indices below its end.
+-- The library's `all`, `any`, `find` and `filter` with `count` over a range, said of the indices below its end.
 -- Assumes nothing.
 use Prim.Native.Nat.{ℕ, zero, suc, ◌+◌, ◌-◌, ◌<◌}
 use native.Mathlib.Omega.{arith}
 use mathlib.Core.Bool.{Bool, cond, true, false, false≢true}
 use mathlib.Core.List.{List}
 use mathlib.Core.Logic.{⊎_elim}
-use mathlib.Core.Path.{◌≡◌, refl, subst, sym, ◌∙◌}
+use mathlib.Core.Path.{◌≡◌, refl, subst, sym, ap, ◌∙◌}
+use lib.ListN.{length}
 use denote.Param.Members.{Mut}
 use Rattle.std.specs.declared.option.Option.{Option}
 use Rattle.std.specs.Prelude.{None, Some, ⊤}
 use Rattle.std.specs.declared.ops.Range.{Range}
-use Rattle.std.specs.Iterator.{YieldsThen}
-use Rattle.std.specs.List.{FoldsTo, find, range_with_len, list_all, list_any}
+use Rattle.std.specs.declared.iter.Filter.{Filter}
+use Rattle.std.specs.Iterator.{YieldsThen, Drains, FoldTurn}
+use Rattle.std.specs.Iterator.Adapters.{filter_source, filter_callee, filter_steps}
+use Rattle.std.specs.List.{FoldsTo, count_by, find, range_with_len, list_all, list_any}
 use Rattle.std.specs.Borrow.{Bor}
 use Rattle.std.specs.Fn.{Called, CalledAt}
 use Rattle.std.specs.Option.{MatchOption, option_map, unwrap_or}
 use Rattle.std.proofs.iter.Yields.{nat_range_steps}
 use Rattle.std.proofs.lemmas.Iterator.{YieldsList-from_range}
+use Rattle.std.proofs.lemmas.Iterator.Consumers.{YieldsList-from_filter, count_from_yields_List}
+use Rattle.std.proofs.lemmas.List.Sums.{sum_by-cons, length-filter}
 use Rattle.std.proofs.lemmas.Iterator.Search.{all_from_yields_List, any_from_yields_List, find_from_yields_List}
-use Rattle.laws.specs.Bounded.{all, any, first}
+use Rattle.laws.specs.Bounded.{one, all, any, first, tally}
 use Rattle.laws.proofs.BoundedLaws.{all-at, all_of, any_at, any_of, any_none}
+use Rattle.std.proofs.lemmas.List.FromFn.{length-range_with_len, get_or-range_with_len}
+use Rattle.laws.proofs.FoldLaws.{fold-holds}
+use Rattle.laws.proofs.CountLaws.{tally-ext, tally-split}
 use Rattle.laws.proofs.FirstLaws.{first-hit, first-none}
 use Rattle.laws.proofs.ConnectiveLaws.{same_test, and_left, and_right, and_both, or_left, or_right, or_cases}
 
@@ -138,3 +146,55 @@ module _ {F : Type 0} {g : Mut F (Bor ℕ × Unit {0}) Bool} {s : Range ℕ} {f 
   first-range ran e k =
       first-of p n r
       (subst (Finds p n 0) (sym (find_from_yields_List p u f r ran (YieldsList-from_range 0 n n e (let z : n - 0 ≡ n = omega arith in z)) k) ∙ same_option r) (finds p n 0))
+
+cond-one : (b : Bool) → cond b 1 0 ≡ one b
+cond-one true = refl
+cond-one false = refl
+
+module _ (p : ℕ → Bool) where
+  count_by-from : (n a : ℕ) → count_by p (range_with_len a n) ≡ tally (λ i. p (a + i)) n
+  unfolding tally
+  count_by-from zero a = refl
+  count_by-from (suc n) a =
+      let q : ℕ → Bool = λ i. p (a + i) in
+      let z : a ≡ a + 0 = omega arith in
+      let m : 1 + n ≡ suc n = omega arith in
+      let f = sum_by-cons (λ x. cond (p x) 1 0) a (range_with_len (a + 1) n) in
+      let h : cond (p a) 1 0 ≡ one (p (a + 0)) = cond-one (p a) ∙ ap (λ x. one (p x)) z in
+      let r = count_by-from n (a + 1) in
+      let e = tally-ext (λ i. p (a + 1 + i)) (λ i. q (1 + i)) n (λ k l. let w : a + 1 + k ≡ a + (1 + k) = omega arith in ap p w) in
+      let s = tally-split q 1 n in
+      let u = ap (tally q) m in
+      omega arith
+
+  count_by-range : (n : ℕ) → count_by p (range_with_len 0 n) ≡ tally p n
+  count_by-range n = count_by-from n 0 ∙ tally-ext (λ i. p (0 + i)) p n (λ k l. let e : 0 + k ≡ k = omega arith in ap p e)
+
+-- `(0..n).filter(f).count()`: at how many indices f says yes. Cite it as
+-- `count-range p n c.count.ensures.ran c.filter.ensures.source c.filter.ensures.closure (λ x b q k. search (rules, tests))`.
+pub count-range :
+    {F : Type 0} {g : Mut F (Bor ℕ × Unit {0}) Bool} {s : Filter (Range ℕ) F} {f : F} {r : ℕ} (p : ℕ → Bool) (n : ℕ)
+    → (xs : List ℕ) × Drains (filter_steps nat_range_steps g) s xs × (r ≡ length xs)
+    → filter_source s ≡ record { start = 0; end = n }
+    → filter_callee s ≡ f
+    → ((x : ℕ) (b : Bool) (q : F) → CalledAt g f x b q → (q ≡ f) × (b ≡ p x))
+    → r ≡ tally p n
+count-range {g = g} {r = r} p n ran e h k =
+    count_from_yields_List _ r ran (YieldsList-from_filter g p (YieldsList-from_range 0 n n e (let z : n - 0 ≡ n = omega arith in z)) h k)
+    ∙ length-filter p (range_with_len 0 n)
+    ∙ count_by-range p n
+
+-- `(0..n).fold(init, f)`: what holds at 0 of the start, and with each call of one index more, holds at n of the result. Cite it as
+-- `fold-range P n (λ i a b q l p k. search (rules, tests, ..)) c.fold.ensures.ran refl ..`.
+pub fold-range :
+    {B F : Type 0} {g : Mut F (B × (ℕ × Unit {0})) B} {f : F} (P : ℕ → B → Type 0) (n : ℕ)
+    → ((i : ℕ) (a b : B) (q : F) → i < n → P i a → Called g f (a, (i, tt)) b q → (q ≡ f) × P (i + 1) b) → {s : Range ℕ} {init r : B}
+    → (xs : List ℕ) × (j : F) × Drains nat_range_steps s xs × FoldsTo {P = F × B} (FoldTurn g) (f, init) xs (j, r)
+    → s ≡ record { start = 0; end = n } → P 0 init → P n r
+fold-range {g = g} {f = f} P n turn {r = r} ran e p =
+    let size : length (range_with_len 0 n) ≡ n = length-range_with_len 0 n in
+    subst (λ (k : ℕ). P k r) size
+    (fold-holds (YieldsList-from_range 0 n n e (let z : n - 0 ≡ n = omega arith in z)) P (λ k a x b q l here h w.
+    let below : k < n = omega (arith, size) in
+    let is : x ≡ k = omega (arith, here, get_or-range_with_len 0 n k x below) in
+    turn k a b q below h (subst (λ (y : ℕ). Called g f (a, (y, tt)) b q) is w)) ran p)

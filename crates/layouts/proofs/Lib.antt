@@ -1,1 +1,2 @@
 pub mod NamesLaws
+pub mod ChainLaws

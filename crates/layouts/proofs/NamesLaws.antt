@@ -30,23 +30,6 @@ past_next c i e f = f ∙ ap past_name e ∙ sym (ap (λ (n : ℕ). past_names n
 
 -- ---- whether names stand there
 
-abbrev pub starts : List ℕ → ℕ → Bool
-starts c i = starts_name (past_names i c)
-
-pub starts-at : (c : List ℕ) (i : ℕ) {r : List ℕ} {b : Bool} → r ≡ past_names i c → b ≡ starts_name r → b ≡ starts c i
-starts-at c i e f = f ∙ ap starts_name e
-
-pub laid-not : (c : List ℕ) (n : ℕ) → false ≡ all (starts c) n → false ≡ names_laid c n
-unfolding names_laid both
-laid-not c n e = ap (λ (b : Bool). both b (at_end (past_names n c))) e
-
-pub laid_end : (c : List ℕ) (n i : ℕ) {r : List ℕ} → i ≤ n → n ≤ i → r ≡ past_names i c → all (starts c) i ≡ true → eqb (length r) 0 ≡ names_laid c n
-unfolding names_laid both at_end
-laid_end c n i h l e f =
-    let q : i ≡ n = le_antisymm h l in
-    ap (λ (s : List ℕ). eqb (length s) 0) (e ∙ ap (λ (k : ℕ). past_names k c) q)
-    ∙ sym (ap (λ (a : Bool). both a (at_end (past_names n c))) (sym (ap (all (starts c)) q) ∙ f))
-
 pub value-type-laid-is : (c : List ℕ)
     → value_type_laid c ≡ both (starts_name c) (both (both (leb 1 (length (past_name c))) (leb (byte (past_name c) 0) 8)) (names_laid (drop 1 (past_name c)) (byte (past_name c) 0)))
 unfolding value_type_laid names_laid

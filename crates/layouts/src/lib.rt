@@ -1,4 +1,5 @@
-// Refusal 3 for each tag: whether a content is on its layout. All reads are total, so that nothing is asked of the content.
+// Refusal 3 for each tag: whether a content is on its layout. All reads are total, so that nothing is asked of the content, and no test waits
+// for another: they are joined by `&`.
 #![tactic(auto)]
 
 ghost use Rattle.std.specs.Prelude.{◌≡◌, ◌∷◌, []};
@@ -16,25 +17,14 @@ ghost use Rattle.files.specs.RecordLayout.{count_laid, object_laid, value_laid, 
 pub fn past_names(c: &[u8], n: u8) -> &[u8]
     ensures { result.now ≡ past_names n c.now }
 {
-    let mut rest = c;
-    for i in 0..n {
-        rest = fields::past_name(rest);
-    }
-    rest
+    (0..n).fold(c, |rest, _| fields::past_name(rest))
 }
 
 // n names, and nothing behind them.
 pub fn names_laid(c: &[u8], n: u8) -> bool
     ensures { result ≡ names_laid c.now n }
 {
-    let mut rest = c;
-    for i in 0..n {
-        if !fields::starts_name(rest) {
-            return false;
-        }
-        rest = fields::past_name(rest);
-    }
-    rest.len() == 0
+    (0..n).all(|i| fields::starts_name(past_names(c, i))) & past_names(c, n).is_empty()
 }
 
 // Names i and j are the same.
@@ -61,6 +51,14 @@ pub fn names_differ(c: &[u8], n: u8) -> bool
     (0..n).all(|i| !repeats(c, i))
 }
 
+// A byte, a name, a byte: the layout of an attribute and of a link.
+fn is_name_between(c: &[u8]) -> bool
+    ensures { result ≡ link_laid c.now }
+{
+    let name = laws::past(c, 1);
+    fields::starts_name(name) & (fields::past_name(name).len() == 1)
+}
+
 // ---- diagram files
 
 // Each comment begins with the field's tag in the file. The readers and writers have the tags as these numbers, which are all that a
@@ -79,24 +77,27 @@ pub fn value_type_laid(c: &[u8]) -> bool
 {
     let rest = fields::past_name(c);
     let n = laws::byte(rest, 0);
-    fields::starts_name(c) & (((1 <= rest.len()) & (n <= 8)) & names_laid(laws::past(rest, 1), n))
+    fields::starts_name(c) & (1 <= rest.len()) & (n <= 8) & names_laid(laws::past(rest, 1), n)
 }
 
 // 0x30: kind, name, count, parents.
 pub fn type_laid(c: &[u8]) -> bool
     ensures { result ≡ type_laid c.now }
 {
-    let rest = fields::past_name(laws::past(c, 1));
+    let name = laws::past(c, 1);
+    let rest = fields::past_name(name);
     let n = laws::byte(rest, 0);
     (laws::byte(c, 0) <= 3)
-        & (fields::starts_name(laws::past(c, 1)) & ((n <= 4) & (rest.len() == 1 + usize::from(n))))
+        & fields::starts_name(name)
+        & (n <= 4)
+        & (rest.len() == 1 + usize::from(n))
 }
 
 // 0x40: owner, name, value type.
 pub fn attribute_laid(c: &[u8]) -> bool
     ensures { result ≡ attribute_laid c.now }
 {
-    fields::starts_name(laws::past(c, 1)) & (fields::past_name(laws::past(c, 1)).len() == 1)
+    is_name_between(c)
 }
 
 // Low 0 to 100; up 0 to 100 and not below low, or 255.
@@ -128,8 +129,10 @@ pub fn association_laid(c: &[u8]) -> bool
     let right = past_end(left);
     let arrow = laws::byte(c, 1);
     (laws::byte(c, 0) <= 1)
-        & (((1 <= arrow) & (arrow <= 4))
-            & (end_laid(left) & (end_laid(right) & (past_end(right).len() == 0))))
+        & ((1 <= arrow) & (arrow <= 4))
+        & end_laid(left)
+        & end_laid(right)
+        & past_end(right).is_empty()
 }
 
 // ---- record files
@@ -145,7 +148,7 @@ pub fn count_laid(c: &[u8]) -> bool
 pub fn object_laid(c: &[u8]) -> bool
     ensures { result ≡ object_laid c.now }
 {
-    fields::starts_name(c) & (fields::past_name(c).len() == 0)
+    fields::starts_name(c) & fields::past_name(c).is_empty()
 }
 
 // 0x62: object, attribute name, value type name, constant name.
@@ -156,13 +159,14 @@ pub fn value_laid(c: &[u8]) -> bool
     let value_type = fields::past_name(attribute);
     let constant = fields::past_name(value_type);
     fields::starts_name(attribute)
-        & (fields::starts_name(value_type)
-            & (fields::starts_constant(constant) & (fields::past_name(constant).len() == 0)))
+        & fields::starts_name(value_type)
+        & fields::starts_constant(constant)
+        & fields::past_name(constant).is_empty()
 }
 
 // 0x63: from object, role name, to object.
 pub fn link_laid(c: &[u8]) -> bool
     ensures { result ≡ link_laid c.now }
 {
-    fields::starts_name(laws::past(c, 1)) & (fields::past_name(laws::past(c, 1)).len() == 1)
+    is_name_between(c)
 }

@@ -7,18 +7,17 @@ use mathlib.Core.Path.{◌≡◌, refl}
 use Rattle.laws.proofs.ConnectiveLaws.{true-false}
 use Rattle.growing.specs.World.{World}
 use Rattle.growing.specs.Growth.{Ended}
-use Rattle.link_search.specs.Families.{NetFits}
+use Rattle.link_search.specs.Families.{Fits}
 use Rattle.link_search.specs.Answers.{NetAnswer}
 use Rattle.worlds.specs.declared.Lines.{Lines}
 use Rattle.worlds.specs.declared.Query.{Query}
-use Rattle.worlds.specs.Coherent.{Slotted, SmallTypes}
+use Rattle.worlds.specs.Coherent.{SmallTypes}
 use Rattle.worlds.specs.Kept.{sheet, world_in}
 use Rattle.std.specs.Bool.{then_some}
 use Rattle.std.specs.Prelude.{is_some}
 use Rattle.worlds.specs.declared.Site.{Site}
 use Rattle.worlds.specs.Asked.{Sane, Solution, world_built}
-use Rattle.link_search.specs.declared.ColumnArrays.{ColumnArrays}
-use Rattle.link_search.specs.declared.RowArrays.{RowArrays}
+use Rattle.link_search.specs.declared.asked.NetArrays.{NetArrays}
 use Rattle.leaves.specs.Fitting.{types_fit}
 use Rattle.leaves.specs.Arrays.{Mays, Prepared, all_covered}
 use Rattle.leaves.proofs.FittingLaws.{fit_at}
@@ -44,19 +43,19 @@ module _ (usable singles : ℕ) (targets lows highs : List ℕ) (x : Lines) (q :
   pub ended-must : (m : World) (may : List ℕ) → Mays targets types n q.shut may → all_covered q.must may ≡ false → Ended Wanted types n false false m
   ended-must m may a e = none-ended m (λ link s. true-false (world-covered usable singles targets lows highs x q types n link s may a) e)
 
-  pub ended-links : (may : List ℕ) (r : RowArrays) (c : ColumnArrays) (mf mt wf wt : List ℕ) → Prepared targets lows highs x q types n may r c mf mt wf wt
-      → Slotted x → Sane q → n ≤ 8 → SmallTypes types → types_fit usable singles q types n ≡ true
+  pub ended-links : (may : List ℕ) (net : NetArrays) → Prepared targets lows highs x q types n may net
+      → Sane q → n ≤ 8 → SmallTypes types → types_fit usable singles q types n ≡ true
       → all_covered q.must may ≡ true → (rows may' : List ℕ) (ok : Bool)
-      → NetAnswer (NetFits r.low r.high c.slot c.from c.low c.high x.mirrorright x.mirrorleft mf mt x.wholeslot wf wt) q.must may rows may' ok
+      → NetAnswer (Fits net) q.must may rows may' ok
       → Ended Wanted types n false ok (world_in n types rows)
   unfolding world_in
-  ended-links may r c mf mt wf wt a slotted sane few small fit all-may rows may' ok z = record {
+  ended-links may net a sane few small fit all-may rows may' ok z = record {
     size = λ _. refl;
     kept = λ _ o h. refl;
-    sound = λ e. found-wanted usable singles targets lows highs x q types n slotted sane few small (fit_at usable singles q types n fit) may r c mf mt wf wt a all-may rows (z.between e) (z.sound e);
+    sound = λ e. found-wanted usable singles targets lows highs x q types n sane few small (fit_at usable singles q types n fit) may net a all-may rows (z.between e) (z.sound e);
     complete = λ e _ w size kept s.
         let t = retyped (sheet usable singles targets lows highs x) q n types w size kept s in
-        z.complete e (net_in w.link) (world-between usable singles targets lows highs x q types n w.link t may a.mays) (net-fits usable singles targets lows highs x q types n w.link t slotted sane may r c mf mt wf wt a);
+        z.complete e (net_in w.link) (world-between usable singles targets lows highs x q types n w.link t may a.mays) (net-fits usable singles targets lows highs x q types n w.link t sane may net a);
   }
 
   -- a world is given where the links were found

@@ -1,5 +1,4 @@
-pub mod FilledLaws
-pub mod ArrayLaws
+pub mod MadeLaws
 pub mod FittingLaws
 pub mod WithinLaws
 pub mod RetypedLaws

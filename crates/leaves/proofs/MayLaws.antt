@@ -1,20 +1,35 @@
 -- Where a row may go, and rows all of whose bits may stand.
 -- Assumes nothing.
-use Prim.Native.Nat.{◌*◌, ◌<◌, ℕ}
-use mathlib.Core.Bool.{Bool, false, not, true}
+use Prim.Native.Nat.{◌*◌, ◌<◌, ◌^◌, ℕ}
+use mathlib.Core.Bool.{Bool, false, not, true, ◌||◌}
 use mathlib.Core.List.{List}
 use mathlib.Core.Path.{◌≡◌, ◌∙◌, ap, refl, sym}
-use borrow.Author.Tests.{lt-ltb, ltb-false, ltb-true, not-true}
-use lib.Dec.{ltb}
+use borrow.Author.Tests.{eq-eqb, eqb-true, lt-ltb, ltb-false, ltb-true, not-true}
+use lib.Bits.{bit_or}
+use lib.Dec.{eqb, ltb}
 use lib.ListN.{get_or}
 use Rattle.laws.specs.Bits.{bit}
+use Rattle.laws.specs.Bounded.{all}
 use Rattle.laws.specs.Connective.{imp}
-use Rattle.laws.proofs.BitLaws.{bit-zero}
+use Rattle.laws.proofs.BitLaws.{bit-or, bit-zero, bits-eq}
+use Rattle.std.proofs.lemmas.Nat.{or_lt}
 use Rattle.laws.proofs.BoundedLaws.{all-at, all_of}
-use Rattle.laws.proofs.ConnectiveLaws.{and_both, and_left, and_right, imp-of, imp_use, true-false}
+use Rattle.laws.proofs.ConnectiveLaws.{and_both, and_left, and_right, imp-of, imp_use, or_left, same_test, true-false}
 use Rattle.link_search.specs.Nets.{net_of}
 use Rattle.leaves.specs.Fitting.{typed}
 use Rattle.leaves.specs.Arrays.{Mays, all_covered, covered, may_go, spot_of}
+
+-- `a | b == b` tests that each bit of a is one of b
+pub inside-test : (n a b : ℕ) → a < 2 ^ n → b < 2 ^ n → eqb (bit_or a b) b ≡ all (λ k. imp (bit k a) (bit k b)) n
+unfolding imp
+inside-test n a b ha hb =
+    same_test _ _
+    (λ e. all_of _ n (λ k l. imp-of _ _ (λ h. sym (ap (bit k) (eqb-true _ _ e)) ∙ bit-or k a b ∙ or_left (bit k a) (bit k b) h)))
+    (λ e. eq-eqb _ _ (bits-eq n (bit_or a b) b (or_lt n a b ha hb) hb (λ k l. bit-or k a b ∙ keep (bit k a) (bit k b) (all-at _ n e k l))))
+  where
+    keep : (x y : Bool) → imp x y ≡ true → x || y ≡ y
+    keep true y e = sym e
+    keep false y e = refl
 
 -- row i may go to p
 pub record Open (targets types : List ℕ) (n : ℕ) (shut : List ℕ) (i p : ℕ) : Type 0 where
@@ -24,9 +39,9 @@ pub record Open (targets types : List ℕ) (n : ℕ) (shut : List ℕ) (i p : �
   pub free : net_of shut i p ≡ false
 
 module _ (targets types : List ℕ) (n : ℕ) (shut may : List ℕ) (m : Mays targets types n shut may) where
-  pub may_of : (i p : ℕ) → Open targets types n shut i p → net_of may i p ≡ true
-  may_of i p o =
-      m.done i o.row p
+  pub may_of : (i p : ℕ) → i < 256 → Open targets types n shut i p → net_of may i p ≡ true
+  may_of i p h o =
+      (m i h).done o.row p
       ∙ and_both (ltb p n) _ (lt-ltb p n o.target) (and_both (typed types (get_or targets (spot_of types i) 0) p) _ o.allowed (ap not o.free))
 
   pub may_at : (i p : ℕ) → i < 256 → net_of may i p ≡ true → Open targets types n shut i p
@@ -35,7 +50,7 @@ module _ (targets types : List ℕ) (n : ℕ) (shut may : List ℕ) (m : Mays ta
       go : (b : Bool) → ltb i (n * 32) ≡ b → Open targets types n shut i p
       go true z =
           let row = ltb-true i (n * 32) z in
-          let a = sym (m.done i row p) ∙ e in
+          let a = sym ((m i h).done row p) ∙ e in
           let r = and_right (ltb p n) (may_go targets types shut i p) a in
           record {
             row = row;
@@ -43,7 +58,7 @@ module _ (targets types : List ℕ) (n : ℕ) (shut may : List ℕ) (m : Mays ta
             allowed = and_left (typed types (get_or targets (spot_of types i) 0) p) _ r;
             free = not-true (net_of shut i p) (and_right (typed types (get_or targets (spot_of types i) 0) p) (not (net_of shut i p)) r);
           }
-      go false z = absurd (true-false e (ap (bit p) (m.rest i (ltb-false i (n * 32) z) h) ∙ bit-zero p))
+      go false z = absurd (true-false e (ap (bit p) ((m i h).rest (ltb-false i (n * 32) z)) ∙ bit-zero p))
 
 module _ (must may : List ℕ) where
   pub covered_of : ((i p : ℕ) → i < 256 → p < 8 → net_of must i p ≡ true → net_of may i p ≡ true) → all_covered must may ≡ true

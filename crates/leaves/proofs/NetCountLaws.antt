@@ -8,7 +8,6 @@ use mathlib.Core.Logic.{⊎_elim}
 use mathlib.Core.Path.{◌≡◌, ◌∙◌, ap, ap₂, refl, sym}
 use borrow.Author.Tests.{lt-ltb}
 use lib.Dec.{ltb}
-use lib.ListN.{get_or}
 use Rattle.laws.specs.Bits.{Marks}
 use Rattle.laws.specs.Bounded.{tally}
 use Rattle.laws.proofs.BoundedLaws.{any-ext, any_none, tally-none}
@@ -16,12 +15,15 @@ use Rattle.laws.proofs.ConnectiveLaws.{and_right, known}
 use Rattle.laws.proofs.CountLaws.{tally-ext}
 use Rattle.laws.proofs.MaskLaws.{tally-beyond}
 use Rattle.link_search.specs.Nets.{Net}
-use Rattle.link_search.specs.Families.{Slots, part, source, whole}
+use Rattle.link_search.specs.Families.{part, source, whole, whole_in}
+use Rattle.link_search.specs.declared.asked.Column.{Column}
+use Rattle.link_search.specs.declared.asked.Whole.{Whole}
 use Rattle.worlds.specs.declared.Lines.{Lines}
 use Rattle.worlds.specs.Kept.{whole_by, whole_of}
 use Rattle.leaves.specs.Fitting.{typed}
-use Rattle.leaves.specs.Arrays.{Objects}
+use Rattle.leaves.specs.Arrays.{WholesAsk}
 use Rattle.leaves.proofs.RetypedLaws.{made}
+use Rattle.worlds.specs.Lined.{whole_at}
 
 -- tests that hold wherever a link stands can be left out
 pub guarded : (a t l : Bool) → (l ≡ true → a ≡ true) → a && t && l ≡ t && l
@@ -47,39 +49,42 @@ module _ (n : ℕ) (types : List ℕ) (link : ℕ → ℕ → ℕ → Bool) (v :
       tally-ext (v (o * 32 + s)) (λ p. link s o p) 8 (λ p h. g.at s o p hs ho h) ∙ tally-beyond (λ p. link s o p) n (λ p h. off s o p (λ a b. omega arith)) 8 g.few
 
   -- an object that counts in a net is one of its types, with a link
-  source-at : (slot from : List ℕ) (j p s set : ℕ) → get_or slot j 0 ≡ s → s < 32 → p < 8 → Marks (typed types set) n (get_or from j 0)
-      → (o : ℕ) → o < 8 → source slot from v j p o ≡ typed types set o && link s o p
-  source-at slot from j p s set e hs hp m o ho =
-      ap₂ (λ (a b : Bool). a && b) (m o) (ap (λ (x : ℕ). v (o * 32 + x) p) e ∙ g.at s o p hs ho hp)
+  source-at : (c : Column) (p s set : ℕ) → c.slot ≡ s → p < 8 → Marks (typed types set) n c.from → (o : ℕ) → o < 8 → source c v p o ≡ typed types set o && link s o p
+  source-at c p s set e hp m o ho =
+      let small = c.slotted in
+      ap₂ (λ (a b : Bool). a && b) (m o) (ap (λ (x : ℕ). v (o * 32 + x) p) e ∙ g.at s o p (omega arith) ho hp)
       ∙ guarded (ltb o n) (typed types set o) (link s o p) (λ l. lt-ltb o n (g.inside s o p l).0)
 
-  pub column-count : (slot from : List ℕ) (j p s set : ℕ) → get_or slot j 0 ≡ s → s < 32 → p < 8 → Marks (typed types set) n (get_or from j 0)
-      → tally (source slot from v j p) 8 ≡ tally (λ o. typed types set o && link s o p) n
-  column-count slot from j p s set e hs hp m =
-      tally-ext (source slot from v j p) (λ o. typed types set o && link s o p) 8 (source-at slot from j p s set e hs hp m)
+  pub column-count : (c : Column) (p s set : ℕ) → c.slot ≡ s → p < 8 → Marks (typed types set) n c.from → tally (source c v p) 8 ≡ tally (λ o. typed types set o && link s o p) n
+  column-count c p s set e hp m =
+      tally-ext (source c v p) (λ o. typed types set o && link s o p) 8 (source-at c p s set e hp m)
       ∙ tally-beyond (λ o. typed types set o && link s o p) n (λ o h. ap (λ (b : Bool). typed types set o && b) (off s o p (λ a b. omega arith)) ∙ and-false (typed types set o)) 8 g.few
 
-  module _ (x : Lines) (from to : List ℕ) (slots : Slots x.wholeslot 16) (f : Objects types n x.wholefrom from) (t : Objects types n x.wholeto to) where
-    whole-at : (p o : ℕ) → p < 8 → o < 8 → whole x.wholeslot from to v p o ≡ whole_of x (made n types link) p o
+  module _ (x : Lines) (ws : List Whole) (asks : WholesAsk x types n ws) where
+    whole-same : (p o : ℕ) → p < 8 → o < 8 → whole ws v p o ≡ whole_of x (made n types link) p o
     unfolding whole whole_of
-    whole-at p o hp ho = any-ext (part x.wholeslot from to v p o) (whole_by x (made n types link) p o) 16 (λ j h.
-        let s = get_or x.wholeslot j 0 in
-        let a = typed types (get_or x.wholefrom j 0) o in
-        let b = typed types (get_or x.wholeto j 0) p in
-        ap₂ (λ (a b : Bool). a && b && v (o * 32 + s) p) (f.done j h o) (t.done j h p)
-        ∙ ap (λ (l : Bool). ltb o n && a && (ltb p n && b) && l) (g.at s o p (slots j h) ho hp)
+    whole-same p o hp ho = any-ext (λ j. part (whole_in ws j) v p o) (whole_by x (made n types link) p o) 16 (λ j h.
+        let w = whole_in ws j in
+        let small = w.slotted in
+        let e = asks j h in
+        let same = e.slot-is in
+        let s = (whole_at x j).slot in
+        let a = typed types (whole_at x j).from o in
+        let b = typed types (whole_at x j).to p in
+        ap₂ (λ (a b : Bool). a && b && v (o * 32 + w.slot) p) (e.from-are o) (e.to-are p)
+        ∙ ap (λ (l : Bool). ltb o n && a && (ltb p n && b) && l) (ap (λ (k : ℕ). v (o * 32 + k) p) same ∙ g.at s o p (omega arith) ho hp)
         ∙ guarded-two (ltb o n) a (ltb p n) b (link s o p) (λ l. let r = g.inside s o p l in (lt-ltb o n r.0, lt-ltb p n r.1)))
 
     no_whole : (p o : ℕ) → (o < n → p < n → ⊥) → whole_of x (made n types link) p o ≡ false
     unfolding whole_of
     no_whole p o h = any_none (whole_by x (made n types link) p o) 16 (λ j _.
-        let a = typed types (get_or x.wholefrom j 0) o in
-        let b = typed types (get_or x.wholeto j 0) p in
-        ap (λ (l : Bool). a && (b && l)) (off (get_or x.wholeslot j 0) o p h) ∙ ap (λ (l : Bool). a && l) (and-false b) ∙ and-false a)
+        let a = typed types (whole_at x j).from o in
+        let b = typed types (whole_at x j).to p in
+        ap (λ (l : Bool). a && (b && l)) (off (whole_at x j).slot o p h) ∙ ap (λ (l : Bool). a && l) (and-false b) ∙ and-false a)
 
-    pub whole-count : (p : ℕ) → p < 8 → tally (whole x.wholeslot from to v p) 8 ≡ tally (whole_of x (made n types link) p) n
+    pub whole-count : (p : ℕ) → p < 8 → tally (whole ws v p) 8 ≡ tally (whole_of x (made n types link) p) n
     whole-count p hp =
-        tally-ext (whole x.wholeslot from to v p) (whole_of x (made n types link) p) 8 (λ o ho. whole-at p o hp ho)
+        tally-ext (whole ws v p) (whole_of x (made n types link) p) 8 (λ o ho. whole-same p o hp ho)
         ∙ tally-beyond (whole_of x (made n types link) p) n (λ o h. no_whole p o (λ a b. omega arith)) 8 g.few
 
     pub no-wholes : (p : ℕ) → n ≤ p → tally (whole_of x (made n types link) p) n ≡ 0

@@ -16,6 +16,7 @@ use Rattle.worlds.specs.declared.Query.{Query}
 use Rattle.worlds.specs.Kept.{Allowed, Sheet, source_by, whole_by, whole_of}
 use Rattle.worlds.specs.Asked.{Satisfies, Solution, source_asked}
 use Rattle.leaves.proofs.WithinLaws.{within_same}
+use Rattle.worlds.specs.Lined.{column_at, mirror_at, whole_at}
 
 -- the world of n objects with types in an array
 abbrev pub made : ℕ → List ℕ → (ℕ → ℕ → ℕ → Bool) → World
@@ -38,7 +39,7 @@ module _ (x : Sheet) (q : Query) (n : ℕ) (types : List ℕ) (w : World) (size 
   whole_same : (p o : ℕ) → p < n → o < n → whole_of x.lines w p o ≡ whole_of x.lines v p o
   unfolding whole_of
   whole_same p o hp ho = any-ext (whole_by x.lines w p o) (whole_by x.lines v p o) 16 (λ j h.
-      ap₂ (λ (a b : Bool). a && (b && w.link (get_or x.lines.wholeslot j 0) o p)) (in-set o (get_or x.lines.wholefrom j 0) ho) (in-set p (get_or x.lines.wholeto j 0) hp))
+      ap₂ (λ (a b : Bool). a && (b && w.link (whole_at x.lines j).slot o p)) (in-set o (whole_at x.lines j).from ho) (in-set p (whole_at x.lines j).to hp))
 
   allowed-typed : Allowed x w → Allowed x v
   allowed-typed a = record {
@@ -58,11 +59,11 @@ module _ (x : Sheet) (q : Query) (n : ℕ) (types : List ℕ) (w : World) (size 
     columns = record {
       at = λ j p hj hp e.
           within_same refl refl (count (source_by x.lines w j p) (source_by x.lines v j p) (λ o h.
-          ap (λ (b : Bool). b && w.link (get_or x.lines.columnslot j 0) o p) (in-set o (get_or x.lines.columnfrom j 0) h)))
-          (a.columns.at j p hj (up p hp) (in-set p (get_or x.lines.columnto j 0) hp ∙ e));
+          ap (λ (b : Bool). b && w.link (column_at x.lines j).slot o p) (in-set o (column_at x.lines j).from h)))
+          (a.columns.at j p hj (up p hp) (in-set p (column_at x.lines j).to hp ∙ e));
     };
     mirrors = record {
-      at = λ j o p hj ho hp e f. a.mirrors.at j o p hj (up o ho) (up p hp) (in-set o (get_or x.lines.mirrorfrom j 0) ho ∙ e) (in-set p (get_or x.lines.mirrorto j 0) hp ∙ f);
+      at = λ j o p hj ho hp e f. a.mirrors.at j o p hj (up o ho) (up p hp) (in-set o (mirror_at x.lines j).from ho ∙ e) (in-set p (mirror_at x.lines j).to hp ∙ f);
     };
     wholes = record {
       at = λ p hp. subst (λ (m : ℕ). m ≤ 1) (count (whole_of x.lines w p) (whole_of x.lines v p) (λ o h. whole_same p o hp h)) (a.wholes.at p (up p hp));
@@ -76,8 +77,8 @@ module _ (x : Sheet) (q : Query) (n : ℕ) (types : List ℕ) (w : World) (size 
     avoids = λ o h l. sym (in-set o q.never l) ∙ a.avoids o h (up o l);
     must = a.must;
     shut = a.shut;
-    row = λ h. within_same refl refl (ap (tally (λ p. w.link q.row 0 p)) size) (a.row h);
-    column = λ h. within_same refl refl (count (source_asked q w) (source_asked q v) (λ o l. ap (λ (b : Bool). b && w.link q.column o 0) (in-set o q.from l))) (a.column h);
+    row = λ h. within_same refl refl (ap (tally (λ p. w.link q.row.slot 0 p)) size) (a.row h);
+    column = λ h. within_same refl refl (count (source_asked q w) (source_asked q v) (λ o l. ap (λ (b : Bool). b && w.link q.column.slot o 0) (in-set o q.column.from l))) (a.column h);
   }
 
   pub retyped : Solution x q n w → Solution x q n v

@@ -9,14 +9,12 @@ use mathlib.Core.Logic.{⊎_elim}
 use mathlib.Core.Path.{◌≡◌, ◌∙◌, ap, ap₂}
 use Rattle.laws.proofs.ConnectiveLaws.{known, true-false}
 use Rattle.link_search.specs.Nets.{Between, Net, net_of}
-use Rattle.link_search.specs.Families.{NetFits}
+use Rattle.link_search.specs.Families.{Fits}
 use Rattle.worlds.specs.declared.Lines.{Lines}
 use Rattle.worlds.specs.declared.Query.{Query}
-use Rattle.worlds.specs.Coherent.{Slotted}
 use Rattle.worlds.specs.Kept.{sheet}
 use Rattle.worlds.specs.Asked.{Sane, Solution}
-use Rattle.link_search.specs.declared.ColumnArrays.{ColumnArrays}
-use Rattle.link_search.specs.declared.RowArrays.{RowArrays}
+use Rattle.link_search.specs.declared.asked.NetArrays.{NetArrays}
 use Rattle.leaves.specs.Fitting.{types_fit}
 use Rattle.leaves.specs.Arrays.{Mays, Prepared, all_covered}
 use Rattle.leaves.proofs.FittingLaws.{fit_of}
@@ -73,16 +71,16 @@ module _ (usable singles : ℕ) (targets lows highs : List ℕ) (x : Lines) (q :
 
   module _ (may : List ℕ) (m : Mays targets types n q.shut may) where
     pub world-covered : all_covered q.must may ≡ true
-    world-covered = covered_of q.must may (λ i p h l e. may_of targets types n q.shut may m i p (is_open i p h l (must-stand i p h l e)))
+    world-covered = covered_of q.must may (λ i p h l e. may_of targets types n q.shut may m i p h (is_open i p h l (must-stand i p h l e)))
 
     pub world-between : Between q.must may (net_in link)
-    world-between = record { least = must-stand; most = λ i p h l e _. may_of targets types n q.shut may m i p (is_open i p h l e) }
+    world-between = record { least = must-stand; most = λ i p h l e _. may_of targets types n q.shut may m i p h (is_open i p h l e) }
 
-  module _ (slotted : Slotted x) (sane : Sane q) (may : List ℕ) (r : RowArrays) (c : ColumnArrays) (mf mt wf wt : List ℕ) (a : Prepared targets lows highs x q types n may r c mf mt wf wt) where
-    pub net-fits : NetFits r.low r.high c.slot c.from c.low c.high x.mirrorright x.mirrorleft mf mt x.wholeslot wf wt (net_in link)
+  module _ (sane : Sane q) (may : List ℕ) (net : NetArrays) (a : Prepared targets lows highs x q types n may net) where
+    pub net-fits : Fits net (net_in link)
     net-fits = record {
-      rows = rows_of lows highs types n q r a.rows sane.row link (net_in link) agree s.allowed.rows.limited s.asked.row;
-      columns = columns_of x q types n c a.columns slotted sane.column link (net_in link) agree s.allowed.columns s.asked.column;
-      mirrors = mirrors-of x types n mf mt slotted link (net_in link) agree a.mirror-from a.mirror-to s.allowed.mirrors;
-      wholes = wholes-of x types n wf wt slotted link (net_in link) agree a.whole-from a.whole-to s.allowed.wholes;
+      rows = rows_of lows highs types n q net.rows a.rows sane.row link (net_in link) agree s.allowed.rows.limited s.asked.row;
+      columns = columns_of types n link (net_in link) agree x q net.columns a.columns s.allowed.columns s.asked.column;
+      mirrors = mirrors-of x types n link (net_in link) agree net.mirrors a.mirrors s.allowed.mirrors;
+      wholes = wholes-of x types n link (net_in link) agree net.wholes a.wholes s.allowed.wholes;
     }

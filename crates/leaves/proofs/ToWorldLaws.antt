@@ -12,14 +12,13 @@ use lib.Dec.{ltb}
 use lib.ListN.{get_or}
 use Rattle.laws.proofs.ConnectiveLaws.{and_left, and_right, known, true-false}
 use Rattle.link_search.specs.Nets.{Between, net_of}
-use Rattle.link_search.specs.Families.{NetFits}
+use Rattle.link_search.specs.Families.{Fits}
 use Rattle.worlds.specs.declared.Lines.{Lines}
 use Rattle.worlds.specs.declared.Query.{Query}
-use Rattle.worlds.specs.Coherent.{Slotted, SmallTypes}
+use Rattle.worlds.specs.Coherent.{SmallTypes}
 use Rattle.worlds.specs.Kept.{sheet}
 use Rattle.worlds.specs.Asked.{Sane, Solution}
-use Rattle.link_search.specs.declared.ColumnArrays.{ColumnArrays}
-use Rattle.link_search.specs.declared.RowArrays.{RowArrays}
+use Rattle.link_search.specs.declared.asked.NetArrays.{NetArrays}
 use Rattle.leaves.specs.Fitting.{typed}
 use Rattle.leaves.specs.Arrays.{Prepared, all_covered}
 use Rattle.leaves.proofs.FittingLaws.{Fit}
@@ -34,10 +33,10 @@ use Rattle.leaves.proofs.MayLaws.{Open, covered-at, may_at}
 abbrev pub links_in : List ℕ → ℕ → ℕ → ℕ → Bool
 links_in rows s o p = ltb s 32 && (ltb o 8 && (ltb p 8 && net_of rows (o * 32 + s) p))
 
-module _ (usable singles : ℕ) (targets lows highs : List ℕ) (x : Lines) (q : Query) (types : List ℕ) (n : ℕ) (slotted : Slotted x) (sane : Sane q) (few : n ≤ 8) (small : SmallTypes types)
-    (fit : Fit usable singles q types n) (may : List ℕ) (r : RowArrays) (c : ColumnArrays) (mf mt wf wt : List ℕ) (a : Prepared targets lows highs x q types n may r c mf mt wf wt)
+module _ (usable singles : ℕ) (targets lows highs : List ℕ) (x : Lines) (q : Query) (types : List ℕ) (n : ℕ) (sane : Sane q) (few : n ≤ 8) (small : SmallTypes types)
+    (fit : Fit usable singles q types n) (may : List ℕ) (net : NetArrays) (a : Prepared targets lows highs x q types n may net)
     (all-may : all_covered q.must may ≡ true) (rows : List ℕ) (b : Between q.must may (net_of rows))
-    (f : NetFits r.low r.high c.slot c.from c.low c.high x.mirrorright x.mirrorleft mf mt x.wholeslot wf wt (net_of rows)) where
+    (f : Fits net (net_of rows)) where
   -- a link that stands
   stands : (s o p : ℕ) → s < 32 → o < 8 → p < 8 → net_of rows (o * 32 + s) p ≡ links_in rows s o p
   stands s o p hs ho hp = sym (ap₂ (λ (u v : Bool). u && (v && (ltb p 8 && net_of rows (o * 32 + s) p))) (lt-ltb s 32 hs) (lt-ltb o 8 ho) ∙ ap (λ (u : Bool). u && net_of rows (o * 32 + s) p) (lt-ltb p 8 hp))
@@ -81,11 +80,11 @@ module _ (usable singles : ℕ) (targets lows highs : List ℕ) (x : Lines) (q :
             let d : (o * 32 + s) / 32 ≡ o = omega arith in
             let m : (o * 32 + s) % 32 ≡ s = omega arith in
             ap₂ (λ (y z : ℕ). typed types (get_or targets (get_or types y 0 * 32 + z) 0) p) (sym d) (sym m) ∙ (standing s o p e).allowed.allowed;
-        limited = limited-of lows highs types n q r a.rows sane.row (links_in rows) (net_of rows) found-agrees f.rows;
+        limited = limited-of lows highs types n q net.rows a.rows sane.row (links_in rows) (net_of rows) found-agrees f.rows;
       };
-      columns = columns-kept x q types n c a.columns slotted sane.column (links_in rows) (net_of rows) found-agrees f.columns;
-      mirrors = mirrors-kept x types n mf mt slotted (links_in rows) (net_of rows) found-agrees a.mirror-from a.mirror-to f.mirrors;
-      wholes = wholes-kept x types n wf wt slotted (links_in rows) (net_of rows) found-agrees a.whole-from a.whole-to f.wholes;
+      columns = columns-kept types n (links_in rows) (net_of rows) found-agrees x q net.columns a.columns f.columns;
+      mirrors = mirrors-kept x types n (links_in rows) (net_of rows) found-agrees net.mirrors a.mirrors f.mirrors;
+      wholes = wholes-kept x types n (links_in rows) (net_of rows) found-agrees net.wholes a.wholes f.wholes;
     };
     asked = record {
       many = fit.many;
@@ -93,8 +92,8 @@ module _ (usable singles : ℕ) (targets lows highs : List ℕ) (x : Lines) (q :
       avoids = fit.never;
       must = λ o s p ho hs hp e. sym (stands s o p hs ho hp) ∙ b.least (o * 32 + s) p (omega arith) hp e;
       shut = λ o s p ho hs hp e. ⊎_elim (λ z. absurd (true-false e (standing s o p z).allowed.free)) (λ z. z) (known (links_in rows s o p));
-      row = row-asked-of lows highs types n q r a.rows sane.row (links_in rows) (net_of rows) found-agrees f.rows;
-      column = column-asked-of x q types n c a.columns slotted sane.column (links_in rows) (net_of rows) found-agrees f.columns;
+      row = row-asked-of lows highs types n q net.rows a.rows sane.row (links_in rows) (net_of rows) found-agrees f.rows;
+      column = column-asked-of types n (links_in rows) (net_of rows) found-agrees x q net.columns a.columns f.columns;
     };
     size = refl;
   }

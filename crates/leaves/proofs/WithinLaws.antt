@@ -19,32 +19,27 @@ pub asked-at : (b : Bool) (l h m : ℕ) → InLimits (cond b l 0) (cond b h 8) m
 asked-at true l h m w e = w
 asked-at false l h m w e = absurd (false≢true e)
 
--- ---- the limits of a row: `own` is a row of an object, `first` the row that the query asks, `asks` that it does
+-- ---- the limits of a row: `own` is a row of an object, `first` the row that the query asks about
 
-abbrev pub tight_low : Bool → Bool → Bool → ℕ → ℕ → ℕ
-tight_low own first asks l low = cond first (max (cond own l 0) (cond asks low 0)) (cond own l 0)
+abbrev pub tight_low : Bool → Bool → ℕ → ℕ → ℕ
+tight_low own first l low = cond first (max (cond own l 0) low) (cond own l 0)
 
-abbrev pub tight_high : Bool → Bool → Bool → ℕ → ℕ → ℕ
-tight_high own first asks h high = cond first (min (cond own h 8) (cond asks high 8)) (cond own h 8)
+abbrev pub tight_high : Bool → Bool → ℕ → ℕ → ℕ
+tight_high own first h high = cond first (min (cond own h 8) high) (cond own h 8)
 
-pub tight-of : (own first asks : Bool) (l h low high m : ℕ) → m ≤ 8 → (own ≡ true → InLimits l h m) → (own ≡ false → m ≡ 0) → (first ≡ true → asks ≡ true → InLimits low high m)
-    → InLimits (tight_low own first asks l low) (tight_high own first asks h high) m
-tight-of true true true l h low high m few a b c = let x = a refl in let y = c refl refl in record { least = omega arith; most = omega arith }
-tight-of true true false l h low high m few a b c = let x = a refl in record { least = omega arith; most = omega arith }
-tight-of true false asks l h low high m few a b c = a refl
-tight-of false true true l h low high m few a b c = let x = b refl in let y = c refl refl in record { least = omega arith; most = omega arith }
-tight-of false true false l h low high m few a b c = let x = b refl in record { least = omega arith; most = omega arith }
-tight-of false false asks l h low high m few a b c = let x = b refl in record { least = omega arith; most = omega arith }
+pub tight-of : (own first : Bool) (l h low high m : ℕ) → m ≤ 8 → (own ≡ true → InLimits l h m) → (own ≡ false → m ≡ 0) → (first ≡ true → InLimits low high m)
+    → InLimits (tight_low own first l low) (tight_high own first h high) m
+tight-of true true l h low high m few a b c = let x = a refl in let y = c refl in record { least = omega arith; most = omega arith }
+tight-of true false l h low high m few a b c = a refl
+tight-of false true l h low high m few a b c = let x = b refl in let y = c refl in record { least = omega arith; most = omega arith }
+tight-of false false l h low high m few a b c = let x = b refl in record { least = omega arith; most = omega arith }
 
-pub tight-own : (own first asks : Bool) (l h low high m : ℕ) → InLimits (tight_low own first asks l low) (tight_high own first asks h high) m → own ≡ true → InLimits l h m
-tight-own true true true l h low high m w e = record { least = omega arith; most = omega arith }
-tight-own true true false l h low high m w e = record { least = omega arith; most = omega arith }
-tight-own true false asks l h low high m w e = w
-tight-own false first asks l h low high m w e = absurd (false≢true e)
+pub tight-own : (own first : Bool) (l h low high m : ℕ) → InLimits (tight_low own first l low) (tight_high own first h high) m → own ≡ true → InLimits l h m
+tight-own true true l h low high m w e = record { least = omega arith; most = omega arith }
+tight-own true false l h low high m w e = w
+tight-own false first l h low high m w e = absurd (false≢true e)
 
-pub tight-first : (own first asks : Bool) (l h low high m : ℕ) → InLimits (tight_low own first asks l low) (tight_high own first asks h high) m → first ≡ true → asks ≡ true
-    → InLimits low high m
-tight-first true true true l h low high m w e f = record { least = omega arith; most = omega arith }
-tight-first false true true l h low high m w e f = record { least = omega arith; most = omega arith }
-tight-first own true false l h low high m w e f = absurd (false≢true f)
-tight-first own false asks l h low high m w e f = absurd (false≢true e)
+pub tight-first : (own first : Bool) (l h low high m : ℕ) → InLimits (tight_low own first l low) (tight_high own first h high) m → first ≡ true → InLimits low high m
+tight-first true true l h low high m w e = record { least = omega arith; most = omega arith }
+tight-first false true l h low high m w e = record { least = omega arith; most = omega arith }
+tight-first own false l h low high m w e = absurd (false≢true e)

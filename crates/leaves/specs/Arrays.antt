@@ -1,14 +1,18 @@
--- What a sheet and a query ask of the links of n objects with given types, as arrays by object. A row is `object * 32 + slot`.
+-- What a sheet and a query ask of the links of n objects with given types, by object. A row is `object * 32 + slot`.
 -- Assumes nothing.
-use Rattle.std.specs.Prelude.{◌%◌, ◌*◌, ◌+◌, ◌/◌, ◌<◌, max, min, ℕ, Bool, ◌&&◌, cond, not, List, ◌≡◌, eqb, ltb, get_or}
+use Rattle.std.specs.Prelude.{◌%◌, ◌*◌, ◌+◌, ◌/◌, ◌<◌, ◌≤◌, max, min, ℕ, Bool, ◌&&◌, cond, not, List, ◌≡◌, eqb, ltb, get_or}
 use Rattle.laws.specs.Bits.{Marks, bit}
 use Rattle.laws.specs.Bounded.{all}
 use Rattle.laws.specs.Connective.{imp}
+use Rattle.link_search.specs.Families.{column_in, limits_at, mirror_in, whole_in}
+use Rattle.link_search.specs.declared.asked.NetArrays.{NetArrays}
+use Rattle.link_search.specs.declared.asked.Column.{Column}
+use Rattle.link_search.specs.declared.asked.Limits.{Limits}
+use Rattle.link_search.specs.declared.asked.Mirror.{Mirror}
+use Rattle.link_search.specs.declared.asked.Whole.{Whole}
 use Rattle.worlds.specs.declared.Lines.{Lines}
 use Rattle.worlds.specs.declared.Query.{Query}
-use Rattle.link_search.specs.declared.RowArrays.{RowArrays}
-use Rattle.link_search.specs.declared.ColumnArrays.{ColumnArrays}
-use Rattle.leaves.specs.Filled.{FilledTo}
+use Rattle.worlds.specs.Lined.{column_at, mirror_at, whole_at}
 use Rattle.leaves.specs.Fitting.{typed}
 
 -- ---- rows
@@ -17,17 +21,17 @@ use Rattle.leaves.specs.Fitting.{typed}
 abbrev pub spot_of : List ℕ → ℕ → ℕ
 spot_of types i = get_or types (i / 32) 0 * 32 + i % 32
 
--- the limits of the rows of the first n objects, by a table; the others have the limit d
-abbrev pub RowLimits : List ℕ → List ℕ → ℕ → ℕ → List ℕ → Type 0
-RowLimits table types n d r = FilledTo (λ i v. v ≡ get_or table (spot_of types i) 0) d 256 (n * 32) r
-
 -- row i may go to object p: to its type, and the query does not shut it
 abbrev pub may_go : List ℕ → List ℕ → List ℕ → ℕ → ℕ → Bool
 may_go targets types shut i p = typed types (get_or targets (spot_of types i) 0) p && not (bit p (get_or shut i 0))
 
--- the objects that each row may go to
+-- the objects that row i may go to; past the n objects, none
+pub record RowMay (targets types : List ℕ) (n : ℕ) (shut : List ℕ) (i v : ℕ) : Type 0 where
+  pub done : i < n * 32 → Marks (may_go targets types shut i) n v
+  pub rest : n * 32 ≤ i → v ≡ 0
+
 abbrev pub Mays : List ℕ → List ℕ → ℕ → List ℕ → List ℕ → Type 0
-Mays targets types n shut r = FilledTo (λ i v. Marks (may_go targets types shut i) n v) 0 256 (n * 32) r
+Mays targets types n shut r = (i : ℕ) → i < 256 → RowMay targets types n shut i (get_or r i 0)
 
 -- the bits of a are bits of b
 unfoldable pub covered : ℕ → ℕ → Bool
@@ -37,62 +41,74 @@ covered a b = all (λ k. imp (bit k a) (bit k b)) 8
 unfoldable pub all_covered : List ℕ → List ℕ → Bool
 all_covered must may = all (λ i. covered (get_or must i 0) (get_or may i 0)) 256
 
--- v where the query has a seed, else d
-abbrev pub if_seeded : ℕ → ℕ → ℕ → ℕ
-if_seeded seeds v d = cond (ltb 0 seeds) v d
-
--- the limits of row i: the tables', and the query's besides for the first seed's row
+-- the limit of row i by a table; past the n objects, d
 abbrev pub row_by : List ℕ → List ℕ → ℕ → ℕ → ℕ → ℕ
 row_by table types n d i = cond (ltb i (n * 32)) (get_or table (spot_of types i) 0) d
 
+-- row i is the first seed's that the query asks about
+abbrev pub is_first : Query → ℕ → Bool
+is_first q i = ltb 0 q.seeds && eqb i q.row.slot
+
+-- the limits of row i: the tables', and the query's besides for the first seed's row
 unfoldable pub row_low : List ℕ → List ℕ → ℕ → Query → ℕ → ℕ
-row_low lows types n q i = cond (eqb i q.row) (max (row_by lows types n 0 i) (if_seeded q.seeds q.low 0)) (row_by lows types n 0 i)
+row_low lows types n q i = cond (is_first q i) (max (row_by lows types n 0 i) q.row.low) (row_by lows types n 0 i)
 
 unfoldable pub row_high : List ℕ → List ℕ → ℕ → Query → ℕ → ℕ
-row_high highs types n q i = cond (eqb i q.row) (min (row_by highs types n 8 i) (if_seeded q.seeds q.high 8)) (row_by highs types n 8 i)
+row_high highs types n q i = cond (is_first q i) (min (row_by highs types n 8 i) q.row.high) (row_by highs types n 8 i)
 
-pub record RowsAsk (lows highs types : List ℕ) (n : ℕ) (q : Query) (r : RowArrays) : Type 0 where
-  pub low : (i : ℕ) → i < 256 → get_or r.low i 0 ≡ row_low lows types n q i
-  pub high : (i : ℕ) → i < 256 → get_or r.high i 0 ≡ row_high highs types n q i
+pub record RowAsk (lows highs types : List ℕ) (n : ℕ) (q : Query) (i : ℕ) (l : Limits) : Type 0 where
+  pub low : l.low ≡ row_low lows types n q i
+  pub high : l.high ≡ row_high highs types n q i
+
+abbrev pub RowsAsk : List ℕ → List ℕ → List ℕ → ℕ → Query → List Limits → Type 0
+RowsAsk lows highs types n q r = (i : ℕ) → i < 256 → RowAsk lows highs types n q i (limits_at r i)
 
 -- ---- columns, mirrors and wholes
 
--- for each set of types, which of the first n objects have a type of it
-abbrev pub Objects : List ℕ → ℕ → List ℕ → List ℕ → Type 0
-Objects types n sets r = FilledTo (λ j v. Marks (typed types (get_or sets j 0)) n v) 0 16 16 r
+-- a column with the same limits for all targets that it asks
+pub record ColumnAsk (slot from : ℕ) (l : Limits) (types : List ℕ) (n : ℕ) (asked : ℕ → Bool) (c : Column) : Type 0 where
+  pub slot-is : c.slot ≡ slot
+  pub from-are : Marks (typed types from) n c.from
+  pub low : (p : ℕ) → p < 8 → (limits_at c.limits p).low ≡ cond (asked p) l.low 0
+  pub high : (p : ℕ) → p < 8 → (limits_at c.limits p).high ≡ cond (asked p) l.high 8
 
--- 16 elements and one more
-abbrev pub Longer : List ℕ → ℕ → List ℕ → Type 0
-Longer l x r = FilledTo (λ j v. v ≡ get_or l j 0) x 17 16 r
+-- association j's column
+abbrev pub LineAsk : Lines → List ℕ → ℕ → ℕ → Column → Type 0
+LineAsk x types n j =
+    ColumnAsk (column_at x j).slot (column_at x j).from (record { low = (column_at x j).low; high = (column_at x j).high }) types n (λ p. ltb p n && typed types (column_at x j).to p)
 
--- the limit of target x % 8 by column x / 8: the column's if it is one of the targets that are asked, else d
-unfoldable pub limit_at : List ℕ → List ℕ → ℕ → ℕ → ℕ
-limit_at to limit d x = cond (bit (x % 8) (get_or to (x / 8) 0)) (get_or limit (x / 8) 0) d
+-- the query's: it asks of the first seed, if there is one
+abbrev pub QueryAsk : Query → List ℕ → ℕ → Column → Type 0
+QueryAsk q types n = ColumnAsk q.column.slot q.column.from (record { low = q.column.least; high = q.column.most }) types n (λ p. ltb 0 q.seeds && eqb p 0)
 
-abbrev pub Spread : List ℕ → List ℕ → ℕ → List ℕ → Type 0
-Spread to limit d r = FilledTo (λ x v. v ≡ limit_at to limit d x) d 136 136 r
+pub record ColumnsAsk (x : Lines) (q : Query) (types : List ℕ) (n : ℕ) (r : List Column) : Type 0 where
+  pub line : (j : ℕ) → j < 16 → LineAsk x types n j (column_in r j)
+  pub query : QueryAsk q types n (column_in r 16)
 
--- column j: the association's, or the query's as the last one
-abbrev pub column_by : List ℕ → ℕ → ℕ → ℕ
-column_by l last j = cond (ltb j 16) (get_or l j 0) last
+-- association j's mirror
+pub record MirrorAsk (x : Lines) (types : List ℕ) (n j : ℕ) (m : Mirror) : Type 0 where
+  pub right-is : m.right ≡ (mirror_at x j).right
+  pub left-is : m.left ≡ (mirror_at x j).left
+  pub from-are : Marks (typed types (mirror_at x j).from) n m.from
+  pub to-are : Marks (typed types (mirror_at x j).to) n m.to
 
--- target p is asked by column j
-abbrev pub is_asked : Lines → Query → List ℕ → ℕ → ℕ → ℕ → Bool
-is_asked x q types n j p = cond (ltb j 16) (ltb p n && typed types (get_or x.columnto j 0) p) (ltb 0 q.seeds && eqb p 0)
+abbrev pub MirrorsAsk : Lines → List ℕ → ℕ → List Mirror → Type 0
+MirrorsAsk x types n r = (j : ℕ) → j < 16 → MirrorAsk x types n j (mirror_in r j)
 
-pub record ColumnsAsk (x : Lines) (q : Query) (types : List ℕ) (n : ℕ) (r : ColumnArrays) : Type 0 where
-  pub slot : (j : ℕ) → j < 17 → get_or r.slot j 0 ≡ column_by x.columnslot q.column j
-  pub from : (j : ℕ) → j < 17 → Marks (typed types (column_by x.columnfrom q.from j)) n (get_or r.from j 0)
-  pub low : (j p : ℕ) → j < 17 → p < 8 → get_or r.low (j * 8 + p) 0 ≡ cond (is_asked x q types n j p) (column_by x.columnlow q.least j) 0
-  pub high : (j p : ℕ) → j < 17 → p < 8 → get_or r.high (j * 8 + p) 0 ≡ cond (is_asked x q types n j p) (column_by x.columnhigh q.most j) 8
+-- association j's wholes
+pub record WholeAsk (x : Lines) (types : List ℕ) (n j : ℕ) (w : Whole) : Type 0 where
+  pub slot-is : w.slot ≡ (whole_at x j).slot
+  pub from-are : Marks (typed types (whole_at x j).from) n w.from
+  pub to-are : Marks (typed types (whole_at x j).to) n w.to
 
--- ---- all arrays of a search for links
+abbrev pub WholesAsk : Lines → List ℕ → ℕ → List Whole → Type 0
+WholesAsk x types n r = (j : ℕ) → j < 16 → WholeAsk x types n j (whole_in r j)
 
-pub record Prepared (targets lows highs : List ℕ) (x : Lines) (q : Query) (types : List ℕ) (n : ℕ) (may : List ℕ) (r : RowArrays) (c : ColumnArrays) (mirror_from mirror_to whole_from whole_to : List ℕ) : Type 0 where
+-- ---- all that a search for links is asked
+
+pub record Prepared (targets lows highs : List ℕ) (x : Lines) (q : Query) (types : List ℕ) (n : ℕ) (may : List ℕ) (a : NetArrays) : Type 0 where
   pub mays : Mays targets types n q.shut may
-  pub rows : RowsAsk lows highs types n q r
-  pub columns : ColumnsAsk x q types n c
-  pub mirror-from : Objects types n x.mirrorfrom mirror_from
-  pub mirror-to : Objects types n x.mirrorto mirror_to
-  pub whole-from : Objects types n x.wholefrom whole_from
-  pub whole-to : Objects types n x.wholeto whole_to
+  pub rows : RowsAsk lows highs types n q a.rows
+  pub columns : ColumnsAsk x q types n a.columns
+  pub mirrors : MirrorsAsk x types n a.mirrors
+  pub wholes : WholesAsk x types n a.wholes

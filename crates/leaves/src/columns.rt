@@ -1,65 +1,109 @@
 // What is asked by associations: limits of columns, and the objects that count.
-ghost use Rattle.std.specs.Prelude.{◌≡◌, ◌<◌, ◌≤◌};
-ghost use Rattle.leaves.specs.Arrays.{ColumnsAsk, Longer, Objects, Spread, limit_at};
+ghost use Rattle.std.specs.Prelude.{◌≡◌, ◌<◌, ◌≤◌, ◌&&◌, eqb, ltb};
+ghost use Rattle.laws.specs.Bits.{bit};
+ghost use Rattle.worlds.specs.Lined.{column_at, mirror_at, whole_at};
+ghost use Rattle.leaves.specs.Fitting.{typed};
+ghost use Rattle.leaves.specs.Arrays.{ColumnAsk, ColumnsAsk, LineAsk, MirrorAsk, MirrorsAsk, QueryAsk, WholeAsk, WholesAsk};
 
-use crate::among;
+use crate::objects::Objects;
 use laws::Mask;
-use link_search::ColumnArrays;
-use type_tables::pick;
+use link_search::{Column, Limits, Mirror, Whole};
 
-// For each set of types, which of the first n objects have a type of it.
-pub(crate) fn objects(types: &[u8; 8], n: u8, sets: &[u32; 16]) -> [u8; 16]
-    requires { n ≤ 8 }
-    ensures { Objects types.now n sets.now result }
-{
-    sets.map(|set| among(types, n, set))
-}
-
-// An array and one element more.
-fn longer(l: &[u8; 16], x: u8) -> [u8; 17]
-    ensures { Longer l.now x result }
-{
-    let mut r = [x; 17];
-    r[..16].copy_from_slice(l);
-    r
-}
-
-// The limit of one target by one column.
-fn limit_at(to: &[u8; 17], limit: &[u8; 17], d: u8, x: usize) -> u8
-    requires { x < 136 }
-    ensures { result ≡ limit_at to.now limit.now d x }
-{
-    let j = x / 8;
-    pick(to[j].has((x % 8) as u8), limit[j], d)
-}
-
-// The limits of all targets by all columns.
-fn spread(to: &[u8; 17], limit: &[u8; 17], d: u8) -> [u8; 136]
-    ensures { Spread to.now limit.now d result }
-{
-    let mut r = [d; 136];
-    for x in 0..136 {
-        r[x] = limit_at(to, limit, d, x);
+impl<'a> Objects<'a> {
+    // A column with the same limits for all targets that it asks, one bit for each.
+    fn column(&self, slot: u8, from: u32, asked: u8, limits: Limits) -> Column
+        requires { slot < 32 }
+        ensures { ColumnAsk slot from limits self.now.types.now.at self.now.n (λ p. bit p asked) result }
+    {
+        Column {
+            slot,
+            from: self.among(from),
+            limits: std::array::from_fn(|p| {
+                if asked.has(p as u8) {
+                    limits
+                } else {
+                    Limits { low: 0, high: 8 }
+                }
+            }),
+        }
     }
-    r
-}
 
-// The columns of the associations and the query's.
-pub(crate) fn column_arrays(
-    lines: worlds::Lines,
-    q: worlds::Query,
-    types: &[u8; 8],
-    n: u8,
-) -> ColumnArrays
-    requires { n ≤ 8 }
-    ensures { ColumnsAsk lines q types.now n result }
-{
-    let from = objects(types, n, &lines.columnfrom);
-    let to = longer(&objects(types, n, &lines.columnto), pick(0 < q.seeds, 1, 0));
-    ColumnArrays {
-        slot: longer(&lines.columnslot, q.column),
-        from: longer(&from, among(types, n, q.from)),
-        low: spread(&to, &longer(&lines.columnlow, q.least), 0),
-        high: spread(&to, &longer(&lines.columnhigh, q.most), 8),
+    // The column of association j.
+    fn line_column(&self, j: usize) -> Column
+        requires { j < 16 }
+        ensures { LineAsk self.now.lines.now self.now.types.now.at self.now.n j result }
+    {
+        let c = self.lines.columns[j];
+        let limits = Limits {
+            low: c.low,
+            high: c.high,
+        };
+        self.column(c.slot, c.from, self.among(c.to), limits)
+    }
+
+    // The query's column.
+    fn query_column(&self) -> Column
+        ensures { QueryAsk self.now.q.now self.now.types.now.at self.now.n result }
+    {
+        let c = self.q.column;
+        let limits = Limits {
+            low: c.least,
+            high: c.most,
+        };
+        self.column(c.slot, c.from, u8::from(0 < self.q.seeds), limits)
+    }
+
+    // The columns of the associations, and the query's as the last one.
+    pub(crate) fn columns(&self) -> [Column; 17]
+        ensures { ColumnsAsk self.now.lines.now self.now.q.now self.now.types.now.at self.now.n result }
+    {
+        std::array::from_fn(|j| {
+            if j < 16 {
+                self.line_column(j)
+            } else {
+                self.query_column()
+            }
+        })
+    }
+
+    // The mirror of association j.
+    fn mirror(&self, j: usize) -> Mirror
+        requires { j < 16 }
+        ensures { MirrorAsk self.now.lines.now self.now.types.now.at self.now.n j result }
+    {
+        let m = self.lines.mirrors[j];
+        Mirror {
+            right: m.right,
+            left: m.left,
+            from: self.among(m.from),
+            to: self.among(m.to),
+        }
+    }
+
+    // The mirrors of all associations.
+    pub(crate) fn mirrors(&self) -> [Mirror; 16]
+        ensures { MirrorsAsk self.now.lines.now self.now.types.now.at self.now.n result }
+    {
+        std::array::from_fn(|j| self.mirror(j))
+    }
+
+    // The wholes of association j.
+    fn whole(&self, j: usize) -> Whole
+        requires { j < 16 }
+        ensures { WholeAsk self.now.lines.now self.now.types.now.at self.now.n j result }
+    {
+        let w = self.lines.wholes[j];
+        Whole {
+            slot: w.slot,
+            from: self.among(w.from),
+            to: self.among(w.to),
+        }
+    }
+
+    // The wholes of all associations.
+    pub(crate) fn wholes(&self) -> [Whole; 16]
+        ensures { WholesAsk self.now.lines.now self.now.types.now.at self.now.n result }
+    {
+        std::array::from_fn(|j| self.whole(j))
     }
 }

@@ -23,7 +23,8 @@ use Rattle.rules.specs.LinkRules.{mirrored, rule6, rule6_for, rule7, rule7_for, 
 use Rattle.rules.specs.WholeRule.{rule9}
 use Rattle.memory_rules.specs.SiteIn.{site_in}
 use Rattle.tables.specs.Tables.{Instances, RoleSlots}
-use Rattle.link_rules.specs.Judged.{Judged, Says}
+use Rattle.link_rules.specs.Judged.{Judged, Says, by_tables}
+use Rattle.link_rules.specs.declared.Links.{Links}
 use Rattle.link_rules.specs.LinksIn.{Fits, end_limits, mirrored_in, own_sources_in, own_targets_in, rule6_at_in, rule6_in, rule7_at_in, rule7_in, rule8_at_in, rule8_in, source_end, sources_in, target_end, targets_in}
 use Rattle.link_rules.specs.WholesIn.{one_whole_in, rule9_in}
 use Rattle.link_rules.proofs.EndLaws.{KnownEnd, association-is, count-is, end_known, left-known, own-slot, right-known}
@@ -167,17 +168,17 @@ module _ {d : Diagram} {m : MemoryRecord} {a : Associations} {links masks slots 
 
 -- ---- a test that is a rule by the tables is the rule
 
-module _ (a : Associations) (links masks slots : List ℕ) (n : ℕ) {r : Bool} where
-  pub says6 : r ≡ rule6_in a links masks slots n → (r ≡ rule6_in a links masks slots n) × Says rule6 a links masks slots n r
+module _ (v : Links) {r : Bool} where
+  pub says6 : r ≡ by_tables rule6_in v → (r ≡ by_tables rule6_in v) × Says rule6 v r
   says6 e = (e, λ d m j. e ∙ rule6-judged j)
 
-  pub says7 : r ≡ rule7_in a links masks slots n → (r ≡ rule7_in a links masks slots n) × Says rule7 a links masks slots n r
+  pub says7 : r ≡ by_tables rule7_in v → (r ≡ by_tables rule7_in v) × Says rule7 v r
   says7 e = (e, λ d m j. e ∙ rule7-judged j)
 
-  pub says8 : r ≡ rule8_in a links masks slots n → (r ≡ rule8_in a links masks slots n) × Says rule8 a links masks slots n r
+  pub says8 : r ≡ by_tables rule8_in v → (r ≡ by_tables rule8_in v) × Says rule8 v r
   says8 e = (e, λ d m j. e ∙ rule8-judged j)
 
-  pub says9 : r ≡ rule9_in a links masks slots n → (r ≡ rule9_in a links masks slots n) × Says rule9 a links masks slots n r
+  pub says9 : r ≡ by_tables rule9_in v → (r ≡ by_tables rule9_in v) × Says rule9 v r
   says9 e = (e, λ d m j. e ∙ rule9-judged j)
 
 -- ---- the tables of a diagram in memory and of a record in memory

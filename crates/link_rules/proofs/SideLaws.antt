@@ -1,7 +1,7 @@
 -- From the tables to the definitions, for the ends of a diagram: a bit of an end's mask says that an object is an instance,
 -- and a bit of a link mask that it has a link; so the rules of a side agree object by object.
 -- Assumes nothing.
-use Prim.Native.Nat.{ℕ, ◌*◌, ◌+◌, ◌-◌, ◌<◌}
+use Prim.Native.Nat.{ℕ, ◌*◌, ◌+◌, ◌<◌}
 use mathlib.Core.Bool.{Bool}
 use mathlib.Core.List.{List}
 use mathlib.Core.Path.{◌≡◌, sym, ap, ap₂, ◌∙◌}
@@ -18,13 +18,12 @@ use Rattle.diagrams.specs.View.{association_in, end_in}
 use Rattle.records.specs.declared.MemoryRecord.{MemoryRecord}
 use Rattle.records.specs.Slots.{role_count, role_slot}
 use Rattle.rules.specs.Arrow.{Side, within}
-use Rattle.rules.specs.Compile.{side_number}
 use Rattle.rules.specs.Instance.{is_instance}
 use Rattle.rules.specs.LinkRules.{incoming, mirror_at, mirrored, sources, sources_at, targets, targets_at}
 use Rattle.memory_rules.specs.SiteIn.{linked_in, site_in}
 use Rattle.masks.specs.Masks.{arriving, arrives_from, column_at_fits, columns_fit, link_in, mirror_fits, mirror_row_fits, mirrors_fit, row_at_fits, row_fits, rows_fit}
 use Rattle.tables.specs.Tables.{Instances}
-use Rattle.link_rules.specs.LinksIn.{end_limits, instances_in, mirrored_in, own_sources_in, own_targets_in, source_end, sources_in, target_end, targets_in}
+use Rattle.link_rules.specs.LinksIn.{instances_in, mirrored_in, source_end, sources_in, target_end, targets_in}
 use Rattle.link_rules.proofs.EndLaws.{KnownEnd}
 
 module _ (d : Diagram) (m : MemoryRecord) (a : Associations) (masks slots : List ℕ) (instances : Instances d m masks) where
@@ -62,17 +61,3 @@ module _ (d : Diagram) (m : MemoryRecord) (a : Associations) (masks slots : List
       all-ext _ _ m.count (λ o l. all-ext _ _ m.count (λ p h.
       ap₂ (λ (x y : Bool). imp x y) (ap₂ (λ (x y : Bool). both x y) (at-is kl o l) (at-is kr p h))
       (ap₂ (λ (x y : Bool). same x y) (linked-is kr o p) (linked-is kl p o))))
-
--- ---- the same with the side by its number and the test on the arrow by its answer, as the code has them
-
-module _ (a : Associations) (links masks slots : List ℕ) (n : ℕ) (s : Side) (i : ℕ) {k : ℕ} {r : Bool} where
-  pub own-targets : {limits : Limits} → r ≡ targets_in a links masks slots n s i limits → limits ≡ end_limits a (i * 2 + 1 - k) → k ≡ side_number s → r ≡ own_targets_in a links masks slots n s i
-  unfolding own_targets_in
-  own-targets e l q = e ∙ ap (targets_in a links masks slots n s i) l ∙ ap (λ (k : ℕ). targets_in a links masks slots n s i (end_limits a (i * 2 + 1 - k))) q
-
-  pub own-sources : {limits : Limits} → r ≡ sources_in a links masks slots n s i limits → limits ≡ end_limits a (i * 2 + k) → k ≡ side_number s → r ≡ own_sources_in a links masks slots n s i
-  unfolding own_sources_in
-  own-sources e l q = e ∙ ap (sources_in a links masks slots n s i) l ∙ ap (λ (k : ℕ). sources_in a links masks slots n s i (end_limits a (i * 2 + k))) q
-
-pub imp-as : {b p r : Bool} (q : Bool) → r ≡ imp b q → b ≡ p → r ≡ imp p q
-imp-as q e h = e ∙ ap (λ (x : Bool). imp x q) h

@@ -12,6 +12,7 @@ use Rattle.rules.specs.LinkRules.{rule6, rule7, rule8}
 use Rattle.rules.specs.WholeRule.{rule9}
 use Rattle.memory_rules.specs.SiteIn.{site_in}
 use Rattle.tables.specs.Tables.{Instances, RoleSlots}
+use Rattle.link_rules.specs.declared.Links.{Links}
 
 pub record Judged (d : Diagram) (m : MemoryRecord) (a : Associations) (links masks slots : List ℕ) (n : ℕ) : Type 0 where
   pub wf : WfDiagram d
@@ -22,9 +23,16 @@ pub record Judged (d : Diagram) (m : MemoryRecord) (a : Associations) (links mas
   pub count : n ≡ m.count
   pub few : n ≤ 8
 
+-- what a definition by the tables says of those that the code holds
+abbrev pub by_tables : {A : Type 0} → (Associations → List ℕ → List ℕ → List ℕ → ℕ → A) → Links → A
+by_tables f v = f v.associations.now v.links.now v.tables.now.masks v.tables.now.slots v.count
+
+abbrev pub JudgedBy : Diagram → MemoryRecord → Links → Type 0
+JudgedBy d m v = Judged d m v.associations.now v.links.now v.tables.now.masks v.tables.now.slots v.count
+
 -- r is what the rule says, for every diagram and record that the tables belong to
-abbrev pub Says : {A : Type 0} → (Diagram → Site → A) → Associations → List ℕ → List ℕ → List ℕ → ℕ → A → Type 0
-Says rule a links masks slots n r = (d : Diagram) (m : MemoryRecord) → Judged d m a links masks slots n → r ≡ rule d (site_in d m)
+abbrev pub Says : {A : Type 0} → (Diagram → Site → A) → Links → A → Type 0
+Says rule v r = (d : Diagram) (m : MemoryRecord) → JudgedBy d m v → r ≡ rule d (site_in d m)
 
 -- the lowest of rules 6 to 9 that is broken, or 0
 abbrev pub lowest_of_links : Diagram → Site → ℕ

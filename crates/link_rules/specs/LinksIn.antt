@@ -5,10 +5,11 @@ use Rattle.std.specs.Prelude.{ℕ, ◌*◌, ◌+◌, ◌-◌, ◌<◌, ◌≤◌
 use Rattle.laws.specs.Bounded.{all}
 use Rattle.laws.specs.Connective.{both, imp}
 use Rattle.files.specs.Diagram.{Limits}
+use Rattle.diagrams.specs.View.{upper_in}
 use Rattle.diagrams.specs.declared.Associations.{Associations}
 use Rattle.rules.specs.Arrow.{Side, carries_left, carries_right, counted_left, counted_right, mirrors, r1, r2}
 use Rattle.rules.specs.Compile.{side_number}
-use Rattle.masks.specs.Masks.{columns_fit, limits_of, mirrors_fit, rows_fit}
+use Rattle.masks.specs.Masks.{columns_fit, mirrors_fit, rows_fit}
 
 -- what the code asks of the tables: few associations and objects, and a slot for each end
 pub record Fits (a : Associations) (slots : List ℕ) (n : ℕ) : Type 0 where
@@ -21,7 +22,7 @@ abbrev pub instances_in : Associations → List ℕ → ℕ → ℕ
 instances_in a masks e = get_or masks (get_or a.types e 0) 0
 
 abbrev pub end_limits : Associations → ℕ → Limits
-end_limits a e = limits_of (get_or a.lows e 0) (get_or a.ups e 0)
+end_limits a e = record { low = get_or a.lows e 0; up = upper_in (get_or a.ups e 0) }
 
 -- the ends of association i that a side's links come from and go to
 abbrev pub source_end : Side → ℕ → ℕ

@@ -5,30 +5,17 @@
 ghost use Rattle.std.specs.Prelude.{◌≡◌, ◌<◌, ◌≤◌, ◌*◌, get_or};
 ghost use Rattle.laws.specs.Bits.{Marks};
 ghost use Rattle.masks.specs.Masks.{limits_of};
-ghost use Rattle.laws.specs.Connective.{imp};
-ghost use Rattle.rules.specs.Compile.{side_number};
 ghost use Rattle.rules.specs.Evaluate.{side_of};
 ghost use Rattle.rules.specs.LinkRules.{rule6, rule7, rule8};
 ghost use Rattle.rules.specs.WholeRule.{rule9};
 ghost use Rattle.diagrams.specs.View.{diagram_of};
-ghost use Rattle.link_rules.specs.Judged.{Judged, Says, lowest_of_links};
-ghost use Rattle.link_rules.specs.LinksIn.{Fits, instances_in, end_limits, targets_in, own_targets_in, rule6_at_in, rule6_in, sources_in, own_sources_in, rule7_at_in, rule7_in, mirrored_in, rule8_at_in, rule8_in};
+ghost use Rattle.link_rules.specs.LinksIn.{Fits, end_limits, instances_in, mirrored_in, own_sources_in, own_targets_in, rule6_at_in, rule6_in, rule7_at_in, rule7_in, rule8_at_in, rule8_in, source_end, sources_in, target_end, targets_in};
 ghost use Rattle.link_rules.specs.WholesIn.{whole_by_in, is_whole_in, rule9_at_in, rule9_in, one_whole_at_in, one_whole_in};
 
 use diagrams::Associations;
 use laws::Mask;
 use masks::{Limits, Role};
 use tables::{Roles, Tables};
-
-// ---- sides, by their numbers in the compiled record: 0 for r2, whose links go from the left end to the right one; any other for r1,
-// whose links go back
-
-// Which of an association's two ends a side's links come from.
-fn source_of(side: u8) -> usize
-    ensures { (result ≡ side_number (side_of side)) × (result ≤ 1) }
-{
-    if side == 0 { 0 } else { 1 }
-}
 
 // What the rules read of a record in memory and of its diagram.
 #[derive(Clone, Copy)]
@@ -42,10 +29,12 @@ pub struct Links<'a> {
 }
 
 impl<'a> Links<'a> {
+    ghost use Rattle.link_rules.specs.Judged.{JudgedBy, Says, by_tables, lowest_of_links};
+
     // Those of a record in memory that is judged by its diagram. It has at most 8 objects, as `as u8` keeps them.
     pub fn of(roles: &'a Roles<'a>) -> Self
         ensures associations { result.associations.now ≡ roles.now.diagram.now.stored.associations }
-        ensures judged { let v = roles.now in Judged (diagram_of v.diagram.now.stored) v.memory.now result.associations.now result.links.now result.tables.now.masks result.tables.now.slots result.count }
+        ensures judged { JudgedBy (diagram_of roles.now.diagram.now.stored) roles.now.memory.now result }
     {
         Links {
             associations: &roles.diagram.stored.associations,
@@ -73,14 +62,16 @@ impl<'a> Links<'a> {
         self.tables.slots[e]
     }
 
-    // An end's limits.
+    // An end's limits: the diagram's table has 65,535 where there is no upper one.
+    #[tactic(auto, unfolding(diagrams::specs::View::upper_in))]
     fn limits(&self, e: usize) -> Limits
         requires { e < 32 }
-        ensures { limits_of result.low result.up ≡ end_limits self.now.associations.now e }
+        ensures { limits_of result ≡ end_limits self.now.associations.now e }
     {
+        let up = self.associations.ups[e];
         Limits {
             low: self.associations.lows[e],
-            up: self.associations.ups[e],
+            up: if up == 65535 { None } else { Some(up) },
         }
     }
 
@@ -102,142 +93,51 @@ impl<'a> Links<'a> {
         }
     }
 
-    // ---- rule 6
+    // ---- the rules, for each association
 
-    // For a side of association i: each instance of the end that its links come from has only instances of the other end as targets,
-    // and as many as the limits say.
-    pub fn targets_hold(&self, i: usize, side: u8, limits: Limits) -> bool
+    // Association i.
+    pub fn association(&self, i: usize) -> Association<'a>
         requires { i < self.now.associations.now.count }
-        ensures { result ≡ targets_in self.now.associations.now self.now.links.now self.now.tables.now.masks self.now.tables.now.slots self.now.count (side_of side) i (limits_of limits.low limits.up) }
+        ensures links { result.links ≡ self.now }
+        ensures index { result.index ≡ i }
     {
-        let s = source_of(side);
-        self.role(i * 2 + s, i * 2 + 1 - s).rows_fit(limits)
-    }
-
-    // Rule 6 for a side of association i, if its links are carried, with the limits of the end that they go to.
-    fn rule6_side(&self, i: usize, side: u8, carried: bool) -> bool
-        requires { i < self.now.associations.now.count }
-        ensures { result ≡ imp carried (own_targets_in self.now.associations.now self.now.links.now self.now.tables.now.masks self.now.tables.now.slots self.now.count (side_of side) i) }
-    {
-        if !carried {
-            return true;
+        Association {
+            links: *self,
+            index: i,
         }
-        self.targets_hold(i, side, self.limits(i * 2 + 1 - source_of(side)))
     }
 
-    // Rule 6 for association i.
-    fn rule6_at(&self, i: usize) -> bool
-        requires { i < self.now.associations.now.count }
-        ensures { result ≡ rule6_at_in self.now.associations.now self.now.links.now self.now.tables.now.masks self.now.tables.now.slots self.now.count i }
-    {
-        let arrow = self.associations.arrows[i];
-        let right = arrows::carries_right(arrow);
-        if !self.rule6_side(i, 0, right) {
-            return false;
-        }
-        self.rule6_side(i, 1, arrows::carries_left(arrow))
-    }
-
-    // Rule 6, for each association.
+    // Rule 6.
     pub fn rule6(&self) -> bool
-        ensures { (result ≡ rule6_in self.now.associations.now self.now.links.now self.now.tables.now.masks self.now.tables.now.slots self.now.count) × Says rule6 self.now.associations.now self.now.links.now self.now.tables.now.masks self.now.tables.now.slots self.now.count result }
+        ensures { (result ≡ by_tables rule6_in self.now) × Says rule6 self.now result }
     {
-        (0..self.associations.count).all(|i| self.rule6_at(i))
+        (0..self.associations.count).all(|i| self.association(i).rule6())
     }
 
-    // ---- rule 7
-
-    // For a side of association i: each instance of the end that its links go to is the target of as many instances of the other end
-    // as the limits say.
-    pub fn sources_hold(&self, i: usize, side: u8, limits: Limits) -> bool
-        requires { i < self.now.associations.now.count }
-        ensures { result ≡ sources_in self.now.associations.now self.now.links.now self.now.tables.now.masks self.now.tables.now.slots self.now.count (side_of side) i (limits_of limits.low limits.up) }
-    {
-        let s = source_of(side);
-        self.role(i * 2 + s, i * 2 + 1 - s).columns_fit(limits)
-    }
-
-    // Rule 7 for a side of association i, if its sources are counted, with the limits of the end that its links come from.
-    fn rule7_side(&self, i: usize, side: u8, counted: bool) -> bool
-        requires { i < self.now.associations.now.count }
-        ensures { result ≡ imp counted (own_sources_in self.now.associations.now self.now.links.now self.now.tables.now.masks self.now.tables.now.slots self.now.count (side_of side) i) }
-    {
-        if !counted {
-            return true;
-        }
-        self.sources_hold(i, side, self.limits(i * 2 + source_of(side)))
-    }
-
-    // Rule 7 for association i.
-    fn rule7_at(&self, i: usize) -> bool
-        requires { i < self.now.associations.now.count }
-        ensures { result ≡ rule7_at_in self.now.associations.now self.now.links.now self.now.tables.now.masks self.now.tables.now.slots self.now.count i }
-    {
-        let arrow = self.associations.arrows[i];
-        let right = arrows::counted_right(arrow);
-        if !self.rule7_side(i, 0, right) {
-            return false;
-        }
-        self.rule7_side(i, 1, arrows::counted_left(arrow))
-    }
-
-    // Rule 7, for each association.
+    // Rule 7.
     pub fn rule7(&self) -> bool
-        ensures { (result ≡ rule7_in self.now.associations.now self.now.links.now self.now.tables.now.masks self.now.tables.now.slots self.now.count) × Says rule7 self.now.associations.now self.now.links.now self.now.tables.now.masks self.now.tables.now.slots self.now.count result }
+        ensures { (result ≡ by_tables rule7_in self.now) × Says rule7 self.now result }
     {
-        (0..self.associations.count).all(|i| self.rule7_at(i))
+        (0..self.associations.count).all(|i| self.association(i).rule7())
     }
 
-    // ---- rule 8
-
-    // For instances of the two ends of association i, the r2 link is there exactly when the r1 link is.
-    pub fn mirror_holds(&self, i: usize) -> bool
-        requires { i < self.now.associations.now.count }
-        ensures { result ≡ mirrored_in self.now.associations.now self.now.links.now self.now.tables.now.masks self.now.tables.now.slots self.now.count i }
-    {
-        let left = i * 2;
-        self.role(left, left + 1).mirrors_fit(self.slot(left))
-    }
-
-    // Rule 8 for association i.
-    fn rule8_at(&self, i: usize) -> bool
-        requires { i < self.now.associations.now.count }
-        ensures { result ≡ rule8_at_in self.now.associations.now self.now.links.now self.now.tables.now.masks self.now.tables.now.slots self.now.count i }
-    {
-        if !arrows::is_mirrored(self.associations.arrows[i]) {
-            return true;
-        }
-        self.mirror_holds(i)
-    }
-
-    // Rule 8, for each association.
+    // Rule 8.
     pub fn rule8(&self) -> bool
-        ensures { (result ≡ rule8_in self.now.associations.now self.now.links.now self.now.tables.now.masks self.now.tables.now.slots self.now.count) × Says rule8 self.now.associations.now self.now.links.now self.now.tables.now.masks self.now.tables.now.slots self.now.count result }
+        ensures { (result ≡ by_tables rule8_in self.now) × Says rule8 self.now result }
     {
-        (0..self.associations.count).all(|i| self.rule8_at(i))
+        (0..self.associations.count).all(|i| self.association(i).rule8())
     }
 
-    // ---- rule 9
+    // ---- rule 9, for each object
 
-    // The wholes that p has by association i, if it is a composition.
-    fn wholes_at(&self, p: u8, i: usize) -> u8
-        requires { (p < 8) × (i < self.now.associations.now.count) }
-        ensures { Marks (whole_by_in self.now.associations.now self.now.links.now self.now.tables.now.masks self.now.tables.now.slots p i) self.now.count result }
-    {
-        if self.associations.forms[i] != 1 {
-            return 0;
-        }
-        self.role(i * 2, i * 2 + 1).wholes_by(p)
-    }
-
-    // The wholes that p has over all compositions.
+    // The wholes that p has over all compositions. A loop: of a fold the closure would be this body, with a name for the mask so far.
     fn whole_mask(&self, p: u8) -> u8
         requires { p < 8 }
-        ensures { Marks (is_whole_in self.now.associations.now self.now.links.now self.now.tables.now.masks self.now.tables.now.slots p) self.now.count result }
+        ensures { let v = self.now in Marks (is_whole_in v.associations.now v.links.now v.tables.now.masks v.tables.now.slots p) v.count result }
     {
         let mut wholes: u8 = 0;
         for i in 0..self.associations.count {
-            wholes |= self.wholes_at(p, i);
+            wholes |= self.association(i).wholes(p);
         }
         wholes
     }
@@ -245,42 +145,24 @@ impl<'a> Links<'a> {
     // Object p has at most one whole.
     fn rule9_at(&self, p: u8) -> bool
         requires { p < 8 }
-        ensures { result ≡ rule9_at_in self.now.associations.now self.now.links.now self.now.tables.now.masks self.now.tables.now.slots self.now.count p }
+        ensures { result ≡ by_tables rule9_at_in self.now p }
     {
         laws::count8(self.whole_mask(p)) <= 1
     }
 
-    // Rule 9, for each object.
+    // Rule 9.
     pub fn rule9(&self) -> bool
-        ensures { (result ≡ rule9_in self.now.associations.now self.now.links.now self.now.tables.now.masks self.now.tables.now.slots self.now.count) × Says rule9 self.now.associations.now self.now.links.now self.now.tables.now.masks self.now.tables.now.slots self.now.count result }
+        ensures { (result ≡ by_tables rule9_in self.now) × Says rule9 self.now result }
     {
         (0..self.count).all(|p| self.rule9_at(p))
     }
 
-    // Object p has at most one whole, if it is an instance of the right end of association i.
-    fn one_whole_at(&self, i: usize, p: u8) -> bool
-        requires { (i < self.now.associations.now.count) × (p < 8) }
-        ensures { result ≡ one_whole_at_in self.now.associations.now self.now.links.now self.now.tables.now.masks self.now.tables.now.slots self.now.count i p }
-    {
-        if !self.instances(i * 2 + 1).has(p) {
-            return true;
-        }
-        self.rule9_at(p)
-    }
-
-    // Each instance of the right end of association i has at most one whole over all compositions.
-    pub fn one_whole(&self, i: usize) -> bool
-        requires { i < self.now.associations.now.count }
-        ensures { result ≡ one_whole_in self.now.associations.now self.now.links.now self.now.tables.now.masks self.now.tables.now.slots self.now.count i }
-    {
-        (0..self.count).all(|p| self.one_whole_at(i, p))
-    }
-
     // ---- rules 6 to 9
 
-    // The lowest that is broken, or 0: the rules' numbers are those of the reply.
+    // The lowest that is broken, or 0, as the definition `lowest_of_links` has it: a number, and the reply's. An Option of a rule would be made
+    // into that number again by each caller.
     pub fn lowest_broken(&self) -> u8
-        ensures { Says lowest_of_links self.now.associations.now self.now.links.now self.now.tables.now.masks self.now.tables.now.slots self.now.count result }
+        ensures { Says lowest_of_links self.now result }
     {
         if !self.rule6() {
             return 6;
@@ -295,5 +177,143 @@ impl<'a> Links<'a> {
             return 9;
         }
         0
+    }
+}
+
+// One association. Its sides are by their numbers in the compiled record: 0 for r2, whose links go from the left end to the right one; any
+// other for r1, whose links go back.
+#[derive(Clone, Copy)]
+pub struct Association<'a> {
+    pub links: Links<'a>,
+    pub index: usize,
+    ghost known: { index < links.associations.now.count },
+}
+
+impl<'a> Association<'a> {
+    ghost use Rattle.link_rules.specs.Judged.{by_tables};
+
+    // The end that a side's links come from.
+    fn source(&self, side: u8) -> usize
+        ensures { (result ≡ source_end (side_of side) self.now.index) × (result < self.now.links.associations.now.count * 2) }
+    {
+        self.index * 2 + usize::from(side != 0)
+    }
+
+    // The end that they go to.
+    fn target(&self, side: u8) -> usize
+        ensures { (result ≡ target_end (side_of side) self.now.index) × (result < self.now.links.associations.now.count * 2) }
+    {
+        self.index * 2 + usize::from(side == 0)
+    }
+
+    // ---- rules 6 and 7. They differ in the test of the masks, in the end whose limits are asked and in what is asked of the arrow: a
+    // function for both would be handed all three.
+
+    // Each instance of the end that a side's links come from has only instances of the other end as targets, and as many as the limits say.
+    #[tactic(auto, unfolding(crate::specs::LinksIn::targets_in))]
+    pub fn targets_hold(&self, side: u8, limits: Limits) -> bool
+        ensures { result ≡ by_tables targets_in self.now.links (side_of side) self.now.index (limits_of limits) }
+    {
+        self.links
+            .role(self.source(side), self.target(side))
+            .rows_fit(limits)
+    }
+
+    // The same, with the limits of the end that the links go to.
+    #[tactic(auto, unfolding(crate::specs::LinksIn::own_targets_in))]
+    fn own_targets_hold(&self, side: u8) -> bool
+        ensures { result ≡ by_tables own_targets_in self.now.links (side_of side) self.now.index }
+    {
+        self.targets_hold(side, self.links.limits(self.target(side)))
+    }
+
+    // Rule 6: so for each side whose links are carried.
+    #[tactic(auto, unfolding(laws::specs::Connective::both, laws::specs::Connective::imp, crate::specs::LinksIn::rule6_at_in))]
+    fn rule6(&self) -> bool
+        ensures { result ≡ by_tables rule6_at_in self.now.links self.now.index }
+    {
+        let arrow = self.links.associations.arrows[self.index];
+        (!arrows::carries_right(arrow) || self.own_targets_hold(0))
+            && (!arrows::carries_left(arrow) || self.own_targets_hold(1))
+    }
+
+    // Each instance of the end that a side's links go to is the target of as many instances of the other end as the limits say.
+    #[tactic(auto, unfolding(crate::specs::LinksIn::sources_in))]
+    pub fn sources_hold(&self, side: u8, limits: Limits) -> bool
+        ensures { result ≡ by_tables sources_in self.now.links (side_of side) self.now.index (limits_of limits) }
+    {
+        self.links
+            .role(self.source(side), self.target(side))
+            .columns_fit(limits)
+    }
+
+    // The same, with the limits of the end that the links come from.
+    #[tactic(auto, unfolding(crate::specs::LinksIn::own_sources_in))]
+    fn own_sources_hold(&self, side: u8) -> bool
+        ensures { result ≡ by_tables own_sources_in self.now.links (side_of side) self.now.index }
+    {
+        self.sources_hold(side, self.links.limits(self.source(side)))
+    }
+
+    // Rule 7: so for each side whose sources are counted.
+    #[tactic(auto, unfolding(laws::specs::Connective::both, laws::specs::Connective::imp, crate::specs::LinksIn::rule7_at_in))]
+    fn rule7(&self) -> bool
+        ensures { result ≡ by_tables rule7_at_in self.now.links self.now.index }
+    {
+        let arrow = self.links.associations.arrows[self.index];
+        (!arrows::counted_right(arrow) || self.own_sources_hold(0))
+            && (!arrows::counted_left(arrow) || self.own_sources_hold(1))
+    }
+
+    // ---- rule 8
+
+    // For instances of the two ends, the r2 link is there exactly when the r1 link is.
+    #[tactic(auto, unfolding(crate::specs::LinksIn::mirrored_in))]
+    pub fn mirror_holds(&self) -> bool
+        ensures { result ≡ by_tables mirrored_in self.now.links self.now.index }
+    {
+        let left = self.index * 2;
+        self.links
+            .role(left, left + 1)
+            .mirrors_fit(self.links.slot(left))
+    }
+
+    // Rule 8: so if the arrow is one of those with mirrors.
+    #[tactic(auto, unfolding(laws::specs::Connective::imp, crate::specs::LinksIn::rule8_at_in))]
+    fn rule8(&self) -> bool
+        ensures { result ≡ by_tables rule8_at_in self.now.links self.now.index }
+    {
+        !arrows::is_mirrored(self.links.associations.arrows[self.index]) || self.mirror_holds()
+    }
+
+    // ---- rule 9
+
+    // The wholes that p has by this association, if it is a composition.
+    fn wholes(&self, p: u8) -> u8
+        requires { p < 8 }
+        ensures { let v = self.now.links in Marks (whole_by_in v.associations.now v.links.now v.tables.now.masks v.tables.now.slots p self.now.index) v.count result }
+    {
+        if self.links.associations.forms[self.index] != 1 {
+            return 0;
+        }
+        self.links
+            .role(self.index * 2, self.index * 2 + 1)
+            .wholes_by(p)
+    }
+
+    // Object p has at most one whole, if it is an instance of the right end.
+    #[tactic(auto, unfolding(laws::specs::Connective::imp, crate::specs::WholesIn::one_whole_at_in))]
+    fn one_whole_at(&self, p: u8) -> bool
+        requires { p < 8 }
+        ensures { result ≡ by_tables one_whole_at_in self.now.links self.now.index p }
+    {
+        !self.links.instances(self.index * 2 + 1).has(p) || self.links.rule9_at(p)
+    }
+
+    // Each instance of the right end has at most one whole over all compositions.
+    pub fn one_whole(&self) -> bool
+        ensures { result ≡ by_tables one_whole_in self.now.links self.now.index }
+    {
+        (0..self.links.count).all(|p| self.one_whole_at(p))
     }
 }

@@ -1,6 +1,6 @@
 pub mod JudgeLaws
 pub mod NetLaws
 pub mod SeenLaws
+pub mod AnyLaws
 pub mod ColumnLaws
-pub mod MirrorLaws
 pub mod WholeLaws

@@ -1,27 +1,30 @@
 -- What the looks and the search answer, for any demand C on nets.
 -- Assumes nothing.
-use Rattle.std.specs.Prelude.{ℕ, ◌+◌, ◌*◌, ◌<◌, ◌≡◌, Bool, true, false, List, get_or, Option, None, Some, Result, Ok, Err}
+use Rattle.std.specs.Prelude.{ℕ, ◌+◌, ◌*◌, ◌<◌, ◌≡◌, Bool, true, false, List, Option, None, Some, Result, Ok, Err}
 use Rattle.laws.specs.Bits.{bit}
 use Rattle.laws.specs.Bounded.{tally}
-use Rattle.link_search.specs.Nets.{Net, net_of, Between, InLimits}
-use Rattle.link_search.specs.Families.{source, Wholes}
+use Rattle.link_search.specs.Nets.{Net, net_of, Between}
+use Rattle.link_search.specs.Families.{ColumnFits, Within, Wholes}
+use Rattle.link_search.specs.declared.asked.Column.{Column}
+use Rattle.link_search.specs.declared.asked.Limits.{Limits}
+use Rattle.link_search.specs.declared.asked.Whole.{Whole}
 use Rattle.link_search.specs.declared.Spot.{Spot}
 use Rattle.link_search.specs.declared.NoNet.{NoNet}
 use Rattle.link_search.specs.declared.mirrors.Side.{Side}
 use Rattle.link_search.specs.declared.mirrors.Side.TheVariants.{There, Back}
 
 -- one set of bits with limits: what must stand is within them, or a bit that may stand is wanted, or no set between is within them
-abbrev pub BitsJudged : ℕ → ℕ → ℕ → ℕ → Result (Option ℕ) NoNet → Type 0
-BitsJudged must may low high (Ok None) = InLimits low high (tally (λ k. bit k must) 8)
-BitsJudged must may low high (Ok (Some k)) = (k < 8) × (bit k may ≡ true)
-BitsJudged must may low high (Err _) = (w : ℕ → Bool) → ((k : ℕ) → k < 8 → bit k must ≡ true → w k ≡ true)
-    → ((k : ℕ) → k < 8 → w k ≡ true → bit k must ≡ false → bit k may ≡ true) → InLimits low high (tally w 8) → ⊥
+abbrev pub BitsJudged : ℕ → ℕ → Limits → Result (Option ℕ) NoNet → Type 0
+BitsJudged must may l (Ok None) = Within l (tally (λ k. bit k must) 8)
+BitsJudged must may l (Ok (Some k)) = (k < 8) × (bit k may ≡ true)
+BitsJudged must may l (Err _) = (w : ℕ → Bool) → ((k : ℕ) → k < 8 → bit k must ≡ true → w k ≡ true)
+    → ((k : ℕ) → k < 8 → w k ≡ true → bit k must ≡ false → bit k may ≡ true) → Within l (tally w 8) → ⊥
 
--- target p of column j: the same, where a bit is a source whose link to p may stand
-abbrev pub ColumnSaid : List ℕ → List ℕ → List ℕ → List ℕ → List ℕ → List ℕ → ℕ → ℕ → Result (Option ℕ) NoNet → Type 0
-ColumnSaid slot from low high must may j p (Ok None) = InLimits (get_or low (j * 8 + p) 0) (get_or high (j * 8 + p) 0) (tally (source slot from (net_of must) j p) 8)
-ColumnSaid slot from low high must may j p (Ok (Some o)) = (o < 8) × (net_of may (o * 32 + get_or slot j 0) p ≡ true)
-ColumnSaid slot from low high must may j p (Err _) = (w : Net) → Between must may w → InLimits (get_or low (j * 8 + p) 0) (get_or high (j * 8 + p) 0) (tally (source slot from w j p) 8) → ⊥
+-- target p of a column: the same, where a bit is a source whose link to p may stand
+abbrev pub ColumnSaid : Column → List ℕ → List ℕ → ℕ → Result (Option ℕ) NoNet → Type 0
+ColumnSaid c must may p (Ok None) = ColumnFits c (net_of must) p
+ColumnSaid c must may p (Ok (Some o)) = (o < 8) × (net_of may (o * 32 + c.slot) p ≡ true)
+ColumnSaid c must may p (Err _) = (w : Net) → Between must may w → ColumnFits c w p → ⊥
 
 -- a link and the link back, each by what must stand and what may: they agree, or one is wanted, or they cannot agree
 abbrev pub Paired : Bool → Bool → Bool → Bool → Result (Option Side) NoNet → Type 0
@@ -44,9 +47,9 @@ Looked C must may (Ok (Some s)) = Wanted may s
 Looked C must may (Err _) = (w : Net) → Between must may w → C w → ⊥
 
 -- a look at the wholes, where no bit is ever wanted
-abbrev pub WholesSaid : List ℕ → List ℕ → List ℕ → List ℕ → Result Unit NoNet → Type 0
-WholesSaid slot from to must (Ok _) = Wholes slot from to (net_of must)
-WholesSaid slot from to must (Err _) = (may : List ℕ) (w : Net) → Between must may w → Wholes slot from to w → ⊥
+abbrev pub WholesSaid : List Whole → List ℕ → Result Unit NoNet → Type 0
+WholesSaid wholes must (Ok _) = Wholes wholes (net_of must)
+WholesSaid wholes must (Err _) = (may : List ℕ) (w : Net) → Between must may w → Wholes wholes w → ⊥
 
 -- the search, from what came to what is left: a net that is found lies between what came and meets the demand; where none is found,
 -- both arrays are as they came, and no net between meets it

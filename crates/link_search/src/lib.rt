@@ -2,61 +2,27 @@
 // rows and columns, mirrors and wholes are right. It knows no diagram: all that is asked stands in arrays.
 #![tactic(auto)]
 
-ghost use Rattle.std.specs.Prelude.{◌≡◌, true, false, ◌<◌, length};
+ghost use Rattle.std.specs.Prelude.{◌≡◌, true, false, ◌<◌, length, is_ok};
 ghost use Rattle.laws.specs.Bits.{bit};
 ghost use Rattle.laws.specs.Bounded.{tally};
-ghost use Rattle.link_search.specs.Families.{Fits, Slotted};
+ghost use Rattle.link_search.specs.Families.{Fits};
 ghost use Rattle.link_search.specs.Answers.{BitsJudged, Looked, NetAnswer};
 
 use laws::Mask;
 
+mod asked;
 mod columns;
 mod mirrors;
 mod rows;
 mod wholes;
 
-// The arrays are flat and of one field each: the search reads one field for all rows, columns or targets after another.
+pub use asked::{Column, Limits, Mirror, NetArrays, Whole};
 
-// What is asked of rows: for object o and role slot s at o * 32 + s, how many targets there are at least and at most.
+// The links that must stand and those that may besides: for object o and role slot s at o * 32 + s, one bit for each target.
 #[derive(Clone, Copy)]
-pub struct RowArrays {
-    pub low: [u8; 256],
-    pub high: [u8; 256],
-}
-
-// Of columns: the slot of column j and the objects whose links count, and for target p at j * 8 + p how many there are at least and at most.
-#[derive(Clone, Copy)]
-pub struct ColumnArrays {
-    pub slot: [u8; 17],
-    pub from: [u8; 17],
-    pub low: [u8; 136],
-    pub high: [u8; 136],
-}
-
-// Of mirrors: the slots of the links and of the links back, and the objects at either end.
-#[derive(Clone, Copy)]
-pub struct MirrorArrays {
-    pub right: [u8; 16],
-    pub left: [u8; 16],
-    pub from: [u8; 16],
-    pub to: [u8; 16],
-}
-
-// Of wholes: the slot of a composition's links, and the objects that may be wholes and parts.
-#[derive(Clone, Copy)]
-pub struct WholeArrays {
-    pub slot: [u8; 16],
-    pub from: [u8; 16],
-    pub to: [u8; 16],
-}
-
-// Everything that is asked.
-#[derive(Clone, Copy)]
-pub struct NetArrays {
-    pub rows: RowArrays,
-    pub columns: ColumnArrays,
-    pub mirrors: MirrorArrays,
-    pub wholes: WholeArrays,
+pub struct Bounds {
+    pub must: [u8; 256],
+    pub may: [u8; 256],
 }
 
 // One bit: the link of row `row` to object `target`.
@@ -68,9 +34,9 @@ struct Spot {
 
 // No net between is right.
 #[derive(Clone, Copy)]
-struct NoNet;
+pub struct NoNet;
 
-// The lowest bit that is set, of a mask that has one.
+// The lowest bit that is set, of a mask that has one. `as`, since the library's conversion gives a Result, which here never fails.
 fn lowest(m: u8) -> u8
     requires { 0 < tally (λ k. bit k m) 8 }
     ensures { (result < 8) × (bit result m ≡ true) }
@@ -79,59 +45,55 @@ fn lowest(m: u8) -> u8
 }
 
 // One set of bits between limits: none is missing, or a bit that may stand is wanted, or no set between is right.
-fn judge(must: u8, may: u8, low: u8, high: u8) -> Result<Option<u8>, NoNet>
-    ensures { BitsJudged must may low high result }
+fn judge(must: u8, may: u8, limits: Limits) -> Result<Option<u8>, NoNet>
+    ensures { BitsJudged must may limits result }
 {
     let y = laws::count8(must);
     let a = laws::count8(may);
-    if u32::from(high) < y {
+    if u32::from(limits.high) < y {
         return Err(NoNet);
     }
-    if y + a < u32::from(low) {
+    if y + a < u32::from(limits.low) {
         return Err(NoNet);
     }
-    if y < u32::from(low) {
+    if y < u32::from(limits.low) {
         return Ok(Some(lowest(may)));
     }
     Ok(None)
 }
 
 // A look at everything that is asked. What a mirror wants comes first: it has no other value.
-fn look_all(net: &NetArrays, must: &[u8; 256], may: &[u8; 256]) -> Result<Option<Spot>, NoNet>
-    requires { Slotted net.now }
-    ensures { Looked (Fits net.now) must.now may.now result }
+fn look_all(net: &NetArrays, bounds: &Bounds) -> Result<Option<Spot>, NoNet>
+    ensures { Looked (Fits net.now) bounds.now.must bounds.now.may result }
 {
-    let rows = rows::look_rows(&net.rows, must, may)?;
-    let columns = columns::look_columns(&net.columns, must, may)?;
-    let mirrors = mirrors::look_mirrors(&net.mirrors, must, may)?;
-    wholes::look_wholes(&net.wholes, must)?;
+    let rows = rows::look_rows(&net.rows, bounds)?;
+    let columns = columns::look_columns(&net.columns, bounds)?;
+    let mirrors = mirrors::look_mirrors(&net.mirrors, bounds)?;
+    wholes::look_wholes(&net.wholes, &bounds.must)?;
     Ok(mirrors.or(rows).or(columns))
 }
 
-// Links between `must` and `may` that are right, left in `must`. Each bit that is wanted is tried as a link and then as none; a try that
-// fails leaves both arrays as they were.
-pub fn links(net: &NetArrays, must: &mut [u8; 256], may: &mut [u8; 256]) -> bool
-    requires { Slotted net.now × (length must.old ≡ 256) × (length may.old ≡ 256) }
-    ensures { NetAnswer (Fits net.now) must.old may.old must.new may.new result }
+// Links within the bounds that are right, left in `must`. Each bit that is wanted is tried as a link and then as none; a try that fails
+// leaves the bounds as they were.
+pub fn links(net: &NetArrays, bounds: &mut Bounds) -> Result<(), NoNet>
+    requires { (length bounds.old.must ≡ 256) × (length bounds.old.may ≡ 256) }
+    ensures { NetAnswer (Fits net.now) bounds.old.must bounds.old.may bounds.new.must bounds.new.may (is_ok result) }
 {
-    let Ok(wanted) = look_all(net, must, may) else {
-        return false;
-    };
-    let Some(spot) = wanted else {
-        return true;
+    let Some(spot) = look_all(net, bounds)? else {
+        return Ok(());
     };
     let i = spot.row;
-    let y = must[i];
-    let m = may[i];
-    may[i] = m.without(spot.target);
-    must[i] = y.with(spot.target);
-    if links(net, must, may) {
-        return true;
+    let must = bounds.must[i];
+    let may = bounds.may[i];
+    bounds.may[i] = may.without(spot.target);
+    bounds.must[i] = must.with(spot.target);
+    if links(net, bounds).is_ok() {
+        return Ok(());
     }
-    must[i] = y;
-    if links(net, must, may) {
-        return true;
+    bounds.must[i] = must;
+    if links(net, bounds).is_ok() {
+        return Ok(());
     }
-    may[i] = m;
-    false
+    bounds.may[i] = may;
+    Err(NoNet)
 }

@@ -1,9 +1,9 @@
 // Mirrors: a link by one role stands exactly when the link back by the other does.
-ghost use Rattle.std.specs.Prelude.{◌<◌, ◌+◌, ◌*◌, get_or};
-ghost use Rattle.link_search.specs.Families.{MirrorHolds, Mirrors, Slots};
+ghost use Rattle.std.specs.Prelude.{◌<◌};
+ghost use Rattle.link_search.specs.Families.{MirrorHolds, MirrorKept, Mirrors};
 ghost use Rattle.link_search.specs.Answers.{Looked, Paired};
 
-use crate::{MirrorArrays, NoNet, Spot};
+use crate::{Bounds, Mirror, NoNet, Spot};
 use laws::Mask;
 
 // Of a link and the link back, the one that is wanted.
@@ -29,58 +29,57 @@ fn pair(first: bool, may_first: bool, second: bool, may_second: bool) -> Result<
     Err(NoNet)
 }
 
-// Object o and object p by mirror j.
-fn judge_mirror(
-    mirrors: &MirrorArrays,
-    must: &[u8; 256],
-    may: &[u8; 256],
-    j: usize,
-    o: u8,
-    p: u8,
-) -> Result<Option<Spot>, NoNet>
-    requires { (j < 16) × (o < 8) × (p < 8) × (get_or mirrors.now.right j 0 < 32) × (get_or mirrors.now.left j 0 < 32) }
-    ensures { Looked (λ w. MirrorHolds mirrors.now.right mirrors.now.left mirrors.now.from mirrors.now.to w j o p) must.now may.now result }
-{
-    if !mirrors.from[j].has(o) {
-        return Ok(None);
+impl Mirror {
+    // Object o and object p.
+    fn judge(&self, bounds: &Bounds, o: u8, p: u8) -> Result<Option<Spot>, NoNet>
+        requires { (o < 8) × (p < 8) }
+        ensures { Looked (λ w. MirrorHolds self.now w o p) bounds.now.must bounds.now.may result }
+    {
+        if !self.from.has(o) {
+            return Ok(None);
+        }
+        if !self.to.has(p) {
+            return Ok(None);
+        }
+        let wanted = pair(
+            records::is_linked(&bounds.must, o, self.right, p),
+            records::is_linked(&bounds.may, o, self.right, p),
+            records::is_linked(&bounds.must, p, self.left, o),
+            records::is_linked(&bounds.may, p, self.left, o),
+        )?;
+        Ok(wanted.map(|side| match side {
+            Side::There => Spot {
+                row: laws::place(o, self.right),
+                target: p,
+            },
+            Side::Back => Spot {
+                row: laws::place(p, self.left),
+                target: o,
+            },
+        }))
     }
-    if !mirrors.to[j].has(p) {
-        return Ok(None);
+
+    // A look at all objects, up to the first bit that is wanted.
+    fn look(&self, bounds: &Bounds) -> Result<Option<Spot>, NoNet>
+        ensures { Looked (MirrorKept self.now) bounds.now.must bounds.now.may result }
+    {
+        for o in 0u8..8 {
+            for p in 0u8..8 {
+                if let Some(spot) = self.judge(bounds, o, p)? {
+                    return Ok(Some(spot));
+                }
+            }
+        }
+        Ok(None)
     }
-    let r = mirrors.right[j];
-    let l = mirrors.left[j];
-    let wanted = pair(
-        records::is_linked(must, o, r, p),
-        records::is_linked(may, o, r, p),
-        records::is_linked(must, p, l, o),
-        records::is_linked(may, p, l, o),
-    )?;
-    Ok(match wanted {
-        None => None,
-        Some(Side::There) => Some(Spot {
-            row: usize::from(o) * 32 + usize::from(r),
-            target: p,
-        }),
-        Some(Side::Back) => Some(Spot {
-            row: usize::from(p) * 32 + usize::from(l),
-            target: o,
-        }),
-    })
 }
 
 // A look at the mirrors, up to the first bit that is wanted.
-pub(crate) fn look_mirrors(
-    mirrors: &MirrorArrays,
-    must: &[u8; 256],
-    may: &[u8; 256],
-) -> Result<Option<Spot>, NoNet>
-    requires { Slots mirrors.now.right 16 × Slots mirrors.now.left 16 }
-    ensures { Looked (Mirrors mirrors.now.right mirrors.now.left mirrors.now.from mirrors.now.to) must.now may.now result }
+pub(crate) fn look_mirrors(mirrors: &[Mirror; 16], bounds: &Bounds) -> Result<Option<Spot>, NoNet>
+    ensures { Looked (Mirrors mirrors.now) bounds.now.must bounds.now.may result }
 {
-    for x in 0..1024 {
-        let o = (x / 8 % 8) as u8;
-        let p = (x % 8) as u8;
-        if let Some(spot) = judge_mirror(mirrors, must, may, x / 64, o, p)? {
+    for mirror in mirrors {
+        if let Some(spot) = mirror.look(bounds)? {
             return Ok(Some(spot));
         }
     }

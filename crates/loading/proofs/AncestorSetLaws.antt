@@ -6,7 +6,7 @@ use mathlib.Core.Bool.{Bool, true, false, ◌||◌}
 use mathlib.Core.Logic.{⊎_elim}
 use Prim.Native.Nat.{ℕ, zero, suc, ◌+◌, ◌≤◌, ◌<◌}
 use native.Mathlib.Decide.{dec_lt}
-use native.Mathlib.Nat.{le_antisymm, lt_trans}
+use native.Mathlib.Nat.{lt_trans}
 use native.Mathlib.Numerals.{add-one}
 use native.Mathlib.Omega.{arith}
 use mathlib.Core.List.{List, [], ◌∷◌, ◌++◌}
@@ -51,9 +51,6 @@ set_next sets t ps k m {p} f e j =
     bit-or j m (get_or sets p 0) ∙ ap₂ (λ (a : Bool) (i : ℕ). a || bit j (get_or sets i 0)) (f j) e
     ∙ or-either (eqb t j) (any (λ s. bit j (get_or sets (get_or ps s 0) 0)) k) (bit j (get_or sets (get_or ps k 0) 0))
     ∙ ap (either (eqb t j)) (sym (any-more (λ s. bit j (get_or sets (get_or ps s 0) 0)) k))
-
-pub set-done : (sets : List ℕ) (t : ℕ) (ps : List ℕ) (k m : ℕ) → k ≤ length ps → length ps ≤ k → SetSoFar sets t ps k m → SetOf sets t ps m
-set-done sets t ps k m h l f = subst (λ (n : ℕ). SetSoFar sets t ps n m) (le_antisymm h l) f
 
 -- ---- one type more
 

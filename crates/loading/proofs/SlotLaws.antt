@@ -6,14 +6,16 @@ use Prim.Native.Nat.{ℕ, ◌+◌, ◌*◌, ◌-◌, ◌≤◌, ◌<◌, min}
 use native.Mathlib.Nat.{min-eq_right, add-zero}
 use native.Mathlib.Omega.{arith}
 use mathlib.Core.List.{List, ◌∷◌, ◌++◌}
-use lib.ListN.{length, get_or, take, drop, set, length-set}
-use lib.Seq.{get_or-take, get_or-drop, take-append_seam, drop-drop}
+use lib.ListN.{length, get_or, take, drop}
+use lib.Seq.{get_or-take, get_or-drop, take-append_seam, take-length, drop-drop}
 use borrow.Rule.Slice.PartMut.{put_mid}
 use borrow.Author.Tests.{leb-true}
 use Rattle.laws.proofs.ConnectiveLaws.{both_left, both_right}
-use Rattle.laws.proofs.PastedLaws.{copied, drop-pasted, length-pasted, part-front, pasted, pasted-behind, take-pasted}
+use Rattle.laws.proofs.PastedLaws.{copied, drop-pasted, length-pasted, part-front, pasted, take-pasted}
+use Rattle.laws.specs.Lists.{over}
+use Rattle.field_writers.specs.Put.{Put}
 use Rattle.fields.specs.Slot.{slot_name}
-use Rattle.files.specs.Content.{name_in, starts_name}
+use Rattle.files.specs.Content.{name_bytes, name_in, starts_name}
 use Rattle.files.specs.Name.{valid_name}
 use Rattle.files.proofs.RecordWellFormed.{starts-valid}
 use Rattle.loading.specs.Stored.{NameStored}
@@ -45,22 +47,19 @@ slot-new d w n h k =
     let small : min 16 (length w) ≡ length w = min-eq_right h in
     rw (first, after, small, take-append_seam w rest)
 
--- the length stored, and then the name copied behind it
-pub name-stored : (d w d' e : List ℕ) (i a n : ℕ) → i * 17 + 17 ≤ length d → length w ≤ 16 → a ≡ i * 17 → n ≡ length w → d' ≡ set d a n
-    → e ≡ take (length w) w ++ drop (length w) (take (length d' - (a + 1)) (drop (a + 1) d'))
-    → NameStored d i w (put_mid (a + 1) (length d' - (a + 1)) d' e)
-name-stored d w d' e i a n room short p q s f =
-    let size : length d' ≡ length d = ap length s ∙ length-set d a n in
-    let here : a < length d = omega arith in
-    let fits : a + 1 + length w ≤ length d' = omega arith in
-    let is : put_mid (a + 1) (length d' - (a + 1)) d' e ≡ pasted d (i * 17) (length w ∷ w) =
-    copied d' w e (a + 1) fits f ∙ ap (λ (x : List ℕ). pasted x (a + 1) w) s ∙ pasted-behind d w a n here
-    ∙ ap (λ (x : ℕ). pasted d x (n ∷ w)) p ∙ ap (λ (x : ℕ). pasted d (i * 17) (x ∷ w)) q in
+-- the name put into the row from slot i on
+pub name-put : (d w e : List ℕ) (i n : ℕ) → i * 17 + 17 ≤ length d → length w ≤ 16 → Put (name_bytes w) (take (length d - i * 17) (drop (i * 17) d)) n e
+    → NameStored d i w (put_mid (i * 17) (length d - i * 17) d e)
+unfolding name_bytes over
+name-put d w e i n room short put =
+    let xs : List ℕ = length w ∷ w in
+    let fits : i * 17 + length xs ≤ length d = omega arith in
+    let is : put_mid (i * 17) (length d - i * 17) d e ≡ pasted d (i * 17) xs =
+    copied d xs e (i * 17) fits (put.bytes ∙ ap (λ (x : List ℕ). x ++ drop (length xs) (take (length d - i * 17) (drop (i * 17) d))) (sym (take-length xs))) in
     let most : i * 17 ≤ length d = omega arith in
-    let whole : i * 17 + length (length w ∷ w) ≤ length d = omega arith in
     record {
-      size = ap length is ∙ length-pasted d (length w ∷ w) (i * 17) whole;
-      kept = λ j l. ap (λ (x : List ℕ). slot_name x j) is ∙ slot-before d (length w ∷ w) i j l most;
+      size = ap length is ∙ length-pasted d xs (i * 17) fits;
+      kept = λ j l. ap (λ (x : List ℕ). slot_name x j) is ∙ slot-before d xs i j l most;
       is = ap (λ (x : List ℕ). slot_name x i) is ∙ slot-new d w i short most;
     }
 

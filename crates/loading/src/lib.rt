@@ -27,8 +27,8 @@ fn add_field(d: &mut StoredDiagram, tag: u8, c: &[u8])
 
 // ---- a file
 
-// Reads a diagram file: its fields from left to right, up to the first refusal. The last tag is 0 before the first field, since no
-// tag is 0 and none falls behind it.
+// Reads a diagram file: its fields from left to right, up to the first refusal. The last tag is 0 before the first field, as
+// `fields::is_misplaced` takes it.
 pub fn read_diagram(file: &[u8]) -> Result<ReadDiagram, Refusal>
     ensures { Loads file.now result }
 {

@@ -1,4 +1,5 @@
-// One more value type, type, attribute or association of a diagram in memory, read off a content on its layout.
+// One more value type, type, attribute or association of a diagram in memory, read off a content on its layout. The number of a type fits the
+// cast, as the contract asks.
 ghost use Rattle.std.specs.Prelude.{◌≡◌, true, ℕ, ◌+◌, ◌*◌, ◌<◌, ◌≤◌, length, get_or};
 ghost use Rattle.laws.specs.Bounded.{all};
 ghost use Rattle.files.specs.Content.{starts_name, past_names};
@@ -16,14 +17,13 @@ pub fn store_name(names: &mut [u8], i: usize, w: &[u8])
     requires { (i * 17 + 17 ≤ length names.old) × (length w.now ≤ 16) }
     ensures { NameStored names.old i w.now names.new }
 {
-    let at = i * 17;
-    names[at] = w.len() as u8;
-    laws::copy(w, &mut names[at + 1..]);
+    field_writers::put_name(&mut names[i * 17..], w);
 }
 
 // ---- value types
 
-// The first n names of c as the constants of value type v.
+// The first n names of c as the constants of value type v. What is left of c goes along beside the index: `layouts::past_names` by the index
+// would pass again over the names before it.
 fn store_constants(constants: &mut [u8; 1632], v: usize, c: &[u8], n: u8)
     requires { (v < 12) × ((n ≤ 8) × (all (λ k. starts_name (past_names k c.now)) n ≡ true)) }
     ensures { ConstantsStored constants.old v c.now n constants.new }
@@ -64,11 +64,8 @@ fn ancestor_set(sets: &[u32; 24], t: usize, ps: &[u8]) -> u32
     requires { (t < 24) × ((s : ℕ) → s < length ps.now → get_or ps.now s 0 < t) }
     ensures { SetOf sets.now t ps.now result }
 {
-    let mut set = 0u32.with(t as u32);
-    for p in ps {
-        set |= sets[usize::from(*p)];
-    }
-    set
+    ps.iter()
+        .fold(0u32.with(t as u32), |set, p| set | sets[usize::from(*p)])
 }
 
 // One type more.
@@ -105,7 +102,7 @@ pub(crate) fn add_attribute(a: &mut Attributes, c: &[u8])
 
 // ---- associations
 
-// An upper limit as it is kept: byte 255, no limit, is 65,535.
+// An upper limit as `diagrams::Associations` has it: byte 255, no limit, is 65,535.
 fn upper(b: u8) -> u16
     ensures { upper_in result ≡ upper_of b }
 {

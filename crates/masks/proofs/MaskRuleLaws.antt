@@ -3,33 +3,24 @@
 use Prim.Native.Nat.{ℕ, ◌^◌, ◌<◌, ◌≤◌}
 use native.Mathlib.Decide.{dec_lt}
 use native.Mathlib.Omega.{arith}
-use mathlib.Core.Bool.{beq, Bool, true, false, cond, ◌&&◌}
+use mathlib.Core.Bool.{Bool, true, false, ◌&&◌, ◌||◌}
 use mathlib.Core.List.{List, [], ◌∷◌}
 use mathlib.Core.Path.{◌≡◌, refl, sym, ap, ap₂, ◌∙◌}
-use lib.Bits.{bit_and}
-use lib.Dec.{eqb, leb, ltb}
+use lib.Bits.{bit_and, bit_or, or_lt}
+use lib.Dec.{eqb, ltb}
 use lib.ListN.{get_or}
-use borrow.Author.Tests.{lt-ltb, le-ltb}
+use borrow.Author.Tests.{eq-eqb, eqb-true, lt-ltb, le-ltb}
 use Rattle.laws.specs.Connective.{both, either, imp, same}
 use Rattle.laws.specs.Bounded.{all, tally}
 use Rattle.laws.specs.Bits.{bit}
-use Rattle.laws.proofs.ConnectiveLaws.{both_left, both_right, same-is}
-use Rattle.laws.proofs.BoundedLaws.{all-at, all-ext}
+use Rattle.laws.proofs.ConnectiveLaws.{both_left, both_right, imp-of, or_left, same-is, same_test}
+use Rattle.laws.proofs.BoundedLaws.{all-at, all-ext, all_of}
 use Rattle.laws.proofs.CountLaws.{tally-ext}
-use Rattle.laws.proofs.BitLaws.{bit-above, bit-and, subset-test}
+use Rattle.laws.proofs.BitLaws.{bit-above, bit-and, bit-or, bits-eq}
 use Rattle.laws.proofs.MaskLaws.{all-beyond, tally-beyond}
-use Rattle.files.specs.Diagram.{Limits, at_most, no_limit}
-use Rattle.diagrams.specs.View.{upper_in}
-use Rattle.rules.specs.Arrow.{within, not_above}
-use Rattle.masks.specs.Masks.{limits_of, row_fits}
-
-pub within-is : (low up n : ℕ) → both (leb low n) (either (eqb up 65535) (leb n up)) ≡ within (limits_of low up) n
-unfolding within not_above upper_in either
-within-is low up n = ap (both (leb low n)) (go (eqb up 65535))
-  where
-    go : (b : Bool) → either b (leb n up) ≡ not_above n (cond b no_limit (at_most up))
-    go true = refl
-    go false = refl
+use Rattle.files.specs.Diagram.{Limits}
+use Rattle.rules.specs.Arrow.{within}
+use Rattle.masks.specs.Masks.{row_fits}
 
 -- ---- the first n objects
 
@@ -83,21 +74,18 @@ module _ (targets : ℕ → Bool) (mask to : ℕ) (limits : Limits) (n : ℕ) (h
       ∙ all-ext _ _ n (λ p l. ap (λ (b : Bool). imp b (bit p to)) (inside p l)))
       (tally-beyond (λ p. bit p mask) n outside 8 h ∙ tally-ext _ _ n inside)
 
--- the code's test of one row
-pub row-test : (targets to low up k : ℕ) {b : Bool} → targets < 2 ^ 8 → to < 2 ^ 8 → k ≡ tally (λ p. bit p targets) 8 → b ≡ within (limits_of low up) k
-    → eqb (bit_and targets to) targets && b ≡ row_fits (λ p. bit p targets) to (limits_of low up) 8
-unfolding row_fits both
-row-test targets to low up k ht hto e f =
-    ap₂ (λ (x y : Bool). both x y) (subset-test 8 targets to ht hto) (f ∙ ap (within (limits_of low up)) e)
+-- `is_inside` tests that each bit of a is one of b
+pub inside-test : (n a b : ℕ) → a < 2 ^ n → b < 2 ^ n → eqb (bit_or a b) b ≡ all (λ k. imp (bit k a) (bit k b)) n
+unfolding imp
+inside-test n a b ha hb =
+    same_test _ _
+    (λ e. all_of _ n (λ k l. imp-of _ _ (λ h. sym (ap (bit k) (eqb-true _ _ e)) ∙ bit-or k a b ∙ or_left (bit k a) (bit k b) h)))
+    (λ e. eq-eqb _ _ (bits-eq n (bit_or a b) b (or_lt n a b ha hb) hb (λ k l. bit-or k a b ∙ keep (bit k a) (bit k b) (all-at _ n e k l))))
+  where
+    keep : (x y : Bool) → imp x y ≡ true → x || y ≡ y
+    keep true y e = sym e
+    keep false y e = refl
 
 -- the row's bits among the first n objects
 pub row-among : (links : ℕ → Bool) (a b n p : ℕ) → ((p : ℕ) → bit p a ≡ links p) → ((p : ℕ) → bit p b ≡ ltb p n) → bit p (bit_and a b) ≡ links p && ltb p n
 row-among links a b n p f g = bit-and p a b ∙ ap₂ (λ (x y : Bool). x && y) (f p) (g p)
-
--- the library's equality of tests
-pub same-beq : (a b : Bool) → beq a b ≡ same a b
-unfolding same
-same-beq true true = refl
-same-beq true false = refl
-same-beq false true = refl
-same-beq false false = refl

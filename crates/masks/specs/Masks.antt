@@ -1,15 +1,20 @@
 -- The link rules on masks: what the rules say once each type's instances are a mask of objects.
 -- Assumes nothing.
-use Rattle.std.specs.Prelude.{ℕ, ◌+◌, ◌*◌, Bool, List, get_or}
+use Rattle.std.specs.Prelude.{ℕ, ◌+◌, ◌*◌, Bool, List, get_or, Option, None, Some}
 use Rattle.laws.specs.Connective.{both, imp, same}
 use Rattle.laws.specs.Bounded.{all, tally}
 use Rattle.laws.specs.Bits.{bit}
-use Rattle.files.specs.Diagram.{Limits}
-use Rattle.diagrams.specs.View.{upper_in}
+use Rattle.files.specs.Diagram.{Limits, Upper, at_most, no_limit}
 use Rattle.rules.specs.Arrow.{within}
+use Rattle.masks.specs.declared.Limits as stored
 
-abbrev pub limits_of : ℕ → ℕ → Limits
-limits_of low up = record { low = low; up = upper_in up }
+-- what the code's limits say
+abbrev pub upper_of : Option ℕ → Upper
+upper_of None = no_limit
+upper_of (Some n) = at_most n
+
+abbrev pub limits_of : stored.Limits → Limits
+limits_of l = record { low = l.low; up = upper_of l.up }
 
 -- object o has the link to p of the role in slot s
 abbrev pub link_in : List ℕ → ℕ → ℕ → ℕ → Bool

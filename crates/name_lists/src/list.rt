@@ -1,4 +1,4 @@
-// The list: how many names it has, and the slots.
+// The list: how many names it has, and the slots. There is no heap, so the count stands beside the room for 24.
 ghost use Rattle.std.specs.Prelude.{◌≤◌};
 
 #[derive(Clone, Copy)]

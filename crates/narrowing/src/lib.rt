@@ -19,14 +19,10 @@ fn usable_row(mask: u32, high: u8, usable: u32, t: u8) -> u32
     mask & usable
 }
 
-// What is left of the table where objects have types of the mask `usable`. A loop, since array::from_fn does not promise that the arrays that
-// its closure reads are the same at each call.
+// What is left of the table where objects have types of the mask `usable`. The library's conversions to a narrower number give a Result, and
+// with it a path that is never taken: i / 32 is below 24.
 pub fn narrowed(targets: &[u32; 768], highs: &[u8; 768], usable: u32) -> [u32; 768]
     ensures { (singles : ℕ) (lows : List ℕ) (x : Lines) → Narrows (sheet usable singles targets.now lows highs.now x) result }
 {
-    let mut r = [0u32; 768];
-    for i in 0..768 {
-        r[i] = usable_row(targets[i], highs[i], usable, (i / 32) as u8);
-    }
-    r
+    std::array::from_fn(|i| usable_row(targets[i], highs[i], usable, (i / 32) as u8))
 }

@@ -50,18 +50,16 @@ module _ (d : StoredDiagram) (held : Held d) (m : MemoryRecord) (few : m.count �
       ap (λ (w : Name). same_name w (role_name (diagram_of d) s)) (sym (role-named d e l)) ∙ role_same (diagram_of d) e (role_name (diagram_of d) s) le
       ∙ ap₂ eqb (sym (at.exact e le)) (sym (at.exact s ls) ∙ own)
 
-  joins-is : (carried : Bool) (s o p from to : ℕ) → s < d.associations.count * 2 → get_or slots s 0 ≡ s → o < 8 → p < 8 → to < d.associations.count * 2
+  joins-is : (s o p from to : ℕ) → s < d.associations.count * 2 → get_or slots s 0 ≡ s → o < 8 → p < 8 → to < d.associations.count * 2
       → get_or d.associations.types from 0 < length (diagram_of d).types
       → get_or d.associations.types to 0 < length (diagram_of d).types
-      → both carried
-      (both (same_name (slot_name d.associations.roles to) (role_name (diagram_of d) s))
-      (both (is_instance (diagram_of d) (site_in (diagram_of d) m) (get_or d.associations.types from 0) o) (is_instance (diagram_of d) (site_in (diagram_of d) m) (get_or d.associations.types to 0) p)))
-      ≡ joins carried d.associations.types masks slots s o p from to
+      → both (same_name (slot_name d.associations.roles to) (role_name (diagram_of d) s))
+      (both (is_instance (diagram_of d) (site_in (diagram_of d) m) (get_or d.associations.types from 0) o) (is_instance (diagram_of d) (site_in (diagram_of d) m) (get_or d.associations.types to 0) p))
+      ≡ joins d.associations.types masks slots s o p from to
   unfolding joins
-  joins-is carried s o p from to ls own lo lp lt kf kt =
-      ap (both carried)
-      (ap₂ both (role-is to s lt ls own)
-      (ap₂ both (instances-at (diagram_of d) m masks is (get_or d.associations.types from 0) o kf lo) (instances-at (diagram_of d) m masks is (get_or d.associations.types to 0) p kt lp)))
+  joins-is s o p from to ls own lo lp lt kf kt =
+      ap₂ both (role-is to s lt ls own)
+      (ap₂ both (instances-at (diagram_of d) m masks is (get_or d.associations.types from 0) o kf lo) (instances-at (diagram_of d) m masks is (get_or d.associations.types to 0) p kt lp))
 
   -- the types of an association's ends are known
   left-known : (a : ℕ) → a < d.associations.count → get_or d.associations.types (a * 2) 0 < length (diagram_of d).types
@@ -84,8 +82,8 @@ module _ (d : StoredDiagram) (held : Held d) (m : MemoryRecord) (few : m.count �
   permits-is s o p a ls own lo lp la =
       let k : Link = record { from = o; role = role_name (diagram_of d) s; to = p } in
       ap (λ (x : Association). either (permits (diagram_of d) (site_in (diagram_of d) m) r2 x k) (permits (diagram_of d) (site_in (diagram_of d) m) r1 x k)) (association-at d a la)
-      ∙ ap₂ either (joins-is _ s o p (a * 2) (a * 2 + 1) ls own lo lp (omega arith) (left-known a la) (right-known a la))
-      (joins-is _ s o p (a * 2 + 1) (a * 2) ls own lo lp (omega arith) (right-known a la) (left-known a la))
+      ∙ ap₂ either (ap (both _) (joins-is s o p (a * 2) (a * 2 + 1) ls own lo lp (omega arith) (left-known a la) (right-known a la)))
+      (ap (both _) (joins-is s o p (a * 2 + 1) (a * 2) ls own lo lp (omega arith) (right-known a la) (left-known a la)))
 
   own_is : (s : ℕ) → own_role (diagram_of d) s ≡ own_slot slots (d.associations.count * 2) s
   own_is = own-role d slots at

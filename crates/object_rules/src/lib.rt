@@ -10,75 +10,65 @@ ghost use Rattle.memory_rules.specs.JudgeIn.{rule3_in, rule5_in};
 ghost use Rattle.diagrams.specs.View.{diagram_of};
 ghost use Rattle.object_rules.specs.ValuesIn.{own_slot};
 
-mod rule1;
-mod rule2;
-mod rule3;
-mod rule4;
-mod rule5;
+mod links;
+mod types;
+mod values;
 
-use declarations::Declarations;
 use diagrams::ReadDiagram;
-use permits::Permits;
+use links::Linked;
 use records::MemoryRecord;
 use tables::{Roles, Tables, Values};
+use types::Objects;
+use values::Valued;
 
 // Rule 1: each object's type is a class or singleton class of the diagram.
 pub fn types_concrete(d: &ReadDiagram, m: &MemoryRecord) -> bool
     ensures { result ≡ rule1 (diagram_of d.now.stored) (site_in (diagram_of d.now.stored) m.now) }
 {
-    rule1::are_concrete(&d.stored.types, m)
+    Objects {
+        types: &d.stored.types,
+        memory: m,
+    }
+    .are_concrete()
 }
 
 // Rule 2: each singleton class is the type itself of exactly one object.
 pub fn singletons_single(d: &ReadDiagram, m: &MemoryRecord) -> bool
     ensures { result ≡ rule2 (diagram_of d.now.stored) (site_in (diagram_of d.now.stored) m.now) }
 {
-    rule2::are_single(&d.stored.types, m)
+    Objects {
+        types: &d.stored.types,
+        memory: m,
+    }
+    .are_single()
 }
 
 // Slot s is one of n, and its name's own.
+#[tactic(auto, unfolding(laws::specs::Connective::both, crate::specs::ValuesIn::own_slot))]
 fn is_own(t: &Tables, n: usize, s: u8) -> bool
     ensures { result ≡ own_slot t.now.slots n s }
 {
     let at = usize::from(s);
-    (at < n) & (laws::byte(&t.slots, at) == s)
+    at < n && laws::byte(&t.slots, at) == s
 }
 
 // Rule 3: an object has a value for an attribute name exactly when its type or an ancestor declares it.
 pub fn values_declared(v: &Values) -> bool
     ensures { result ≡ rule3_in (diagram_of v.now.diagram.now.stored) v.now.memory.now }
 {
-    if v.memory.strays.values {
-        return false;
-    }
-    let declarations = Declarations {
-        attributes: &v.diagram.stored.attributes,
-        tables: &v.tables,
-    };
-    rule3::all_due(v.memory, &declarations)
+    !v.memory.strays.values && Valued::of(v).all_due()
 }
 
 // Rule 4: each value belongs to the value type of every declaration of its attribute name for its object.
 pub fn values_belong(v: &Values) -> bool
     ensures { result ≡ rule4 (diagram_of v.now.diagram.now.stored) (site_in (diagram_of v.now.diagram.now.stored) v.now.memory.now) }
 {
-    let declarations = Declarations {
-        attributes: &v.diagram.stored.attributes,
-        tables: &v.tables,
-    };
-    rule4::values_fit(v.memory, &declarations)
+    Valued::of(v).values_fit()
 }
 
 // Rule 5: each link's role is carried by some association in that direction with both objects instances of its ends.
 pub fn links_permitted(r: &Roles) -> bool
     ensures { result ≡ rule5_in (diagram_of r.now.diagram.now.stored) r.now.memory.now }
 {
-    if r.memory.strays.links {
-        return false;
-    }
-    let permits = Permits {
-        associations: &r.diagram.stored.associations,
-        tables: &r.tables,
-    };
-    rule5::links_fit(r.memory, &permits)
+    !r.memory.strays.links && Linked::of(r).links_fit()
 }

@@ -7,7 +7,16 @@ ghost use Rattle.permits.specs.Permits.{joins, permits_at};
 
 use diagrams::Associations;
 use laws::Mask;
-use tables::Tables;
+use tables::{Roles, Tables};
+
+// A link from an object to an object, of the role in a slot.
+#[derive(Clone, Copy)]
+pub struct Link {
+    pub from: u8,
+    pub slot: u8,
+    pub to: u8,
+    ghost few: { (from < 8) × (to < 8) },
+}
 
 // The associations of a diagram, with the tables of instances and of the ends' slots.
 #[derive(Clone, Copy)]
@@ -18,36 +27,46 @@ pub struct Permits<'a> {
 }
 
 impl<'a> Permits<'a> {
-    // The links of one side: they are carried, the role in slot s is that of end `to`, o is an instance of `from`, and p of `to`.
-    fn is_joining(&self, carried: bool, s: u8, o: u8, p: u8, from: usize, to: usize) -> bool
-        requires { (o < 8) × (p < 8) }
-        ensures { result ≡ joins carried self.now.associations.now.types self.now.tables.now.masks self.now.tables.now.slots s o p from to }
+    // Those that a record in memory is judged by.
+    pub fn of(roles: &'a Roles<'a>) -> Self
+        ensures associations { result.associations.now ≡ roles.now.diagram.now.stored.associations }
+        ensures tables { result.tables.now ≡ roles.now.tables }
+    {
+        Permits {
+            associations: &roles.diagram.stored.associations,
+            tables: &roles.tables,
+        }
+    }
+
+    // The link may be one of a side from end `from` to end `to`: its role is that of `to`, and its objects are instances of the two.
+    #[tactic(auto, unfolding(laws::specs::Connective::both, crate::specs::Permits::joins))]
+    fn is_joining(&self, link: Link, from: usize, to: usize) -> bool
+        ensures { result ≡ joins self.now.associations.now.types self.now.tables.now.masks self.now.tables.now.slots link.slot link.from link.to from to }
     {
         let source = laws::byte(&self.associations.types, from);
         let target = laws::byte(&self.associations.types, to);
-        carried
-            & ((laws::byte(&self.tables.slots, to) == s)
-                & (laws::byte(&self.tables.masks, usize::from(source)).has(o)
-                    & laws::byte(&self.tables.masks, usize::from(target)).has(p)))
+        laws::byte(&self.tables.slots, to) == link.slot
+            && laws::byte(&self.tables.masks, usize::from(source)).has(link.from)
+            && laws::byte(&self.tables.masks, usize::from(target)).has(link.to)
     }
 
-    // Association a permits the link from o to p of the role in slot s.
-    fn is_permitting(&self, s: u8, o: u8, p: u8, a: usize) -> bool
-        requires { (o < 8) × (p < 8) × (a < 16) }
-        ensures { result ≡ permits_at self.now.associations.now.arrows self.now.associations.now.types self.now.tables.now.masks self.now.tables.now.slots s o p a }
+    // Association a permits the link: by a side whose links are carried.
+    #[tactic(auto, unfolding(laws::specs::Connective::both, laws::specs::Connective::either, crate::specs::Permits::permits_at))]
+    fn is_permitting(&self, link: Link, a: usize) -> bool
+        requires { a < 16 }
+        ensures { result ≡ permits_at self.now.associations.now.arrows self.now.associations.now.types self.now.tables.now.masks self.now.tables.now.slots link.slot link.from link.to a }
     {
         let arrow = laws::byte(&self.associations.arrows, a);
         let left = a * 2;
         let right = a * 2 + 1;
-        self.is_joining(arrows::carries_right(arrow), s, o, p, left, right)
-            | self.is_joining(arrows::carries_left(arrow), s, o, p, right, left)
+        (arrows::carries_right(arrow) && self.is_joining(link, left, right))
+            || (arrows::carries_left(arrow) && self.is_joining(link, right, left))
     }
 
     // One of the associations permits it.
-    pub fn is_permitted(&self, s: u8, o: u8, p: u8) -> bool
-        requires { (o < 8) × (p < 8) }
-        ensures { result ≡ any (permits_at self.now.associations.now.arrows self.now.associations.now.types self.now.tables.now.masks self.now.tables.now.slots s o p) self.now.associations.now.count }
+    pub fn is_permitted(&self, link: Link) -> bool
+        ensures { result ≡ any (permits_at self.now.associations.now.arrows self.now.associations.now.types self.now.tables.now.masks self.now.tables.now.slots link.slot link.from link.to) self.now.associations.now.count }
     {
-        (0..self.associations.count).any(|a| self.is_permitting(s, o, p, a))
+        (0..self.associations.count).any(|a| self.is_permitting(link, a))
     }
 }

@@ -4,3 +4,4 @@ pub mod SeedLaws
 pub mod BreakLaws
 pub mod AvoidedLaws
 pub mod PartLaws
+pub mod FoundLaws

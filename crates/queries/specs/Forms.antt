@@ -11,13 +11,8 @@ seeded k a b c = record {
   types = a ∷ b ∷ c ∷ 0 ∷ 0 ∷ 0 ∷ 0 ∷ 0 ∷ [];
   must = replicate 256 0;
   shut = replicate 256 0;
-  row = 0;
-  low = 0;
-  high = 8;
-  column = 0;
-  from = 0;
-  least = 0;
-  most = 8;
+  row = record { slot = 0; low = 0; high = 8 };
+  column = record { slot = 0; from = 0; least = 0; most = 8 };
   never = 0;
 }
 
@@ -33,12 +28,7 @@ linked q s o p = record {
   must = with_bit q.must s o p;
   shut = q.shut;
   row = q.row;
-  low = q.low;
-  high = q.high;
   column = q.column;
-  from = q.from;
-  least = q.least;
-  most = q.most;
   never = q.never;
 }
 
@@ -50,12 +40,7 @@ barred q s o p = record {
   must = q.must;
   shut = with_bit q.shut s o p;
   row = q.row;
-  low = q.low;
-  high = q.high;
   column = q.column;
-  from = q.from;
-  least = q.least;
-  most = q.most;
   never = q.never;
 }
 
@@ -66,13 +51,8 @@ rowed q s low high = record {
   types = q.types;
   must = q.must;
   shut = q.shut;
-  row = s;
-  low = low;
-  high = high;
+  row = record { slot = s; low = low; high = high };
   column = q.column;
-  from = q.from;
-  least = q.least;
-  most = q.most;
   never = q.never;
 }
 
@@ -84,12 +64,7 @@ columned q s from least most = record {
   must = q.must;
   shut = q.shut;
   row = q.row;
-  low = q.low;
-  high = q.high;
-  column = s;
-  from = from;
-  least = least;
-  most = most;
+  column = record { slot = s; from = from; least = least; most = most };
   never = q.never;
 }
 
@@ -101,11 +76,6 @@ avoiding q never = record {
   must = q.must;
   shut = q.shut;
   row = q.row;
-  low = q.low;
-  high = q.high;
   column = q.column;
-  from = q.from;
-  least = q.least;
-  most = q.most;
   never = never;
 }

@@ -1,12 +1,13 @@
 // Questions to the search by types: sets of types, and queries built from nothing, one demand after the other.
 #![tactic(auto)]
 
-ghost use Rattle.std.specs.Prelude.{◌≡◌, true, false, ◌&&◌, ℕ, ◌<◌, eqb};
+ghost use Rattle.std.specs.Prelude.{◌≡◌, true, false, not, ◌&&◌, ℕ, ◌<◌, eqb};
+ghost use Rattle.std.specs.Int.Bits.{bit_and};
 ghost use Rattle.laws.specs.Bits.{bit};
 ghost use Rattle.queries.specs.Forms.{seeded, linked, barred, rowed, columned, avoiding, with_bit};
 
 use laws::Mask;
-use worlds::Query;
+use worlds::{ColumnLimits, Query, RowLimits};
 
 // ---- sets of types
 
@@ -15,10 +16,10 @@ pub fn only(t: u32) -> u32
     requires { t < 32 }
     ensures { (j : ℕ) → bit j result ≡ eqb j t }
 {
-    0u32.with(t)
+    u32::none().with(t)
 }
 
-// The types of both sets.
+// The types of both sets. By the operator: laws' `Mask` has none for it, and the bodies there are for each width one by one.
 pub fn common(a: u32, b: u32) -> u32
     ensures { (j : ℕ) → bit j result ≡ bit j a && bit j b }
 {
@@ -27,15 +28,14 @@ pub fn common(a: u32, b: u32) -> u32
 
 // Whether the sets may have a type in common.
 pub fn meets(a: u32, b: u32) -> bool
-    ensures { result ≡ false → (j : ℕ) → bit j a ≡ true → bit j b ≡ true → ⊥ }
+    ensures { (result ≡ not (eqb (bit_and a b) 0)) × (result ≡ false → (j : ℕ) → bit j a ≡ true → bit j b ≡ true → ⊥) }
 {
-    common(a, b) != 0
+    a & b != 0
 }
 
 // ---- queries
 
-// The first seeds objects have types of a, b and c. Nothing else is asked. Limits that no number breaks say that, and no Option: the search
-// reads them as numbers in each case, without a test for whether they are given.
+// The first seeds objects have types of a, b and c. Nothing else is asked: limits that no number breaks say that.
 pub fn with_seeds(seeds: u8, a: u32, b: u32, c: u32) -> Query
     ensures { result ≡ seeded seeds a b c }
 {
@@ -44,18 +44,23 @@ pub fn with_seeds(seeds: u8, a: u32, b: u32, c: u32) -> Query
         types: [a, b, c, 0, 0, 0, 0, 0],
         must: [0; 256],
         shut: [0; 256],
-        row: 0,
-        low: 0,
-        high: 8,
-        column: 0,
-        from: 0,
-        least: 0,
-        most: 8,
+        row: RowLimits {
+            slot: 0,
+            low: 0,
+            high: 8,
+        },
+        column: ColumnLimits {
+            slot: 0,
+            from: 0,
+            least: 0,
+            most: 8,
+        },
         never: 0,
     }
 }
 
-// The rows, and the link of object o to p in slot s.
+// The rows, and the link of object o to p in slot s. By the operators, since `with_bit` is an equation between rows: `Mask::with` says which
+// bits are set, not which number has them.
 fn with_bit(rows: [u8; 256], s: u8, o: u8, p: u8) -> [u8; 256]
     requires { (s < 32) × (o < 8) × (p < 8) }
     ensures { result ≡ with_bit rows s o p }
@@ -92,9 +97,7 @@ pub fn with_row(q: Query, s: u8, low: u8, high: u8) -> Query
     ensures { result ≡ rowed q s low high }
 {
     Query {
-        row: s,
-        low,
-        high,
+        row: RowLimits { slot: s, low, high },
         ..q
     }
 }
@@ -104,10 +107,12 @@ pub fn with_column(q: Query, s: u8, from: u32, least: u8, most: u8) -> Query
     ensures { result ≡ columned q s from least most }
 {
     Query {
-        column: s,
-        from,
-        least,
-        most,
+        column: ColumnLimits {
+            slot: s,
+            from,
+            least,
+            most,
+        },
         ..q
     }
 }

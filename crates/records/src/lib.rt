@@ -23,14 +23,16 @@ pub struct MemoryRecord {
     pub count: usize,
     // The index of each object's type, or the number of types where the diagram lacks it.
     pub types: [u8; 8],
-    // For object o and attribute slot s at o * 32 + s: 0 for no value, or one more than the value's code.
+    // For object o and attribute slot s at o * 32 + s: 0 for no value, or one more than the value's code. What writes, knows and judges a
+    // value is defined by this number, so that its readers take it apart themselves.
     pub values: [u8; 256],
     // For object o and role slot s at o * 32 + s: one bit for each target.
     pub links: [u8; 256],
     pub strays: Strays,
 }
 
-// No object, no value, no link. Spelled out: a derived Default promises each element of an array, and not the array.
+// No object, no value, no link. Spelled out, as its definition is: of an array a derived Default promises that each element is a default
+// one, and that the array is the list of zeros would have to be proved.
 pub fn empty_record() -> MemoryRecord
     ensures { result ≡ empty_record }
 {

@@ -17,7 +17,7 @@ use fields::Refusal;
 
 // ---- names that stand already
 
-// One of the first n names is w.
+// One of the first n names is w; n fits the cast, as the contract asks.
 fn is_named(names: &[u8], n: usize, w: &[u8]) -> bool
     requires { n ≤ 32 }
     ensures { result ≡ any (λ i. same_name (slot_name names.now i) w.now) n }

@@ -4,10 +4,10 @@
 use Prim.Native.Nat.{◌*◌, ◌+◌, ◌<◌, ◌≤◌, ℕ}
 use mathlib.Core.Bool.{Bool, ◌&&◌, and-false, false, true}
 use mathlib.Core.List.{List}
-use mathlib.Core.Path.{◌∙◌, ◌≡◌, ap, ap₂, refl, sym}
+use mathlib.Core.Path.{◌∙◌, ◌≡◌, ap, ap₂, refl, subst, sym}
 use native.Mathlib.Omega.{arith}
 use lib.Dec.{ltb}
-use lib.ListN.{get_or}
+use lib.ListN.{get_or, get_or-map}
 use borrow.Author.Tests.{lt-ltb, ltb-true}
 use Rattle.laws.specs.Bits.{bit}
 use Rattle.laws.specs.Bounded.{tally}
@@ -22,9 +22,16 @@ use Rattle.growing.proofs.SplitLaws.{from-split}
 use Rattle.worlds.specs.Asked.{Satisfies, Sane, Solution}
 use Rattle.worlds.specs.Coherent.{Slotted}
 use Rattle.worlds.specs.Kept.{Allowed, Sheet, whole_by, whole_of}
+use Rattle.link_search.specs.Nets.{InLimits}
+use Rattle.worlds.specs.declared.Column.{Column}
 use Rattle.worlds.specs.declared.Lines.{Lines}
 use Rattle.worlds.specs.declared.Query.{Query}
-use Rattle.relaxing.specs.Relaxed.{cut, freed, relaxed, unforced}
+use Rattle.relaxing.specs.Relaxed.{cut, freed, relaxed, unforced, unforced_column}
+use Rattle.worlds.specs.Lined.{column_at, mirror_at, whole_at, zero_column}
+
+-- the columns without lower limits, one by one
+unforced-at : (x : Lines) (j : ℕ) → column_at (unforced x) j ≡ unforced_column (column_at x j)
+unforced-at x j = get_or-map unforced_column x.columns j zero_column
 
 -- fewer of the first k than of all n
 fewer : (p q : ℕ → Bool) (k n : ℕ) → k ≤ n → ((o : ℕ) → o < k → p o ≡ true → q o ≡ true) → tally p k ≤ tally q n
@@ -65,9 +72,9 @@ module _ (x : Sheet) (q : Query) (n : ℕ) (sane : Sane q) (w : World) (s : Solu
       each o _ e =
           let f = any_at (whole_by (relaxed x).lines v p o) 16 e in
           let j = f.0 in
-          let a = bit (w.kind o) (get_or x.lines.wholefrom j 0) in
-          let b = bit (w.kind p) (get_or x.lines.wholeto j 0) in
-          let i = get_or x.lines.wholeslot j 0 in
+          let a = bit (w.kind o) (whole_at x.lines j).from in
+          let b = bit (w.kind p) (whole_at x.lines j).to in
+          let i = (whole_at x.lines j).slot in
           let r = and_right a (b && v.link i o p) f.2 in
           any_of (whole_by x.lines w p o) 16 j f.1
           (and_both a (b && w.link i o p) (and_left a (b && v.link i o p) f.2) (and_both b (w.link i o p) (and_left b (v.link i o p) r) (link-of i o p (and_right b (v.link i o p) r)).2))
@@ -90,14 +97,15 @@ module _ (x : Sheet) (q : Query) (n : ℕ) (sane : Sane q) (w : World) (s : Solu
       };
     };
     columns = record {
-      at = λ j p l a e. record {
-        least = omega (arith, zeros 16 j);
-        most = omega (arith, counted (get_or x.lines.columnfrom j 0) (get_or x.lines.columnslot j 0) p, (s.allowed.columns.at j p l (below p a) e).most);
-      };
+      at = λ j p l a.
+          subst (λ (c : Column). bit (v.kind p) c.to ≡ true → InLimits c.low c.high (tally (λ o. bit (v.kind o) c.from && v.link c.slot o p) k)) (sym (unforced-at x.lines j)) (λ e. record {
+            least = omega arith;
+            most = omega (arith, counted (column_at x.lines j).from (column_at x.lines j).slot p, (s.allowed.columns.at j p l (below p a) e).most);
+          });
     };
     mirrors = record {
-      at = λ j o p l a b e f. link-is (get_or x.lines.mirrorright j 0) o p a b ∙ s.allowed.mirrors.at j o p l (below o a) (below p b) e f
-          ∙ sym (link-is (get_or x.lines.mirrorleft j 0) p o b a);
+      at = λ j o p l a b e f. link-is (mirror_at x.lines j).right o p a b ∙ s.allowed.mirrors.at j o p l (below o a) (below p b) e f
+          ∙ sym (link-is (mirror_at x.lines j).left p o b a);
     };
     wholes = record { at = λ p a. omega (arith, whole-counted p, s.allowed.wholes.at p (below p a)) };
   }
@@ -109,8 +117,8 @@ module _ (x : Sheet) (q : Query) (n : ℕ) (sane : Sane q) (w : World) (s : Solu
     avoids = λ o l m. absurd (omega arith);
     must = λ o i p a b c e. let f = sane.must o i p a b c e in link-is i o p f.0 f.1 ∙ s.asked.must o i p a b c e;
     shut = λ o i p a b c e. let f = sane.shut o i p a b c e in link-is i o p f.0 f.1 ∙ s.asked.shut o i p a b c e;
-    row = λ h. record { least = omega arith; most = omega (arith, row-counted q.row 0, (s.asked.row h).most) };
-    column = λ h. record { least = omega arith; most = omega (arith, counted q.from q.column 0, (s.asked.column h).most) };
+    row = λ h. record { least = omega arith; most = omega (arith, row-counted q.row.slot 0, (s.asked.row h).most) };
+    column = λ h. record { least = omega arith; most = omega (arith, counted q.column.from q.column.slot 0, (s.asked.column h).most) };
   }
 
   pub cut-solution : Solution (relaxed x) (freed q) k v
@@ -119,7 +127,7 @@ module _ (x : Sheet) (q : Query) (n : ℕ) (sane : Sane q) (w : World) (s : Solu
 -- ---- the search among the seeds
 
 pub slotted-unforced : (x : Lines) → Slotted x → Slotted (unforced x)
-slotted-unforced x h = record { column = h.column; right = h.right; left = h.left; whole = h.whole }
+slotted-unforced x h = record { column = λ j l. subst (λ (c : Column). c.slot < 32) (sym (unforced-at x j)) (h.column j l); right = h.right; left = h.left; whole = h.whole }
 
 pub sane-freed : (q : Query) → Sane q → Sane (freed q)
 sane-freed q h = record { few = h.few; row = h.row; column = h.column; must = h.must; shut = h.shut }

@@ -1,26 +1,17 @@
 -- Tables and queries without lower limits, and the first objects of a world alone.
 -- Assumes nothing.
-use Rattle.std.specs.Prelude.{ℕ, ◌&&◌, ltb, replicate}
+use Rattle.std.specs.Prelude.{ℕ, ◌&&◌, ltb, map, replicate}
 use Rattle.growing.specs.World.{World}
 use Rattle.worlds.specs.Kept.{Sheet, sheet}
+use Rattle.worlds.specs.declared.Column.{Column}
 use Rattle.worlds.specs.declared.Lines.{Lines}
 use Rattle.worlds.specs.declared.Query.{Query}
 
+abbrev pub unforced_column : Column → Column
+unforced_column c = record { slot = c.slot; from = c.from; to = c.to; low = 0; high = c.high }
+
 abbrev pub unforced : Lines → Lines
-unforced x = record {
-  columnslot = x.columnslot;
-  columnfrom = x.columnfrom;
-  columnto = x.columnto;
-  columnlow = replicate 16 0;
-  columnhigh = x.columnhigh;
-  mirrorright = x.mirrorright;
-  mirrorleft = x.mirrorleft;
-  mirrorfrom = x.mirrorfrom;
-  mirrorto = x.mirrorto;
-  wholeslot = x.wholeslot;
-  wholefrom = x.wholefrom;
-  wholeto = x.wholeto;
-}
+unforced x = record { columns = map unforced_column x.columns; mirrors = x.mirrors; wholes = x.wholes }
 
 abbrev pub freed : Query → Query
 freed q = record {
@@ -28,13 +19,8 @@ freed q = record {
   types = q.types;
   must = q.must;
   shut = q.shut;
-  row = q.row;
-  low = 0;
-  high = q.high;
-  column = q.column;
-  from = q.from;
-  least = 0;
-  most = q.most;
+  row = record { slot = q.row.slot; low = 0; high = q.row.high };
+  column = record { slot = q.column.slot; from = q.column.from; least = 0; most = q.column.most };
   never = q.never;
 }
 

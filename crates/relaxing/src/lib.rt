@@ -9,15 +9,15 @@ ghost use Rattle.worlds.specs.Kept.{sheet};
 ghost use Rattle.worlds.specs.Asked.{Sane, Solution};
 ghost use Rattle.relaxing.specs.Relaxed.{freed, unforced};
 
-use worlds::{Lines, Query, Types};
+use worlds::{Column, ColumnLimits, Lines, Query, RowLimits, Types};
 
 // The lines without lower limits.
-fn without_lows(lines: &Lines) -> Lines
-    ensures { result ≡ unforced lines.now }
+fn without_lows(lines: Lines) -> Lines
+    ensures { result ≡ unforced lines }
 {
     Lines {
-        columnlow: [0u8; 16],
-        ..*lines
+        columns: lines.columns.map(|c| Column { low: 0, ..c }),
+        ..lines
     }
 }
 
@@ -26,8 +26,11 @@ fn without_least(q: Query) -> Query
     ensures { result ≡ freed q }
 {
     Query {
-        low: 0,
-        least: 0,
+        row: RowLimits { low: 0, ..q.row },
+        column: ColumnLimits {
+            least: 0,
+            ..q.column
+        },
         ..q
     }
 }
@@ -48,7 +51,7 @@ pub fn is_stuck(
         targets,
         &[0u8; 768],
         highs,
-        without_lows(lines),
+        without_lows(*lines),
         usable,
         0,
         without_least(q),

@@ -26,7 +26,8 @@ fn finish(r: Reply, list: &[u8], used: usize, out: &mut [u8]) -> Option<Turn>
     Some(Turn { used, wrote })
 }
 
-// Runs the call of a code, one that is lent no buffer and gives no list.
+// Runs the call of a code, one that is lent no buffer and gives no list. The codes are those of the list of calls, whose definition goes by
+// them: an enum between would be made of the code in `coding`, and the definition's code told from it again here.
 fn run_call(b: &mut Bench, code: u8, byte: u8, file: &[u8]) -> Reply
     requires { (1 ≤ code) × ((code < length codes) × ((code ≢ 4) × (code ≢ 7))) }
     ensures { (buffer : List ℕ) → Does b.entry.now (call_of code (record { byte = byte; file = file.now; buffer = buffer })) (left_by b.exit.now result) [] }

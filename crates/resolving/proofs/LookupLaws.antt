@@ -2,21 +2,22 @@
 -- Assumes nothing.
 use Prim.Native.Nat.{◌%◌, ◌*◌, ◌+◌, ◌/◌, ℕ}
 use native.Mathlib.Omega.{arith}
-use mathlib.Core.Bool.{Bool}
-use mathlib.Core.List.{[]}
-use mathlib.Core.Path.{◌∙◌, ◌≡◌, ap}
+use mathlib.Core.Bool.{Bool, cond, false, true}
+use mathlib.Core.List.{List, [], ◌∷◌}
+use mathlib.Core.Path.{◌∙◌, ◌≡◌, ap, refl}
 use lib.Dec.{eqb, ltb}
 use lib.ListN.{get_or, length}
-use borrow.Author.Tests.{ltb-true}
+use borrow.Author.Tests.{eqb-true, ltb-true, ne_eqb}
 use Rattle.laws.specs.Bounded.{first}
 use Rattle.laws.specs.Connective.{both, either}
 use Rattle.laws.specs.Lists.{listed}
+use Rattle.files.proofs.NameLaws.{same_key, same_self}
 use Rattle.laws.proofs.FirstLaws.{first-ext}
 use Rattle.laws.proofs.JoinedLaws.{get_or-each, length-each}
-use Rattle.laws.proofs.ConnectiveLaws.{both_under}
-use Rattle.fields.specs.Slot.{slot_name, slot_of}
+use Rattle.laws.proofs.ConnectiveLaws.{both_under, same_test}
+use Rattle.fields.specs.Slot.{constant_name, known_in, slot_name, slot_of}
 use Rattle.files.specs.Diagram.{ValueType, attribute_at, type_at, value_type_at}
-use Rattle.files.specs.Name.{Name, same_name}
+use Rattle.files.specs.Name.{Name, key, same_name}
 use Rattle.diagrams.specs.declared.StoredDiagram.{StoredDiagram}
 use Rattle.diagrams.specs.declared.ValueTypes.{ValueTypes}
 use Rattle.diagrams.specs.View.{diagram_of, value_type_in}
@@ -37,6 +38,35 @@ constant-in v c k =
     ∙ ap (λ (b : Bool). either b (both (eqb size 0) (both (eqb (k % 8) 0) (eqb (length c) 0))))
     (both_under (ltb (k % 8) size) _ _ (λ h.
     ap (λ (w : Name). same_name w c) (get_or-each names [] size (k % 8) (ltb-true _ _ h) ∙ ap (slot_name v.constants) at)))
+
+-- the unnamed value has the name of no bytes
+unnamed : (c : Name) → same_name [] c ≡ eqb (length c) 0
+unfolding key
+unnamed [] = same_self []
+unnamed (x ∷ c) =
+    same_test _ _
+    (λ e. let z : 0 ≡ length (x ∷ c) = ap length (same_key [] (x ∷ c) e) in absurd (omega (arith, z)))
+    (λ e. let z : length (x ∷ c) ≡ 0 = eqb-true _ _ e in absurd (omega (arith, z)))
+
+-- a constant that is known, with its name, as the code has it
+pub constant-by : (constants : List ℕ) (size : ℕ) (c : Name) (k : ℕ)
+    → both (known_in size (k % 8)) (same_name (constant_name constants size k) c) ≡ is_constant_in constants size c k
+unfolding known_in constant_name is_constant_in both either
+constant-by constants size c k = by (ltb (k % 8) size) refl
+  where
+    none : (a b e : Bool) → both (both a b) e ≡ both a (both b e)
+    none true b e = refl
+    none false b e = refl
+
+    more : (x : Bool) → ltb (k % 8) size ≡ true → x ≡ either x (both (eqb size 0) (both (eqb (k % 8) 0) (eqb (length c) 0)))
+    more true h = refl
+    more false h = rw (ne_eqb size 0 (λ e. let l = ltb-true (k % 8) size h in omega arith))
+
+    by : (t : Bool) → ltb (k % 8) size ≡ t
+        → both (either t (both (eqb size 0) (eqb (k % 8) 0))) (same_name (cond t (slot_name constants k) []) c)
+        ≡ either (both t (same_name (slot_name constants k) c)) (both (eqb size 0) (both (eqb (k % 8) 0) (eqb (length c) 0)))
+    by true h = more (same_name (slot_name constants k) c) h
+    by false h = ap (both (both (eqb size 0) (eqb (k % 8) 0))) (unnamed c) ∙ none (eqb size 0) (eqb (k % 8) 0) (eqb (length c) 0)
 
 module _ (d : StoredDiagram) where
   pub type-index : (w : Name) → type_index (diagram_of d) w ≡ slot_of d.types.names d.types.count w

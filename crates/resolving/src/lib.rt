@@ -1,8 +1,7 @@
 // Resolving a record file: the names of an accepted file turned into the indices of one diagram.
 #![tactic(auto)]
 
-ghost use Rattle.std.specs.Prelude.{◌≡◌, ◌^◌, ◌<◌, ◌≤◌};
-ghost use Rattle.std.specs.Int.Bits.{bit_or};
+ghost use Rattle.std.specs.Prelude.{◌≡◌, ◌<◌, ◌≤◌};
 ghost use Rattle.laws.specs.Bounded.{first};
 ghost use Rattle.fields.specs.Slot.{slot_name, slot_of};
 ghost use Rattle.files.specs.Name.{same_name};
@@ -10,7 +9,7 @@ ghost use Rattle.files.specs.Content.{name_in};
 ghost use Rattle.files.specs.RecordLayout.{value_of, link_of};
 ghost use Rattle.diagrams.specs.View.{diagram_of};
 ghost use Rattle.resolving.specs.Lookup.{is_constant_in, is_code_in};
-ghost use Rattle.resolving.specs.Stored.{with_type, with_value_at, with_mask_at, with_stray_value, with_stray_link, value_stored, link_stored, Takes};
+ghost use Rattle.resolving.specs.Stored.{with_type, value_stored, link_stored, Takes};
 ghost use Rattle.resolving.specs.Resolves.{Resolves};
 
 use diagrams::{ReadDiagram, ValueTypes};
@@ -23,8 +22,7 @@ use records::MemoryRecord;
 fn is_constant(constants: &[u8], size: u8, c: &[u8], k: u8) -> bool
     ensures { result ≡ is_constant_in constants.now size c.now k }
 {
-    ((k % 8 < size) & fields::same_name(fields::slot_name(constants, k), c))
-        | ((size == 0) & ((k % 8 == 0) & (c.len() == 0)))
+    fields::is_known(size, k % 8) & fields::same_name(fields::constant_name(constants, size, k), c)
 }
 
 // Code k is that of the constant c of a value type t.
@@ -45,91 +43,45 @@ pub fn code_of(v: &ValueTypes, t: &[u8], c: &[u8]) -> u8
     (0..96).find(|k| is_code(v, t, c, *k)).unwrap_or(96)
 }
 
-// ---- one thing stored
-
-// One object more, of the type at this index.
-fn with_type(mut m: MemoryRecord, index: u8) -> MemoryRecord
-    requires { m.count < 8 }
-    ensures { result ≡ with_type m index }
-{
-    m.types[m.count] = index;
-    m.count += 1;
-    m
-}
-
-// x at place i of the values.
-fn with_value(mut m: MemoryRecord, i: usize, x: u8) -> MemoryRecord
-    requires { i < 256 }
-    ensures { result ≡ with_value_at m i x }
-{
-    m.values[i] = x;
-    m
-}
-
-// x at place i of the links.
-fn with_mask(mut m: MemoryRecord, i: usize, x: u8) -> MemoryRecord
-    requires { i < 256 }
-    ensures { result ≡ with_mask_at m i x }
-{
-    m.links[i] = x;
-    m
-}
-
-// The mark of a value that the diagram has no index for.
-fn with_stray_value(mut m: MemoryRecord) -> MemoryRecord
-    ensures { result ≡ with_stray_value m }
-{
-    m.strays.values = true;
-    m
-}
-
-// The mark of a link that the diagram has no index for.
-fn with_stray_link(mut m: MemoryRecord) -> MemoryRecord
-    ensures { result ≡ with_stray_link m }
-{
-    m.strays.links = true;
-    m
-}
-
-// The mask with the bit of this target.
-fn with_target(mask: u8, to: u8) -> u8
-    requires { to < 8 }
-    ensures { result ≡ bit_or mask (2 ^ to) }
-{
-    mask.with(to)
-}
-
 // ---- one field stored; what has no place is left out
 
+// The record goes by value through these: behind `&mut` the proof is not given how long the arrays of a struct are.
+
 // 0x61: an object, by its type's name.
-fn put_object(m: MemoryRecord, names: &[u8], k: u8, c: &[u8]) -> MemoryRecord
+fn put_object(mut m: MemoryRecord, names: &[u8], k: u8, c: &[u8]) -> MemoryRecord
     ensures { m.count < 8 → result ≡ with_type m (slot_of names.now k (name_in c.now)) }
 {
     if 8 <= m.count {
         return m;
     }
-    let index = fields::slot_of(names, k, fields::name_in(c));
-    with_type(m, index)
+    m.types[m.count] = fields::slot_of(names, k, fields::name_in(c));
+    m.count += 1;
+    m
 }
 
+// Slot k stands for no slot in the next two, as `fields::slot_of` gives it and what is stored is defined by it: an Option would be made of
+// it in one line and taken apart in the next.
+
 // 0x62: a value, by its attribute's name: its code at its object and slot, or the mark.
-fn put_value(m: MemoryRecord, names: &[u8], k: u8, code: u8, c: &[u8]) -> MemoryRecord
+fn put_value(mut m: MemoryRecord, names: &[u8], k: u8, code: u8, c: &[u8]) -> MemoryRecord
     requires { (k ≤ 32) × (code ≤ 96) }
     ensures { (value_of c.now).object < 8 → result ≡ value_stored m (slot_of names.now k (value_of c.now).attribute) k (value_of c.now).object code }
 {
     let object = laws::byte(c, 0);
     let s = fields::slot_of(names, k, fields::name_in(laws::past(c, 1)));
     if k <= s {
-        return with_stray_value(m);
+        m.strays.values = true;
+        return m;
     }
     if 8 <= object {
         return m;
     }
-    with_value(m, laws::place(object, s), 1 + code)
+    m.values[laws::place(object, s)] = 1 + code;
+    m
 }
 
 // 0x63: a link, by its role's name: its bit at its object and slot, or the mark.
-fn put_link(m: MemoryRecord, names: &[u8], k: u8, c: &[u8]) -> MemoryRecord
+fn put_link(mut m: MemoryRecord, names: &[u8], k: u8, c: &[u8]) -> MemoryRecord
     requires { k ≤ 32 }
     ensures { (link_of c.now).from < 8 → (link_of c.now).to < 8 → result ≡ link_stored m (slot_of names.now k (link_of c.now).role) k (link_of c.now).from (link_of c.now).to }
 {
@@ -138,13 +90,15 @@ fn put_link(m: MemoryRecord, names: &[u8], k: u8, c: &[u8]) -> MemoryRecord
     let to = laws::byte(fields::past_name(role), 0);
     let s = fields::slot_of(names, k, fields::name_in(role));
     if k <= s {
-        return with_stray_link(m);
+        m.strays.links = true;
+        return m;
     }
     if (8 <= from) | (8 <= to) {
         return m;
     }
     let i = laws::place(from, s);
-    with_mask(m, i, with_target(m.links[i], to))
+    m.links[i] = m.links[i].with(to);
+    m
 }
 
 // The code of the value in a content, or 96 where the diagram lacks it.

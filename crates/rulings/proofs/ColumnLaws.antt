@@ -31,6 +31,7 @@ use Rattle.worlds.specs.Tables.{LinesOf}
 use Rattle.rulings.specs.Shaped.{Shaped, kind_in}
 use Rattle.rulings.proofs.SeenLaws.{instance-counts, linked-by}
 use Rattle.rulings.proofs.WithinLaws.{capped-within, within-capped}
+use Rattle.worlds.specs.Lined.{column_at}
 
 -- ---- the side that is counted
 
@@ -64,7 +65,7 @@ module _ (old d : Diagram) (wo : WfDiagram old) (wd : WfDiagram d) (m : MemoryRe
   -- ---- what the tables say of an association whose side s is counted
 
   module _ (s : Side) (j : ℕ) (small : j < 16) (l : j < length d.associations) (e : counted_from s (association_at d j) ≡ true) where
-    slot_is : get_or x.columnslot j 0 ≡ slot_by old d (end_of d s j)
+    slot_is : (column_at x j).slot ≡ slot_by old d (end_of d s j)
     unfolding column_slot
     slot_is = of.column-slot j small ∙ ap (λ (b : Bool). cond b (slot_by old d (counted_end old d j)) 0) (is-counted old d s j l e) ∙ ap (slot_by old d) (end-counted old d s j e)
 
@@ -74,30 +75,30 @@ module _ (old d : Diagram) (wo : WfDiagram old) (wd : WfDiagram d) (m : MemoryRe
     from_end : end_at d (opposite d (counted_end old d j)) ≡ source s (association_at d j)
     from_end = ap (λ (k : ℕ). end_at d (opposite d k)) (end-counted old d s j e) ∙ end-opposite d s j
 
-    from_is : (o : ℕ) → o < m.count → bit (kind_in m o) (get_or x.columnfrom j 0) ≡ counts_as old d (source s (association_at d j)).type (kind_in m o)
+    from_is : (o : ℕ) → o < m.count → bit (kind_in m o) (column_at x j).from ≡ counts_as old d (source s (association_at d j)).type (kind_in m o)
     unfolding column_from both
     from_is o b =
         of.column-from j (kind_in m o) small (h.known o b)
         ∙ ap₂ (λ (a : Bool) (k : End). both a (counts_as old d k.type (kind_in m o))) (is-counted old d s j l e) from_end
 
-    to_is : (o : ℕ) → o < m.count → bit (kind_in m o) (get_or x.columnto j 0) ≡ counts_as old d (target s (association_at d j)).type (kind_in m o)
+    to_is : (o : ℕ) → o < m.count → bit (kind_in m o) (column_at x j).to ≡ counts_as old d (target s (association_at d j)).type (kind_in m o)
     unfolding column_to both
     to_is o b =
         of.column-to j (kind_in m o) small (h.known o b)
         ∙ ap₂ (λ (a : Bool) (k : End). both a (counts_as old d k.type (kind_in m o))) (is-counted old d s j l e) to_end
 
-    low-is : get_or x.columnlow j 0 ≡ least (source s (association_at d j)).limits.low
+    low-is : (column_at x j).low ≡ least (source s (association_at d j)).limits.low
     unfolding column_low
     low-is = of.column-low j small ∙ ap (λ (k : End). least k.limits.low) from_end
 
-    high_is : get_or x.columnhigh j 0 ≡ most (source s (association_at d j)).limits.up
+    high_is : (column_at x j).high ≡ most (source s (association_at d j)).limits.up
     unfolding column_high
     high_is = of.column-high j small ∙ ap (λ (k : End). most k.limits.up) from_end
 
     -- the sources of p
     source_is : (o p : ℕ) → o < m.count → p < m.count
         → both (counts_as old d (source s (association_at d j)).type (kind_in m o)) ((site_in old m).linked o (target s (association_at d j)).role p)
-        ≡ bit (kind_in m o) (get_or x.columnfrom j 0) && (world_of m).link (get_or x.columnslot j 0) o p
+        ≡ bit (kind_in m o) (column_at x j).from && (world_of m).link (column_at x j).slot o p
     source_is o p b c =
         sym (and-is-both _ _)
         ∙ ap₂ (λ (a t : Bool). a && t) (sym (from_is o b)) (linked-by old wo m h d s j o p b c ∙ ap (λ (k : ℕ). (world_of m).link k o p) (sym slot_is))
@@ -112,17 +113,17 @@ module _ (old d : Diagram) (wo : WfDiagram old) (wd : WfDiagram d) (m : MemoryRe
     -- ---- the rule at association j and target p
 
     abbrev Limited : ℕ → Type 0
-    Limited p = InLimits (get_or x.columnlow j 0) (get_or x.columnhigh j 0) (tally (source_by x (world_of m) j p) m.count)
+    Limited p = InLimits (column_at x j).low (column_at x j).high (tally (source_by x (world_of m) j p) m.count)
 
     limited-forth : (p : ℕ) → p < m.count → sources_at d (site_in old m) (source s (association_at d j)) (target s (association_at d j)) (source s (association_at d j)).limits p ≡ true
-        → bit (kind_in m p) (get_or x.columnto j 0) ≡ true → Limited p
+        → bit (kind_in m p) (column_at x j).to ≡ true → Limited p
     unfolding sources_at
     limited-forth p c q t =
         let held = imp_use _ _ q (instance-counts old d m _ p ∙ sym (to_is p c) ∙ t) in
         let fits = within-capped (source s (association_at d j)).limits (tally (source_by x (world_of m) j p) m.count) (few-sources p) (ap (within (source s (association_at d j)).limits) (sym (sources-are p c)) ∙ held) in
         rw (low-is, high_is) fits
 
-    limited-back : (p : ℕ) → p < m.count → (bit (kind_in m p) (get_or x.columnto j 0) ≡ true → Limited p)
+    limited-back : (p : ℕ) → p < m.count → (bit (kind_in m p) (column_at x j).to ≡ true → Limited p)
         → sources_at d (site_in old m) (source s (association_at d j)) (target s (association_at d j)) (source s (association_at d j)).limits p ≡ true
     unfolding sources_at
     limited-back p c k = imp-of _ _ (λ q.
@@ -144,8 +145,8 @@ module _ (old d : Diagram) (wo : WfDiagram old) (wd : WfDiagram d) (m : MemoryRe
 
   abbrev Columns : Type 0
   Columns =
-      (j p : ℕ) → j < 16 → p < m.count → bit (kind_in m p) (get_or x.columnto j 0) ≡ true
-      → InLimits (get_or x.columnlow j 0) (get_or x.columnhigh j 0) (tally (source_by x (world_of m) j p) m.count)
+      (j p : ℕ) → j < 16 → p < m.count → bit (kind_in m p) (column_at x j).to ≡ true
+      → InLimits (column_at x j).low (column_at x j).high (tally (source_by x (world_of m) j p) m.count)
 
   forth : rule7 d (site_in old m) ≡ true → Columns
   unfolding column_to

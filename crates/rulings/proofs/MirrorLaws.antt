@@ -23,23 +23,24 @@ use Rattle.worlds.specs.Kept.{MirrorsKept, world_in, world_of}
 use Rattle.worlds.specs.Tables.{LinesOf}
 use Rattle.rulings.specs.Shaped.{Shaped, kind_in}
 use Rattle.rulings.proofs.SeenLaws.{instance-counts, linked-by}
+use Rattle.worlds.specs.Lined.{mirror_at as mirror_line}
 
 module _ (old d : Diagram) (wo : WfDiagram old) (wd : WfDiagram d) (m : MemoryRecord) (h : Shaped old m) (x : Lines) (of : LinesOf old d x) where
   -- ---- what the tables say of an association that has a mirror
 
-  right-slot : (j : ℕ) → j < 16 → is_mirror old d j ≡ true → get_or x.mirrorright j 0 ≡ slot_by old d (j * 2 + 1)
+  right-slot : (j : ℕ) → j < 16 → is_mirror old d j ≡ true → (mirror_line x j).right ≡ slot_by old d (j * 2 + 1)
   unfolding mirror_right
   right-slot j l e = of.mirror-right j l ∙ ap (λ (b : Bool). cond b (slot_by old d (j * 2 + 1)) 0) e
 
-  left-slot : (j : ℕ) → j < 16 → is_mirror old d j ≡ true → get_or x.mirrorleft j 0 ≡ slot_by old d (j * 2)
+  left-slot : (j : ℕ) → j < 16 → is_mirror old d j ≡ true → (mirror_line x j).left ≡ slot_by old d (j * 2)
   unfolding mirror_left
   left-slot j l e = of.mirror-left j l ∙ ap (λ (b : Bool). cond b (slot_by old d (j * 2)) 0) e
 
-  from_is : (j o : ℕ) → j < 16 → o < m.count → bit (kind_in m o) (get_or x.mirrorfrom j 0) ≡ both (is_mirror old d j) (counts_as old d (association_at d j).left.type (kind_in m o))
+  from_is : (j o : ℕ) → j < 16 → o < m.count → bit (kind_in m o) (mirror_line x j).from ≡ both (is_mirror old d j) (counts_as old d (association_at d j).left.type (kind_in m o))
   unfolding mirror_from
   from_is j o l b = of.mirror-from j (kind_in m o) l (h.known o b)
 
-  to_is : (j o : ℕ) → j < 16 → o < m.count → bit (kind_in m o) (get_or x.mirrorto j 0) ≡ both (is_mirror old d j) (counts_as old d (association_at d j).right.type (kind_in m o))
+  to_is : (j o : ℕ) → j < 16 → o < m.count → bit (kind_in m o) (mirror_line x j).to ≡ both (is_mirror old d j) (counts_as old d (association_at d j).right.type (kind_in m o))
   unfolding mirror_to
   to_is j o l b = of.mirror-to j (kind_in m o) l (h.known o b)
 
@@ -47,12 +48,12 @@ module _ (old d : Diagram) (wo : WfDiagram old) (wd : WfDiagram d) (m : MemoryRe
 
   abbrev Kept : ℕ → ℕ → ℕ → Type 0
   Kept j o p =
-      bit (kind_in m o) (get_or x.mirrorfrom j 0) ≡ true → bit (kind_in m p) (get_or x.mirrorto j 0) ≡ true
-      → (world_of m).link (get_or x.mirrorright j 0) o p ≡ (world_of m).link (get_or x.mirrorleft j 0) p o
+      bit (kind_in m o) (mirror_line x j).from ≡ true → bit (kind_in m p) (mirror_line x j).to ≡ true
+      → (world_of m).link (mirror_line x j).right o p ≡ (world_of m).link (mirror_line x j).left p o
 
   links-are : (j o p : ℕ) → j < 16 → is_mirror old d j ≡ true → o < m.count → p < m.count
-      → ((world_of m).link (get_or x.mirrorright j 0) o p ≡ (site_in old m).linked o (association_at d j).right.role p)
-      × ((world_of m).link (get_or x.mirrorleft j 0) p o ≡ (site_in old m).linked p (association_at d j).left.role o)
+      → ((world_of m).link (mirror_line x j).right o p ≡ (site_in old m).linked o (association_at d j).right.role p)
+      × ((world_of m).link (mirror_line x j).left p o ≡ (site_in old m).linked p (association_at d j).left.role o)
   links-are j o p l e b c = (
     ap (λ (s : ℕ). (world_of m).link s o p) (right-slot j l e) ∙ sym (linked-by old wo m h d r2 j o p b c),
     ap (λ (s : ℕ). (world_of m).link s p o) (left-slot j l e) ∙ sym (linked-by old wo m h d r1 j p o c b),

@@ -25,33 +25,34 @@ use Rattle.worlds.specs.Kept.{WholesKept, whole_of, world_in, world_of}
 use Rattle.worlds.specs.Tables.{LinesOf}
 use Rattle.rulings.specs.Shaped.{Shaped, kind_in}
 use Rattle.rulings.proofs.SeenLaws.{instance-counts, linked-by}
+use Rattle.worlds.specs.Lined.{whole_at}
 
 module _ (old d : Diagram) (wo : WfDiagram old) (wd : WfDiagram d) (m : MemoryRecord) (h : Shaped old m) (x : Lines) (of : LinesOf old d x) where
   -- ---- what the tables say of a composition
 
-  slot_is : (j : ℕ) → j < 16 → is_composed old d j ≡ true → get_or x.wholeslot j 0 ≡ slot_by old d (j * 2 + 1)
+  slot_is : (j : ℕ) → j < 16 → is_composed old d j ≡ true → (whole_at x j).slot ≡ slot_by old d (j * 2 + 1)
   unfolding whole_slot
   slot_is j l e = of.whole-slot j l ∙ ap (λ (b : Bool). cond b (slot_by old d (j * 2 + 1)) 0) e
 
-  from_is : (j o : ℕ) → j < 16 → o < m.count → bit (kind_in m o) (get_or x.wholefrom j 0) ≡ both (is_composed old d j) (counts_as old d (association_at d j).left.type (kind_in m o))
+  from_is : (j o : ℕ) → j < 16 → o < m.count → bit (kind_in m o) (whole_at x j).from ≡ both (is_composed old d j) (counts_as old d (association_at d j).left.type (kind_in m o))
   unfolding whole_from
   from_is j o l b = of.whole-from j (kind_in m o) l (h.known o b)
 
-  to_is : (j o : ℕ) → j < 16 → o < m.count → bit (kind_in m o) (get_or x.wholeto j 0) ≡ both (is_composed old d j) (counts_as old d (association_at d j).right.type (kind_in m o))
+  to_is : (j o : ℕ) → j < 16 → o < m.count → bit (kind_in m o) (whole_at x j).to ≡ both (is_composed old d j) (counts_as old d (association_at d j).right.type (kind_in m o))
   unfolding whole_to
   to_is j o l b = of.whole-to j (kind_in m o) l (h.known o b)
 
   link_here : (j o p : ℕ) → j < 16 → is_composed old d j ≡ true → o < m.count → p < m.count
-      → (world_of m).link (get_or x.wholeslot j 0) o p ≡ (site_in old m).linked o (association_at d j).right.role p
+      → (world_of m).link (whole_at x j).slot o p ≡ (site_in old m).linked o (association_at d j).right.role p
   link_here j o p l e b c = ap (λ (s : ℕ). (world_of m).link s o p) (slot_is j l e) ∙ sym (linked-by old wo m h d r2 j o p b c)
 
   -- ---- o is a whole of p
 
   -- by association j, in the world
   record By (j o p : ℕ) : Type 0 where
-    from : bit (kind_in m o) (get_or x.wholefrom j 0) ≡ true
-    to : bit (kind_in m p) (get_or x.wholeto j 0) ≡ true
-    link : (world_of m).link (get_or x.wholeslot j 0) o p ≡ true
+    from : bit (kind_in m o) (whole_at x j).from ≡ true
+    to : bit (kind_in m p) (whole_at x j).to ≡ true
+    link : (world_of m).link (whole_at x j).slot o p ≡ true
 
   by-rule : (j o p : ℕ) → j < 16 → o < m.count → p < m.count → By j o p → (j < length d.associations) × (whole_by d (site_in old m) (association_at d j) o p ≡ true)
   unfolding whole_by is_composed
@@ -85,9 +86,9 @@ module _ (old d : Diagram) (wo : WfDiagram old) (wd : WfDiagram d) (m : MemoryRe
   unfolding is_whole whole_of world_in
   whole_back o p b c e =
       let w = any_at _ 16 e in
-      let from = bit (kind_in m o) (get_or x.wholefrom w.0 0) in
-      let to = bit (kind_in m p) (get_or x.wholeto w.0 0) in
-      let link = (world_of m).link (get_or x.wholeslot w.0 0) o p in
+      let from = bit (kind_in m o) (whole_at x w.0).from in
+      let to = bit (kind_in m p) (whole_at x w.0).to in
+      let link = (world_of m).link (whole_at x w.0).slot o p in
       let y : By w.0 o p = record { from = and_left from _ w.2; to = and_left to _ (and_right from _ w.2); link = and_right to link (and_right from _ w.2) } in
       let z = by-rule w.0 o p w.1 b c y in
       any_of _ (length d.associations) w.0 z.0 z.1

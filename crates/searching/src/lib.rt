@@ -3,20 +3,20 @@
 #![tactic(auto)]
 
 ghost use Rattle.std.specs.Prelude.{◌≤◌};
-ghost use Rattle.type_tables.specs.Releases.{new_of, old_of};
+ghost use Rattle.type_tables.specs.Pairs.{new_of, old_of};
 ghost use Rattle.searching.specs.Answer.{Level};
 ghost use Rattle.searching.specs.Ready.{Ready};
 
 use records::MemoryRecord;
-use type_tables::Releases;
+use type_tables::PairDues;
 use worlds::{Others, Tables};
 
 // A record of n objects, by the tables of both diagrams: old's own, and new's by old's types and role slots. What `Ready` says of them is
 // no part of a struct, since it speaks of a table of targets besides, which no struct keeps.
-pub fn search(by: &Releases, tables: &Tables, others: &Others, n: u8) -> Option<MemoryRecord>
-    requires { Ready (old_of by.now) (new_of by.now) tables.now others.now × (n ≤ 8) }
-    ensures { Level (old_of by.now) (new_of by.now) n result }
+pub fn search(by: &PairDues, tables: &Tables, others: &Others, n: u8) -> Option<MemoryRecord>
+    requires { Ready (old_of by.now.pair) (new_of by.now.pair) tables.now others.now × (n ≤ 8) }
+    ensures { Level (old_of by.now.pair) (new_of by.now.pair) n result }
 {
     let site = aims::find_break(tables, others, n)?;
-    Some(type_values::with_values(by, site.types, site.links, n))
+    Some(type_values::with_values(by, site, n))
 }

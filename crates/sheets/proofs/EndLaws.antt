@@ -17,7 +17,7 @@ use Rattle.diagrams.specs.Held.{Held}
 use Rattle.diagrams.proofs.ViewLaws.{type-count}
 use Rattle.diagrams.proofs.NamedLaws.{role-count}
 use Rattle.type_tables.specs.Rows.{carried_to, end_at, opposite}
-use Rattle.type_tables.specs.RowsIn.{carried_in, other_end, set_of}
+use Rattle.type_tables.specs.RowsIn.{carried_in, other_end}
 use Rattle.type_tables.proofs.EndAtLaws.{carried-is, end-type, opposite-is, other-below, type-known}
 use Rattle.views.specs.Views.{counts_as, leads_by, slot_by}
 use Rattle.sheets.specs.Named.{EndsBy, SlotsBy, SubtypesBy}
@@ -32,15 +32,13 @@ mix false false c = refl
 
 module _ (old d : StoredDiagram) (held : Held d) where
   pub ends-are : (subtypes r : List ℕ) → SubtypesBy (diagram_of old) (diagram_of d) subtypes
-      → ((e : ℕ) → e < d.associations.count * 2 → get_or r e 0 ≡ set_of subtypes (get_or d.associations.types e 0)) → EndsBy (diagram_of old) (diagram_of d) r
-  unfolding set_of
+      → ((e : ℕ) → e < d.associations.count * 2 → get_or r e 0 ≡ get_or subtypes (get_or d.associations.types e 0) 0) → EndsBy (diagram_of old) (diagram_of d) r
   ends-are subtypes r is f = record {
     exact = λ e t le lt.
         let h : e < d.associations.count * 2 = omega (arith, role-count d) in
         let x : ℕ = get_or d.associations.types e 0 in
         let known : x < length (diagram_of d).types = type-known d held e h in
-        let few : x < 24 = omega (arith, type-count d, held.counts.types) in
-        ap (bit t) (f e h ∙ ap (λ (b : Bool). cond b (get_or subtypes x 0) 0) (lt-ltb x 24 few))
+        ap (bit t) (f e h)
         ∙ is.exact x t known lt ∙ ap (λ (k : ℕ). counts_as (diagram_of old) (diagram_of d) k t) (sym (end-type d e h));
   }
 

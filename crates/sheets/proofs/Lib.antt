@@ -5,6 +5,7 @@ pub mod PlaceLaws
 pub mod EndLaws
 pub mod MaskRowLaws
 pub mod RowLaws
+pub mod MadeLaws
 pub mod LineLaws
 pub mod LinesOfLaws
 pub mod SheetLaws

@@ -6,12 +6,11 @@ use mathlib.Core.Bool.{Bool, cond, false, not, true}
 use mathlib.Core.List.{List}
 use mathlib.Core.Path.{◌∙◌, ◌≡◌, ap, ap₂, refl, subst, sym}
 use lib.Dec.{eqb, ltb}
-use lib.ListN.{get_or-eq_default, get_or, get_or-replicate, length, replicate}
+use lib.ListN.{get_or-eq_default, get_or, length}
 use borrow.Author.Tests.{ltb-false, ltb-true}
 use Rattle.laws.specs.Bits.{bit}
 use Rattle.laws.specs.Connective.{both, either}
 use Rattle.laws.proofs.BitLaws.{bit-zero}
-use Rattle.laws.proofs.ListLaws.{zeros}
 use Rattle.files.specs.Diagram.{Association, Diagram, End, association_at, is_composition, no_end}
 use Rattle.diagrams.specs.declared.StoredDiagram.{StoredDiagram}
 use Rattle.diagrams.specs.View.{association_in, diagram_of}
@@ -23,11 +22,13 @@ use Rattle.type_tables.specs.Rows.{end_at, least, most, opposite}
 use Rattle.type_tables.proofs.EndAtLaws.{end_low, end-up}
 use Rattle.type_tables.proofs.EndLaws.{end-at}
 use Rattle.views.specs.Views.{column_from, column_high, column_low, column_slot, column_to, counted_end, counts_as, is_composed, is_counted, is_mirror, mirror_from, mirror_left, mirror_right, mirror_to, slot_by, whole_from, whole_slot, whole_to}
+use Rattle.worlds.specs.declared.Column.{Column}
 use Rattle.worlds.specs.declared.Lines.{Lines}
+use Rattle.worlds.specs.declared.Mirror.{Mirror}
+use Rattle.worlds.specs.declared.Whole.{Whole}
 use Rattle.worlds.specs.Tables.{LinesOf}
 use Rattle.sheets.specs.Named.{EndsBy, SlotsBy}
-use Rattle.sheets.specs.LinesBy.{composed, counted, counted_from, counted_to, element_if, end_if, lines_in, mirrored, stored}
-use Rattle.sheets.proofs.LineLaws.{stored_at}
+use Rattle.sheets.specs.LinesBy.{LinesIn, column_by, composed, counted, counted_from, counted_to, element_if, end_if, mirror_by, mirrored, whole_by}
 
 -- ---- ends of one association
 
@@ -72,37 +73,30 @@ module _ (old d : StoredDiagram) (held : Held d) where
   unfolding association_in
   form-at j l = ap (λ (a : Association). a.form) (association-at d j l)
 
-  fits : (v : ℕ) → d.associations.count ≤ length (replicate 16 v)
-  fits v = held.counts.associations
-
   module _ (sets slots : List ℕ) (ends : EndsBy (diagram_of old) (diagram_of d) sets) (found : SlotsBy (diagram_of old) (diagram_of d) slots) where
     -- a slot, where the association asks
-    slot-line : (on : ℕ → Bool) (to : ℕ → ℕ) (ok : Bool) (e j : ℕ) → (j < d.associations.count → on j ≡ ok) → (j < d.associations.count → to j ≡ e) → (j < d.associations.count → e < d.associations.count * 2)
-        → get_or (stored (λ j. element_if (on j) slots (to j)) (replicate 16 0) d.associations.count) j 0
-        ≡ cond (both (ltb j (length (diagram_of d).associations)) ok) (slot_by (diagram_of old) (diagram_of d) e) 0
+    slot-line : (on : Bool) (to : ℕ) (ok : Bool) (e j : ℕ) → (j < d.associations.count → on ≡ ok) → (j < d.associations.count → to ≡ e) → (j < d.associations.count → e < d.associations.count * 2)
+        → element_if (both (ltb j d.associations.count) on) slots to ≡ cond (both (ltb j (length (diagram_of d).associations)) ok) (slot_by (diagram_of old) (diagram_of d) e) 0
     unfolding element_if both
     slot-line on to ok e j f g h =
-        stored_at (λ j. element_if (on j) slots (to j)) (replicate 16 0) d.associations.count j (fits 0)
-        ∙ go (ltb j d.associations.count) refl
+        go (ltb j d.associations.count) refl
         ∙ ap (λ (n : ℕ). cond (both (ltb j n) ok) (slot_by (diagram_of old) (diagram_of d) e) 0) (sym (association-count d))
       where
-        go : (b : Bool) → ltb j d.associations.count ≡ b
-            → cond b (cond (on j) (get_or slots (to j) 0) 0) (get_or (replicate 16 0) j 0) ≡ cond (both b ok) (slot_by (diagram_of old) (diagram_of d) e) 0
+        go : (b : Bool) → ltb j d.associations.count ≡ b → cond (both b on) (get_or slots to 0) 0 ≡ cond (both b ok) (slot_by (diagram_of old) (diagram_of d) e) 0
         go true q =
             let l : j < d.associations.count = ltb-true _ _ q in
             let b : e < d.associations.count * 2 = h l in
             ap₂ (λ (x : Bool) (i : ℕ). cond x (get_or slots i 0) 0) (f l) (g l) ∙ ap (λ (v : ℕ). cond ok v 0) (found.exact e (omega (arith, role-count d)))
-        go false q = zeros 16 j
+        go false q = refl
 
     -- a set of types
-    set_line : (on : ℕ → Bool) (to : ℕ → ℕ) (ok : Bool) (e j t : ℕ) → t < length (diagram_of old).types
-        → (j < d.associations.count → on j ≡ ok) → (j < d.associations.count → to j ≡ e) → (j < d.associations.count → e < d.associations.count * 2)
-        → bit t (get_or (stored (λ j. element_if (on j) sets (to j)) (replicate 16 0) d.associations.count) j 0)
+    set_line : (on : Bool) (to : ℕ) (ok : Bool) (e j t : ℕ) → t < length (diagram_of old).types
+        → (j < d.associations.count → on ≡ ok) → (j < d.associations.count → to ≡ e) → (j < d.associations.count → e < d.associations.count * 2)
+        → bit t (element_if (both (ltb j d.associations.count) on) sets to)
         ≡ both (both (ltb j (length (diagram_of d).associations)) ok) (counts_as (diagram_of old) (diagram_of d) (end_at (diagram_of d) e).type t)
     unfolding element_if both
     set_line on to ok e j t lt f g h =
-        ap (bit t) (stored_at (λ j. element_if (on j) sets (to j)) (replicate 16 0) d.associations.count j (fits 0))
-        ∙ go (ltb j d.associations.count) refl
+        go (ltb j d.associations.count) refl
         ∙ ap (λ (n : ℕ). both (both (ltb j n) ok) (counts_as (diagram_of old) (diagram_of d) (end_at (diagram_of d) e).type t)) (sym (association-count d))
       where
         asked : (b : Bool) → e < d.associations.count * 2 → bit t (cond b (get_or sets e 0) 0) ≡ both b (counts_as (diagram_of old) (diagram_of d) (end_at (diagram_of d) e).type t)
@@ -110,20 +104,19 @@ module _ (old d : StoredDiagram) (held : Held d) where
         asked false l = bit-zero t
 
         go : (b : Bool) → ltb j d.associations.count ≡ b
-            → bit t (cond b (cond (on j) (get_or sets (to j) 0) 0) (get_or (replicate 16 0) j 0)) ≡ both (both b ok) (counts_as (diagram_of old) (diagram_of d) (end_at (diagram_of d) e).type t)
+            → bit t (cond (both b on) (get_or sets to 0) 0) ≡ both (both b ok) (counts_as (diagram_of old) (diagram_of d) (end_at (diagram_of d) e).type t)
         go true q =
             let l : j < d.associations.count = ltb-true _ _ q in
             ap₂ (λ (x : Bool) (i : ℕ). bit t (cond x (get_or sets i 0) 0)) (f l) (g l) ∙ asked ok (h l)
-        go false q = ap (bit t) (zeros 16 j) ∙ bit-zero t
+        go false q = bit-zero t
 
     -- a limit, which stands where the association does not ask too
-    limit-line : (f : ℕ → ℕ) (v w j : ℕ) → j < 16 → (j < d.associations.count → f j ≡ w) → (d.associations.count ≤ j → v ≡ w)
-        → get_or (stored f (replicate 16 v) d.associations.count) j 0 ≡ w
-    limit-line f v w j lj g h = stored_at f (replicate 16 v) d.associations.count j (fits v) ∙ go (ltb j d.associations.count) refl
+    limit-line : (f v w j : ℕ) → (j < d.associations.count → f ≡ w) → (d.associations.count ≤ j → v ≡ w) → cond (ltb j d.associations.count) f v ≡ w
+    limit-line f v w j g h = go (ltb j d.associations.count) refl
       where
-        go : (b : Bool) → ltb j d.associations.count ≡ b → cond b (f j) (get_or (replicate 16 v) j 0) ≡ w
+        go : (b : Bool) → ltb j d.associations.count ≡ b → cond b f v ≡ w
         go true q = g (ltb-true _ _ q)
-        go false q = get_or-replicate 16 j v 0 lj ∙ h (ltb-false _ _ q)
+        go false q = h (ltb-false _ _ q)
 
     -- ---- the tests and ends of association j
 
@@ -169,30 +162,29 @@ module _ (old d : StoredDiagram) (held : Held d) where
     right-below : (j : ℕ) → j < d.associations.count → j * 2 + 1 < d.associations.count * 2
     right-below j l = omega arith
 
-    -- the tables that the arrays make
-    made : LinesOf (diagram_of old) (diagram_of d) (lines_in sets slots d.associations.arrows d.associations.forms d.associations.lows d.associations.ups d.associations.count)
-    unfolding lines_in column_slot column_from column_to column_low column_high is_counted mirror_right mirror_left mirror_from mirror_to is_mirror whole_slot whole_from whole_to is_composed least most
-    made = record {
-      column-slot = λ j lj. slot-line (counted d.associations.arrows) (counted_to d.associations.arrows) (either (counted_right (arrow j)) (counted_left (arrow j))) (counted_end (diagram_of old) (diagram_of d) j) j (counted_is j) (to_is j) (to_below j);
-      column-from = λ j t lj lt. set_line (counted d.associations.arrows) (counted_from d.associations.arrows) (either (counted_right (arrow j)) (counted_left (arrow j))) (opposite (diagram_of d) (counted_end (diagram_of old) (diagram_of d) j)) j t lt (counted_is j) (from_is j) (from-below j);
-      column-to = λ j t lj lt. set_line (counted d.associations.arrows) (counted_to d.associations.arrows) (either (counted_right (arrow j)) (counted_left (arrow j))) (counted_end (diagram_of old) (diagram_of d) j) j t lt (counted_is j) (to_is j) (to_below j);
+    -- the lines that the arrays make
+    pub lines_are : (x : Lines) → LinesIn sets slots d.associations.arrows d.associations.forms d.associations.lows d.associations.ups d.associations.count x
+        → LinesOf (diagram_of old) (diagram_of d) x
+    unfolding column_by mirror_by whole_by column_slot column_from column_to column_low column_high is_counted mirror_right mirror_left mirror_from mirror_to is_mirror whole_slot whole_from whole_to is_composed least most
+    lines_are x is = record {
+      column-slot = λ j lj. ap (λ (l : Column). l.slot) (is.column j lj) ∙ slot-line (counted d.associations.arrows j) (counted_to d.associations.arrows j) (either (counted_right (arrow j)) (counted_left (arrow j))) (counted_end (diagram_of old) (diagram_of d) j) j (counted_is j) (to_is j) (to_below j);
+      column-from = λ j t lj lt. ap (λ (l : Column). bit t l.from) (is.column j lj) ∙ set_line (counted d.associations.arrows j) (counted_from d.associations.arrows j) (either (counted_right (arrow j)) (counted_left (arrow j))) (opposite (diagram_of d) (counted_end (diagram_of old) (diagram_of d) j)) j t lt (counted_is j) (from_is j) (from-below j);
+      column-to = λ j t lj lt. ap (λ (l : Column). bit t l.to) (is.column j lj) ∙ set_line (counted d.associations.arrows j) (counted_to d.associations.arrows j) (either (counted_right (arrow j)) (counted_left (arrow j))) (counted_end (diagram_of old) (diagram_of d) j) j t lt (counted_is j) (to_is j) (to_below j);
       column-low = λ j lj.
-          limit-line (λ j. min 9 (get_or d.associations.lows (counted_from d.associations.arrows j) 0)) 0 (least (end_at (diagram_of d) (opposite (diagram_of d) (counted_end (diagram_of old) (diagram_of d) j))).limits.low) j lj
+          ap (λ (l : Column). l.low) (is.column j lj)
+          ∙ limit-line (min 9 (get_or d.associations.lows (counted_from d.associations.arrows j) 0)) 0 (least (end_at (diagram_of d) (opposite (diagram_of d) (counted_end (diagram_of old) (diagram_of d) j))).limits.low) j
           (λ l. ap (λ (e : ℕ). min 9 (get_or d.associations.lows e 0)) (from_is j l) ∙ sym (end_low d (opposite (diagram_of d) (counted_end (diagram_of old) (diagram_of d) j)) (from-below j l)))
           (λ l. sym (ap (λ (e : End). least e.limits.low) (no_source (diagram_of old) (diagram_of d) j (omega (arith, association-count d)))));
       column-high = λ j lj.
-          limit-line (λ j. min 8 (get_or d.associations.ups (counted_from d.associations.arrows j) 0)) 8 (most (end_at (diagram_of d) (opposite (diagram_of d) (counted_end (diagram_of old) (diagram_of d) j))).limits.up) j lj
+          ap (λ (l : Column). l.high) (is.column j lj)
+          ∙ limit-line (min 8 (get_or d.associations.ups (counted_from d.associations.arrows j) 0)) 8 (most (end_at (diagram_of d) (opposite (diagram_of d) (counted_end (diagram_of old) (diagram_of d) j))).limits.up) j
           (λ l. ap (λ (e : ℕ). min 8 (get_or d.associations.ups e 0)) (from_is j l) ∙ sym (end-up d (opposite (diagram_of d) (counted_end (diagram_of old) (diagram_of d) j)) (from-below j l)))
           (λ l. sym (ap (λ (e : End). most e.limits.up) (no_source (diagram_of old) (diagram_of d) j (omega (arith, association-count d)))));
-      mirror-right = λ j lj. slot-line (mirrored d.associations.arrows) (λ j. j * 2 + 1) (mirrors (arrow j)) (j * 2 + 1) j (mirrored-is j) (λ l. refl) (right-below j);
-      mirror-left = λ j lj. slot-line (mirrored d.associations.arrows) (λ j. j * 2) (mirrors (arrow j)) (j * 2) j (mirrored-is j) (λ l. refl) (left_below j);
-      mirror-from = λ j t lj lt. set_line (mirrored d.associations.arrows) (λ j. j * 2) (mirrors (arrow j)) (j * 2) j t lt (mirrored-is j) (λ l. refl) (left_below j) ∙ ap (both (is_mirror (diagram_of old) (diagram_of d) j)) (left-type j t);
-      mirror-to = λ j t lj lt. set_line (mirrored d.associations.arrows) (λ j. j * 2 + 1) (mirrors (arrow j)) (j * 2 + 1) j t lt (mirrored-is j) (λ l. refl) (right-below j) ∙ ap (both (is_mirror (diagram_of old) (diagram_of d) j)) (right-type j t);
-      whole-slot = λ j lj. slot-line (composed d.associations.forms) (λ j. j * 2 + 1) (is_composition (association_at (diagram_of d) j)) (j * 2 + 1) j (composed-is j) (λ l. refl) (right-below j);
-      whole-from = λ j t lj lt. set_line (composed d.associations.forms) (λ j. j * 2) (is_composition (association_at (diagram_of d) j)) (j * 2) j t lt (composed-is j) (λ l. refl) (left_below j) ∙ ap (both (is_composed (diagram_of old) (diagram_of d) j)) (left-type j t);
-      whole-to = λ j t lj lt. set_line (composed d.associations.forms) (λ j. j * 2 + 1) (is_composition (association_at (diagram_of d) j)) (j * 2 + 1) j t lt (composed-is j) (λ l. refl) (right-below j) ∙ ap (both (is_composed (diagram_of old) (diagram_of d) j)) (right-type j t);
+      mirror-right = λ j lj. ap (λ (l : Mirror). l.right) (is.mirror j lj) ∙ slot-line (mirrored d.associations.arrows j) (j * 2 + 1) (mirrors (arrow j)) (j * 2 + 1) j (mirrored-is j) (λ l. refl) (right-below j);
+      mirror-left = λ j lj. ap (λ (l : Mirror). l.left) (is.mirror j lj) ∙ slot-line (mirrored d.associations.arrows j) (j * 2) (mirrors (arrow j)) (j * 2) j (mirrored-is j) (λ l. refl) (left_below j);
+      mirror-from = λ j t lj lt. ap (λ (l : Mirror). bit t l.from) (is.mirror j lj) ∙ set_line (mirrored d.associations.arrows j) (j * 2) (mirrors (arrow j)) (j * 2) j t lt (mirrored-is j) (λ l. refl) (left_below j) ∙ ap (both (is_mirror (diagram_of old) (diagram_of d) j)) (left-type j t);
+      mirror-to = λ j t lj lt. ap (λ (l : Mirror). bit t l.to) (is.mirror j lj) ∙ set_line (mirrored d.associations.arrows j) (j * 2 + 1) (mirrors (arrow j)) (j * 2 + 1) j t lt (mirrored-is j) (λ l. refl) (right-below j) ∙ ap (both (is_mirror (diagram_of old) (diagram_of d) j)) (right-type j t);
+      whole-slot = λ j lj. ap (λ (l : Whole). l.slot) (is.whole j lj) ∙ slot-line (composed d.associations.forms j) (j * 2 + 1) (is_composition (association_at (diagram_of d) j)) (j * 2 + 1) j (composed-is j) (λ l. refl) (right-below j);
+      whole-from = λ j t lj lt. ap (λ (l : Whole). bit t l.from) (is.whole j lj) ∙ set_line (composed d.associations.forms j) (j * 2) (is_composition (association_at (diagram_of d) j)) (j * 2) j t lt (composed-is j) (λ l. refl) (left_below j) ∙ ap (both (is_composed (diagram_of old) (diagram_of d) j)) (left-type j t);
+      whole-to = λ j t lj lt. ap (λ (l : Whole). bit t l.to) (is.whole j lj) ∙ set_line (composed d.associations.forms j) (j * 2 + 1) (is_composition (association_at (diagram_of d) j)) (j * 2 + 1) j t lt (composed-is j) (λ l. refl) (right-below j) ∙ ap (both (is_composed (diagram_of old) (diagram_of d) j)) (right-type j t);
     }
-
-    pub lines_are : (x : Lines) → x ≡ lines_in sets slots d.associations.arrows d.associations.forms d.associations.lows d.associations.ups d.associations.count
-        → LinesOf (diagram_of old) (diagram_of d) x
-    lines_are x q = subst (LinesOf (diagram_of old) (diagram_of d)) (sym q) made

@@ -19,24 +19,17 @@ use Rattle.diagrams.specs.declared.StoredDiagram.{StoredDiagram}
 use Rattle.diagrams.specs.View.{diagram_of}
 use Rattle.diagrams.specs.Held.{Held}
 use Rattle.diagrams.proofs.ViewLaws.{type-count}
-use Rattle.diagrams.proofs.NamedLaws.{role-count, role-named, type-named}
+use Rattle.diagrams.proofs.NamedLaws.{role-count, role-named}
 use Rattle.records.specs.Slots.{role_name, type_index}
-use Rattle.resolving.proofs.LookupLaws.{role-slot, type-index}
+use Rattle.resolving.proofs.LookupLaws.{role-slot}
 use Rattle.tables.proofs.TableLaws.{set-reaches}
 use Rattle.type_tables.specs.RowsIn.{is_subtype}
+use Rattle.type_tables.specs.TypeTables.{TypePlaces}
 use Rattle.views.specs.Views.{counts_as, slot_by}
-use Rattle.sheets.specs.Named.{Images, SlotsBy, SubtypesBy}
+use Rattle.sheets.specs.Named.{SlotsBy, SubtypesBy}
 use Rattle.sheets.specs.NamedIn.{is_image}
 
 module _ (old d : StoredDiagram) where
-  pub images-are : (r : List ℕ) → ((i : ℕ) → i < d.types.count → get_or r i 0 ≡ slot_of old.types.names old.types.count (slot_name d.types.names i))
-      → Images (diagram_of old) (diagram_of d) r
-  images-are r f = record {
-    exact = λ i l.
-        let h : i < d.types.count = omega (arith, type-count d) in
-        f i h ∙ ap (slot_of old.types.names old.types.count) (sym (type-named d i h)) ∙ sym (type-index old (type_at (diagram_of d) i).name);
-  }
-
   pub slots-are : (r : List ℕ) → Held old
       → ((e : ℕ) → e < d.associations.count * 2 → get_or r e 0 ≡ slot_of old.associations.roles (old.associations.count * 2) (slot_name d.associations.roles e))
       → ((e : ℕ) → get_or r e 0 ≤ old.associations.count * 2) → SlotsBy (diagram_of old) (diagram_of d) r
@@ -48,7 +41,7 @@ module _ (old d : StoredDiagram) where
     few = λ e. omega (arith, g e, held.counts.associations);
   }
 
-  module _ (held : Held d) (images : List ℕ) (found : Images (diagram_of old) (diagram_of d) images) where
+  module _ (held : Held d) (images : List ℕ) (found : TypePlaces (diagram_of d) (diagram_of old) images) where
     image-counts : (x t : ℕ) → is_image images (is_subtype d.types.sets x) d.types.count t ≡ counts_as (diagram_of old) (diagram_of d) x t
     unfolding is_image is_subtype counts_as
     image-counts x t =

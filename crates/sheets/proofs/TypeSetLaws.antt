@@ -25,12 +25,12 @@ use Rattle.diagrams.proofs.NamedLaws.{role-count}
 use Rattle.records.specs.Slots.{type_index}
 use Rattle.type_tables.specs.Due.{due}
 use Rattle.type_tables.specs.Rows.{carried_to, end_at, opposite}
-use Rattle.type_tables.specs.TypeTables.{Dues}
+use Rattle.type_tables.specs.TypeTables.{Dues, TypePlaces}
 use Rattle.type_tables.proofs.EndAtLaws.{end-at}
 use Rattle.type_tables.proofs.StoredLaws.{stored-kinds}
 use Rattle.views.specs.Views.{counts_as, slot_by}
 use Rattle.worlds.specs.Tables.{MissingLinks, SingleTypes, UsableTypes, links_missing, possible, single_by, single_missing}
-use Rattle.sheets.specs.Named.{EndsBy, Images, SlotsBy}
+use Rattle.sheets.specs.Named.{EndsBy, SlotsBy}
 use Rattle.sheets.specs.NamedIn.{is_image}
 use Rattle.sheets.specs.MasksBy.{fine_in, missing_in, single_in, usable_in}
 use Rattle.sheets.specs.RowsBy.{source_in}
@@ -105,7 +105,7 @@ module _ (old : StoredDiagram) where
       go t true e = usable_at dues is t (ltb-true _ _ e)
       go t false e = refl
 
-module _ (old d : StoredDiagram) (images : List ℕ) (found : Images (diagram_of old) (diagram_of d) images) where
+module _ (old d : StoredDiagram) (images : List ℕ) (found : TypePlaces (diagram_of d) (diagram_of old) images) where
   single-image : (t : ℕ) → is_image images (single_in d.types.kinds) d.types.count t ≡ single_by (diagram_of old) (diagram_of d) t
   unfolding is_image single_in single_by is_singleton
   single-image t =
@@ -117,29 +117,26 @@ module _ (old d : StoredDiagram) (images : List ℕ) (found : Images (diagram_of
       ∙ ap (any (λ i. both (eqb (type_at (diagram_of d) i).kind 3) (eqb (type_index (diagram_of old) (type_at (diagram_of d) i).name) t))) (sym (type-count d))
 
   -- of k types
-  single-bit : (chosen k mask : ℕ) → Marks (single_in d.types.kinds) d.types.count chosen → Marks (is_image images (λ i. bit i chosen) d.types.count) k mask
+  pub single-bit : (chosen k mask : ℕ) → Marks (single_in d.types.kinds) d.types.count chosen → Marks (is_image images (λ i. bit i chosen) d.types.count) k mask
       → (t : ℕ) → bit t mask ≡ ltb t k && single_by (diagram_of old) (diagram_of d) t
   single-bit chosen k mask f g t =
       images-by images (single_in d.types.kinds) d.types.count d.types.count k chosen mask (le_refl d.types.count) f g t
       ∙ ap (λ (b : Bool). ltb t k && b) (single-image t)
 
-  pub singles-are : (chosen mask : ℕ) → Marks (single_in d.types.kinds) d.types.count chosen → Marks (is_image images (λ i. bit i chosen) d.types.count) old.types.count mask
+module _ (old d : StoredDiagram) where
+  pub singles-are : (mask : ℕ) → ((t : ℕ) → bit t mask ≡ ltb t old.types.count && single_by (diagram_of old) (diagram_of d) t)
       → SingleTypes (diagram_of old) (diagram_of d) mask
-  singles-are chosen mask f g = record {
-    at = λ t l.
-        single-bit chosen old.types.count mask f g t
-        ∙ ap (λ (b : Bool). b && single_by (diagram_of old) (diagram_of d) t) (lt-ltb t old.types.count (omega (arith, type-count old)));
-    none = λ t l.
-        single-bit chosen old.types.count mask f g t
-        ∙ ap (λ (b : Bool). b && single_by (diagram_of old) (diagram_of d) t) (le-ltb t old.types.count (omega (arith, type-count old)));
+  singles-are mask f = record {
+    at = λ t l. f t ∙ ap (λ (b : Bool). b && single_by (diagram_of old) (diagram_of d) t) (lt-ltb t old.types.count (omega (arith, type-count old)));
+    none = λ t l. f t ∙ ap (λ (b : Bool). b && single_by (diagram_of old) (diagram_of d) t) (le-ltb t old.types.count (omega (arith, type-count old)));
   }
 
   -- the name that no type has is past the last of them
-  pub missing-is : (chosen mask : ℕ) → Marks (single_in d.types.kinds) d.types.count chosen
-      → Marks (is_image images (λ i. bit i chosen) d.types.count) (old.types.count + 1) mask → bit old.types.count mask ≡ single_missing (diagram_of old) (diagram_of d)
+  pub missing-is : (mask : ℕ) → ((t : ℕ) → bit t mask ≡ ltb t (old.types.count + 1) && single_by (diagram_of old) (diagram_of d) t)
+      → bit old.types.count mask ≡ single_missing (diagram_of old) (diagram_of d)
   unfolding single_missing
-  missing-is chosen mask f g =
-      single-bit chosen (old.types.count + 1) mask f g old.types.count
+  missing-is mask f =
+      f old.types.count
       ∙ ap (λ (b : Bool). b && single_by (diagram_of old) (diagram_of d) old.types.count) (lt-ltb old.types.count (old.types.count + 1) (omega arith))
       ∙ ap (single_by (diagram_of old) (diagram_of d)) (sym (type-count old))
 

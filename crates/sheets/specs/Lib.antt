@@ -3,4 +3,3 @@ pub mod NamedIn
 pub mod RowsBy
 pub mod LinesBy
 pub mod MasksBy
-pub mod Pairs

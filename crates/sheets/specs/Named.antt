@@ -2,14 +2,10 @@
 -- Assumes nothing.
 use Rattle.std.specs.Prelude.{◌<◌, ◌≤◌, ℕ, false, List, ◌≡◌, get_or, length}
 use Rattle.laws.specs.Bits.{bit}
-use Rattle.files.specs.Diagram.{Diagram, type_at}
-use Rattle.records.specs.Slots.{role_count, type_index}
+use Rattle.files.specs.Diagram.{Diagram}
+use Rattle.records.specs.Slots.{role_count}
 use Rattle.type_tables.specs.Rows.{end_at}
 use Rattle.views.specs.Views.{counts_as, slot_by}
-
--- old's type with the name of each type of d
-pub record Images (old d : Diagram) (images : List ℕ) : Type 0 where
-  pub exact : (i : ℕ) → i < length d.types → get_or images i 0 ≡ type_index old (type_at d i).name
 
 -- the types of old whose objects are instances of each type of d
 pub record SubtypesBy (old d : Diagram) (masks : List ℕ) : Type 0 where

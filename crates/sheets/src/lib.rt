@@ -1,40 +1,37 @@
 // The tables of a diagram by the types and role slots of another one, or by its own, that the search by types reads.
+// Counts of types and ends are at most 32, and slots and limits below 256, as `as u8` keeps them.
 #![tactic(auto)]
 
-ghost use Rattle.std.specs.Prelude.{◌≡◌, ℕ, ◌*◌, ◌+◌, ◌<◌, ◌≤◌, ltb, get_or};
+ghost use Rattle.std.specs.Prelude.{◌≡◌, ◌&&◌, ℕ, ◌*◌, ◌+◌, ◌<◌, ◌≤◌, ltb, get_or};
 ghost use Rattle.laws.specs.Bits.{Marks, bit};
 ghost use Rattle.laws.specs.Connective.{both};
 ghost use Rattle.diagrams.specs.View.{diagram_of};
-ghost use Rattle.sheets.specs.Pairs.{new_of, old_of};
-ghost use Rattle.type_tables.specs.RowsIn.{is_subtype, set_of};
-ghost use Rattle.worlds.specs.Tables.{LinesOf, MissingLinks, RowTables, SingleTypes, UsableTypes, single_missing};
+ghost use Rattle.type_tables.specs.Pairs.{new_of, old_of};
+ghost use Rattle.type_tables.specs.RowsIn.{is_subtype};
+ghost use Rattle.worlds.specs.Tables.{LinesOf, MissingLinks, RowTables, SingleTypes, UsableTypes, single_by, single_missing};
 ghost use Rattle.worlds.specs.Coherent.{SourceTable};
-ghost use Rattle.sheets.specs.Named.{EndsBy, Images, SlotsBy, SubtypesBy};
+ghost use Rattle.sheets.specs.Named.{EndsBy, SlotsBy, SubtypesBy};
 ghost use Rattle.sheets.specs.NamedIn.{is_image};
 
 use diagrams::{Associations, ReadDiagram};
 use laws::Mask;
-use places::Limits;
-use type_tables::Releases;
+use type_tables::{ALL_TYPES, Pair, PairDues};
 
 mod lines;
 mod places;
 mod type_sets;
-
-// A diagram whose types and role slots are used, and one that is asked by them, which may be the same.
-#[derive(Clone, Copy)]
-pub struct Pair<'a> {
-    pub old: &'a ReadDiagram,
-    pub new: &'a ReadDiagram,
-}
 
 // The ends of a diagram's associations by another diagram: the types that an object at each end may have, and the slot of its role.
 #[derive(Clone, Copy)]
 struct Ends<'a> {
     asked: &'a Associations,
     sets: [u32; 32],
-    // A number past the last slot where there is none: it is compared with bounds, and never looked up.
+    // A number past the last slot where there is none, as the definition `slot_by` has it; a test stands before each look-up by it.
     slots: [u8; 32],
+    // How many types the other diagram has.
+    types: u8,
+    ghost few: { asked.now.count ≤ 16 },
+    ghost known: { types ≤ 24 },
 }
 
 impl<'a> Ends<'a> {
@@ -43,26 +40,26 @@ impl<'a> Ends<'a> {
         ensures sets { EndsBy (old_of by.now) (new_of by.now) result.sets }
         ensures slots { SlotsBy (old_of by.now) (new_of by.now) result.slots }
         ensures asked { result.asked.now ≡ by.now.new.now.stored.associations }
+        ensures types { result.types ≡ by.now.old.now.stored.types.count }
     {
         let new = by.new;
         Ends {
             asked: &new.stored.associations,
             sets: ends_by(by),
             slots: slots_by(by),
+            types: by.old.stored.types.count as u8,
         }
+    }
+
+    // How many ends.
+    fn count(&self) -> u8
+        ensures { result ≡ self.now.asked.now.count * 2 }
+    {
+        (self.asked.count * 2) as u8
     }
 }
 
-// ---- names
-
-// The index in old of each type of new, by its name; past the last where there is none: a number, which is compared with bounds.
-pub fn images(by: &Pair) -> [u8; 24]
-    ensures { Images (old_of by.now) (new_of by.now) result }
-{
-    let t = &by.old.stored.types;
-    let u = &by.new.stored.types;
-    type_tables::places(&u.names, u.count as u8, &t.names, t.count as u8)
-}
+// ---- slots
 
 // Old's slot of the role of each end of new; past the last where there is none.
 pub fn slots_by(by: &Pair) -> [u8; 32]
@@ -70,70 +67,89 @@ pub fn slots_by(by: &Pair) -> [u8; 32]
 {
     let a = &by.old.stored.associations;
     let b = &by.new.stored.associations;
-    type_tables::places(&b.roles, (b.count * 2) as u8, &a.roles, (a.count * 2) as u8)
+    fields::places(&b.roles, (b.count * 2) as u8, &a.roles, (a.count * 2) as u8)
 }
 
 // ---- types
 
-// Type i is chosen, and its image is one of k types.
-fn is_shown(images: &[u8; 24], chosen: u32, k: u8, i: u8) -> bool
-    requires { i < 24 }
-    ensures { result ≡ both (ltb (get_or images.now i 0) k) (bit i chosen) }
-{
-    (images[usize::from(i)] < k) & chosen.has(u32::from(i))
+// For each of m types its place in a table of types, of which the first k are asked for.
+#[derive(Clone, Copy)]
+struct Placed {
+    images: [u8; 24],
+    m: u8,
+    k: u8,
+    ghost few: { m ≤ 24 },
+    ghost known: { k ≤ 32 },
 }
 
-// Which of k types are images of the first m types that are chosen.
-fn images_of(images: &[u8; 24], chosen: u32, m: u8, k: u8) -> u32
-    requires { (m ≤ 24) × (k ≤ 32) }
-    ensures { Marks (is_image images.now (λ i. bit i chosen) m) k result }
-{
-    let mut mask: u32 = 0;
-    for i in 0..m {
-        if is_shown(images, chosen, k, i) {
-            mask = mask.with(u32::from(laws::byte(images, usize::from(i))));
+impl Placed {
+    // Type i is chosen, and its image is one of k types.
+    fn is_shown(&self, chosen: u32, i: u8) -> bool
+        requires { i < 24 }
+        ensures { result ≡ both (ltb (get_or self.now.images i 0) self.now.k) (bit i chosen) }
+    {
+        (self.images[usize::from(i)] < self.k) & chosen.has(u32::from(i))
+    }
+
+    // Which of k types are images of types that are chosen. A loop: a fold would need a branch that gives the mask back for the others.
+    fn images_of(&self, chosen: u32) -> u32
+        ensures { Marks (is_image self.now.images (λ i. bit i chosen) self.now.m) self.now.k result }
+    {
+        let mut mask: u32 = 0;
+        for i in 0..self.m {
+            if self.is_shown(chosen, i) {
+                mask = mask.with(u32::from(self.images[usize::from(i)]));
+            }
         }
+        mask
     }
-    mask
-}
 
-// Which of k types are images of subtypes of x.
-fn subtypes_at(images: &[u8; 24], sets: &[u32; 24], m: u8, k: u8, x: u8) -> u32
-    requires { (m ≤ 24) × (k ≤ 32) × (x < 32) }
-    ensures { Marks (is_image images.now (is_subtype sets.now x) m) k result }
-{
-    images_of(images, type_tables::subtypes_of(sets, x), m, k)
-}
-
-// The same for each x of m types. A loop, since no type stands past them.
-fn subtypes_all(images: &[u8; 24], sets: &[u32; 24], m: u8, k: u8) -> [u32; 24]
-    requires { (m ≤ 24) × (k ≤ 32) }
-    ensures { (x : ℕ) → x < m → Marks (is_image images.now (is_subtype sets.now x) m) k (get_or result x 0) }
-{
-    let mut r = [0u32; 24];
-    for x in 0..m {
-        r[usize::from(x)] = subtypes_at(images, sets, m, k, x);
+    // Which of k types are images of subtypes of x, one of m types; past them nothing is looked up.
+    fn subtypes_at(&self, sets: &[u32; 24], x: u8) -> u32
+        requires { x < 32 }
+        ensures { x < self.now.m → Marks (is_image self.now.images (is_subtype sets.now x) self.now.m) self.now.k result }
+    {
+        if self.m <= x {
+            return 0;
+        }
+        self.images_of(type_tables::subtypes_of(sets, x))
     }
-    r
+
+    // The same for each x.
+    fn subtypes_all(&self, sets: &[u32; 24]) -> [u32; 24]
+        ensures { (x : ℕ) → x < 24 → x < self.now.m → Marks (is_image self.now.images (is_subtype sets.now x) self.now.m) self.now.k (get_or result x 0) }
+    {
+        std::array::from_fn(|x| self.subtypes_at(sets, x as u8))
+    }
 }
 
 // The types of old whose objects are instances of each type of new.
 pub fn subtypes_by(by: &Pair) -> [u32; 24]
     ensures { SubtypesBy (old_of by.now) (new_of by.now) result }
 {
-    let found = images(by);
-    let t = &by.old.stored.types;
-    let u = &by.new.stored.types;
-    subtypes_all(&found, &u.sets, u.count as u8, t.count as u8)
+    let images = type_tables::type_places(by.new, by.old);
+    let placed = Placed {
+        images,
+        m: by.new.stored.types.count as u8,
+        k: by.old.stored.types.count as u8,
+    };
+    placed.subtypes_all(&by.new.stored.types.sets)
 }
 
 // ---- ends
 
+// The set at x, empty past the last.
+fn set_at(sets: &[u32; 24], x: u8) -> u32
+    ensures { result ≡ get_or sets.now x 0 }
+{
+    sets.get(usize::from(x)).copied().unwrap_or(0)
+}
+
 // The set of the type of each end.
 fn ends_of(subtypes: &[u32; 24], types: &[u8; 32]) -> [u32; 32]
-    ensures { (e : ℕ) → e < 32 → get_or result e 0 ≡ set_of subtypes.now (get_or types.now e 0) }
+    ensures { (e : ℕ) → e < 32 → get_or result e 0 ≡ get_or subtypes.now (get_or types.now e 0) 0 }
 {
-    types.map(|t| type_tables::set_of(subtypes, t))
+    std::array::from_fn(|e| set_at(subtypes, types[e]))
 }
 
 // The types of old whose objects are instances of the type of each end of new.
@@ -147,7 +163,8 @@ pub fn ends_by(by: &Pair) -> [u32; 32]
 
 // ---- rows
 
-// What is asked of the links of an object: the types that a target may have, and how many there are at least and at most.
+// What is asked of the links of an object: the types that a target may have, and how many there are at least and at most. Each is a table
+// of its own, as in `worlds::Tables`: `narrowing` and `sources_of` go through the targets alone.
 #[derive(Clone, Copy)]
 pub struct Rows {
     pub targets: [u32; 768],
@@ -159,15 +176,7 @@ pub struct Rows {
 pub fn rows_by(by: &Pair) -> Rows
     ensures { RowTables (old_of by.now) (new_of by.now) result.targets result.lows result.highs }
 {
-    let ends = Ends::of(by);
-    let n = (ends.asked.count * 2) as u8;
-    let k = by.old.stored.types.count as u8;
-    let Limits { lows, highs } = places::limits_of(&ends, n, k);
-    Rows {
-        targets: places::targets_of(&ends, n, k),
-        lows,
-        highs,
-    }
+    places::rows_of(&Ends::of(by))
 }
 
 // The table of sources: for type u and slot s at u * 32 + s the types that may have u as a target.
@@ -179,7 +188,7 @@ pub fn sources_of(targets: &[u32; 768]) -> [u32; 768]
         let mask = targets[x];
         if 0 < mask {
             let one = 0u32.with((x / 32) as u32);
-            places::mask_slot(&mut r, mask, (x % 32) as u8, one, 16777215, 24);
+            places::mask_slot(&mut r, mask, (x % 32) as u8, one, ALL_TYPES, 24);
         }
     }
     r
@@ -191,47 +200,52 @@ pub fn sources_of(targets: &[u32; 768]) -> [u32; 768]
 pub fn lines_by(by: &Pair) -> worlds::Lines
     ensures { LinesOf (old_of by.now) (new_of by.now) result }
 {
-    let ends = Ends::of(by);
-    lines::lines_of(&ends, ends.asked.count)
+    lines::lines_of(&Ends::of(by))
 }
 
 // ---- sets of types
 
 // The types that an object can have, by what each type asks of the values.
-pub fn usable_types(by: &Releases) -> u32
-    ensures { UsableTypes (diagram_of by.now.old.now.stored) result }
+pub fn usable_types(by: &PairDues) -> u32
+    ensures { UsableTypes (diagram_of by.now.pair.old.now.stored) result }
 {
-    let t = &by.old.stored.types;
+    let t = &by.pair.old.stored.types;
     type_sets::usable_of(&t.kinds, by.dues, t.count as u8)
+}
+
+// Which of k places among old's types have the name of a singleton class of new: the place behind the last where no type has it.
+fn singles_by(by: &Pair, k: u8) -> u32
+    requires { k ≤ 32 }
+    ensures { (t : ℕ) → bit t result ≡ ltb t k && single_by (old_of by.now) (new_of by.now) t }
+{
+    let images = type_tables::type_places(by.new, by.old);
+    let u = &by.new.stored.types;
+    let placed = Placed {
+        images,
+        m: u.count as u8,
+        k,
+    };
+    placed.images_of(type_sets::singles_of(&u.kinds, u.count as u8))
 }
 
 // The types of old that have the name of a singleton class of new.
 pub fn single_types(by: &Pair) -> u32
     ensures { SingleTypes (old_of by.now) (new_of by.now) result }
 {
-    let found = images(by);
-    let t = &by.old.stored.types;
-    let u = &by.new.stored.types;
-    let chosen = type_sets::singles_of(&u.kinds, u.count as u8);
-    images_of(&found, chosen, u.count as u8, t.count as u8)
+    singles_by(by, by.old.stored.types.count as u8)
 }
 
 // A singleton class of new has a name that no type of old has.
 pub fn single_missing(by: &Pair) -> bool
     ensures { result ≡ single_missing (old_of by.now) (new_of by.now) }
 {
-    let found = images(by);
-    let t = &by.old.stored.types;
-    let u = &by.new.stored.types;
-    let k = t.count as u8;
-    let chosen = type_sets::singles_of(&u.kinds, u.count as u8);
-    images_of(&found, chosen, u.count as u8, k + 1).has(u32::from(k))
+    let k = by.old.stored.types.count as u8;
+    singles_by(by, k + 1).has(u32::from(k))
 }
 
 // The types of old that new asks for links of a role for which old has no slot.
 pub fn missing_links(by: &Pair) -> u32
     ensures { MissingLinks (old_of by.now) (new_of by.now) result }
 {
-    let ends = Ends::of(by);
-    type_sets::missing_of(&ends, (ends.asked.count * 2) as u8)
+    type_sets::missing_of(&Ends::of(by))
 }

@@ -1,8 +1,10 @@
-// What a diagram asks by associations. The left end of association j is end j * 2, the right one j * 2 + 1.
-ghost use Rattle.std.specs.Prelude.{◌≡◌, ◌*◌, ◌+◌, ◌<◌, ◌≤◌};
-ghost use Rattle.sheets.specs.LinesBy.{end_if, lines_in, no_lines, with_column, with_mirror, with_whole};
+// What a diagram asks by associations. The left end of association j is end j * 2, the right one j * 2 + 1. An association past the last
+// asks nothing.
+ghost use Rattle.std.specs.Prelude.{◌≡◌, ℕ, ◌*◌, ◌+◌, ◌<◌, ◌≤◌};
+ghost use Rattle.sheets.specs.LinesBy.{LinesIn, column_by, end_if, mirror_by, whole_by};
 
 use crate::Ends;
+use worlds::{Column, Mirror, Whole};
 
 // The right end of association j, or the left one.
 fn end_if(right: bool, j: usize) -> usize
@@ -12,94 +14,81 @@ fn end_if(right: bool, j: usize) -> usize
     if right { j * 2 + 1 } else { j * 2 }
 }
 
-// With what association j asks by rule 7.
-fn with_column(x: worlds::Lines, ends: &Ends, j: usize) -> worlds::Lines
+// What association j asks by rule 7. Its limits stand also where it asks nothing, as the definition has them.
+fn column_of(ends: &Ends, j: usize) -> Column
     requires { j < 16 }
-    ensures { result ≡ with_column ends.now.sets ends.now.slots ends.now.asked.now.arrows ends.now.asked.now.lows ends.now.asked.now.ups x j }
+    ensures { result ≡ column_by ends.now.sets ends.now.slots ends.now.asked.now.arrows ends.now.asked.now.lows ends.now.asked.now.ups ends.now.asked.now.count j }
 {
+    if ends.asked.count <= j {
+        return Column {
+            slot: 0,
+            from: 0,
+            to: 0,
+            low: 0,
+            high: 8,
+        };
+    }
     let arrow = ends.asked.arrows[j];
     let right = arrows::counted_right(arrow);
     let on = right | arrows::counted_left(arrow);
     let to = end_if(right, j);
     let from = end_if(!right, j);
-    let slot = type_tables::pick(on, ends.slots[to], 0);
-    let sources = type_tables::pick(on, ends.sets[from], 0);
-    let targets = type_tables::pick(on, ends.sets[to], 0);
-    let low = type_tables::capped(9, ends.asked.lows[from]);
-    let high = type_tables::capped(8, ends.asked.ups[from]);
-    let mut y = x;
-    y.columnslot[j] = slot;
-    y.columnfrom[j] = sources;
-    y.columnto[j] = targets;
-    y.columnlow[j] = low;
-    y.columnhigh[j] = high;
-    y
+    Column {
+        slot: type_tables::pick(on, ends.slots[to], 0),
+        from: type_tables::pick(on, ends.sets[from], 0),
+        to: type_tables::pick(on, ends.sets[to], 0),
+        low: type_tables::capped(9, ends.asked.lows[from]),
+        high: type_tables::capped(8, ends.asked.ups[from]),
+    }
 }
 
 // By rule 8.
-fn with_mirror(x: worlds::Lines, ends: &Ends, j: usize) -> worlds::Lines
+fn mirror_of(ends: &Ends, j: usize) -> Mirror
     requires { j < 16 }
-    ensures { result ≡ with_mirror ends.now.sets ends.now.slots ends.now.asked.now.arrows x j }
+    ensures { result ≡ mirror_by ends.now.sets ends.now.slots ends.now.asked.now.arrows ends.now.asked.now.count j }
 {
-    let on = arrows::is_mirrored(ends.asked.arrows[j]);
-    let right = type_tables::pick(on, ends.slots[j * 2 + 1], 0);
-    let left = type_tables::pick(on, ends.slots[j * 2], 0);
-    let from = type_tables::pick(on, ends.sets[j * 2], 0);
-    let to = type_tables::pick(on, ends.sets[j * 2 + 1], 0);
-    let mut y = x;
-    y.mirrorright[j] = right;
-    y.mirrorleft[j] = left;
-    y.mirrorfrom[j] = from;
-    y.mirrorto[j] = to;
-    y
+    if (j < ends.asked.count) & arrows::is_mirrored(ends.asked.arrows[j]) {
+        return Mirror {
+            right: ends.slots[j * 2 + 1],
+            left: ends.slots[j * 2],
+            from: ends.sets[j * 2],
+            to: ends.sets[j * 2 + 1],
+        };
+    }
+    Mirror {
+        right: 0,
+        left: 0,
+        from: 0,
+        to: 0,
+    }
 }
 
 // By rule 9.
-fn with_whole(x: worlds::Lines, ends: &Ends, j: usize) -> worlds::Lines
+fn whole_of(ends: &Ends, j: usize) -> Whole
     requires { j < 16 }
-    ensures { result ≡ with_whole ends.now.sets ends.now.slots ends.now.asked.now.forms x j }
+    ensures { result ≡ whole_by ends.now.sets ends.now.slots ends.now.asked.now.forms ends.now.asked.now.count j }
 {
-    let on = ends.asked.forms[j] == 1;
-    let slot = type_tables::pick(on, ends.slots[j * 2 + 1], 0);
-    let from = type_tables::pick(on, ends.sets[j * 2], 0);
-    let to = type_tables::pick(on, ends.sets[j * 2 + 1], 0);
-    let mut y = x;
-    y.wholeslot[j] = slot;
-    y.wholefrom[j] = from;
-    y.wholeto[j] = to;
-    y
+    if (j < ends.asked.count) & (ends.asked.forms[j] == 1) {
+        return Whole {
+            slot: ends.slots[j * 2 + 1],
+            from: ends.sets[j * 2],
+            to: ends.sets[j * 2 + 1],
+        };
+    }
+    Whole {
+        slot: 0,
+        from: 0,
+        to: 0,
+    }
 }
 
-// Where no association asks.
-fn no_lines() -> worlds::Lines
-    ensures { result ≡ no_lines }
+// What each association asks.
+pub fn lines_of(ends: &Ends) -> worlds::Lines
+    ensures { LinesIn ends.now.sets ends.now.slots ends.now.asked.now.arrows ends.now.asked.now.forms ends.now.asked.now.lows ends.now.asked.now.ups ends.now.asked.now.count result }
 {
     worlds::Lines {
-        columnslot: [0u8; 16],
-        columnfrom: [0u32; 16],
-        columnto: [0u32; 16],
-        columnlow: [0u8; 16],
-        columnhigh: [8u8; 16],
-        mirrorright: [0u8; 16],
-        mirrorleft: [0u8; 16],
-        mirrorfrom: [0u32; 16],
-        mirrorto: [0u32; 16],
-        wholeslot: [0u8; 16],
-        wholefrom: [0u32; 16],
-        wholeto: [0u32; 16],
+        columns: std::array::from_fn(|j| column_of(ends, j)),
+        mirrors: std::array::from_fn(|j| mirror_of(ends, j)),
+        wholes: std::array::from_fn(|j| whole_of(ends, j)),
     }
-}
-
-// What n associations ask.
-pub fn lines_of(ends: &Ends, n: usize) -> worlds::Lines
-    requires { n ≤ 16 }
-    ensures { result ≡ lines_in ends.now.sets ends.now.slots ends.now.asked.now.arrows ends.now.asked.now.forms ends.now.asked.now.lows ends.now.asked.now.ups n }
-{
-    let mut x = no_lines();
-    for j in 0..n {
-        x = with_column(x, ends, j);
-        x = with_mirror(x, ends, j);
-        x = with_whole(x, ends, j);
-    }
-    x
 }

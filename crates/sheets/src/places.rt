@@ -1,19 +1,13 @@
 // What is asked of the links of an object, by its type and the role slot: at t * 32 + s for type t and slot s.
-ghost use Rattle.std.specs.Prelude.{◌≡◌, ℕ, ◌<◌, ◌≤◌, max, min, ltb, get_or, length};
+ghost use Rattle.std.specs.Prelude.{◌≡◌, ℕ, ◌*◌, ◌<◌, ◌≤◌, max, min, ltb, get_or, length};
 ghost use Rattle.std.specs.Int.Bits.{bit_and, bit_or};
 ghost use Rattle.laws.specs.Bits.{bit};
 ghost use Rattle.laws.specs.Connective.{both};
 ghost use Rattle.sheets.specs.RowsBy.{Stepped, high_at, leads_at, low_at, mask_at, source_in, target_at};
 
-use crate::Ends;
+use crate::{Ends, Rows};
 use laws::Mask;
-
-// The lower and the upper limit at each place.
-#[derive(Clone, Copy)]
-pub struct Limits {
-    pub lows: [u8; 768],
-    pub highs: [u8; 768],
-}
+use type_tables::ALL_TYPES;
 
 // The types whose links go to end e, by the types of each end.
 pub fn source_at(ends: &Ends, e: u8) -> u32
@@ -57,28 +51,31 @@ fn limit_slot(
     }
 }
 
-// The limits for k types by n ends.
-pub fn limits_of(ends: &Ends, n: u8, k: u8) -> Limits
-    requires { (n ≤ 32) × (k ≤ 24) }
-    ensures { ((x : ℕ) → x < 768 → get_or result.lows x 0 ≡ low_at ends.now.asked.now.lows (leads_at ends.now.sets ends.now.asked.now.arrows ends.now.slots k x) n) × ((x : ℕ) → x < 768 → get_or result.highs x 0 ≡ high_at ends.now.asked.now.ups (leads_at ends.now.sets ends.now.asked.now.arrows ends.now.slots k x) n) }
+// The rows by all ends.
+pub fn rows_of(ends: &Ends) -> Rows
+    ensures targets { (x u : ℕ) → x < 768 → u < 24 → bit u (get_or result.targets x 0) ≡ target_at ends.now.sets (leads_at ends.now.sets ends.now.asked.now.arrows ends.now.slots ends.now.types x) (ends.now.asked.now.count * 2) u }
+    ensures lows { (x : ℕ) → x < 768 → get_or result.lows x 0 ≡ low_at ends.now.asked.now.lows (leads_at ends.now.sets ends.now.asked.now.arrows ends.now.slots ends.now.types x) (ends.now.asked.now.count * 2) }
+    ensures highs { (x : ℕ) → x < 768 → get_or result.highs x 0 ≡ high_at ends.now.asked.now.ups (leads_at ends.now.sets ends.now.asked.now.arrows ends.now.slots ends.now.types x) (ends.now.asked.now.count * 2) }
 {
     let mut least = [0u8; 768];
     let mut most = [8u8; 768];
-    for e in 0..n {
+    for e in 0..ends.count() {
+        let i = usize::from(e);
         let set = source_at(ends, e);
-        let low = type_tables::capped(9, ends.asked.lows[usize::from(e)]);
-        let high = type_tables::capped(8, ends.asked.ups[usize::from(e)]);
+        let low = type_tables::capped(9, ends.asked.lows[i]);
+        let high = type_tables::capped(8, ends.asked.ups[i]);
         limit_slot(
             &mut least,
             &mut most,
             set,
-            ends.slots[usize::from(e)],
+            ends.slots[i],
             low,
             high,
-            k,
+            ends.types,
         );
     }
-    Limits {
+    Rows {
+        targets: targets_of(ends),
         lows: least,
         highs: most,
     }
@@ -97,39 +94,24 @@ pub fn mask_slot(masks: &mut [u32; 768], set: u32, s: u8, more: u32, keep: u32, 
     }
 }
 
-// The same by n ends, with a set to keep for each.
-fn masks_of(
-    start: [u32; 768],
-    ends: &Ends,
-    more: u32,
-    keeps: &[u32; 32],
-    n: u8,
-    k: u8,
-) -> [u32; 768]
-    requires { (n ≤ 32) × (k ≤ 24) }
-    ensures { (x : ℕ) → x < 768 → get_or result x 0 ≡ mask_at more keeps.now (get_or start x 0) (leads_at ends.now.sets ends.now.asked.now.arrows ends.now.slots k x) n }
+// The same by all ends, with a set to keep for each.
+fn masks_of(start: [u32; 768], ends: &Ends, more: u32, keeps: &[u32; 32]) -> [u32; 768]
+    ensures { (x : ℕ) → x < 768 → get_or result x 0 ≡ mask_at more keeps.now (get_or start x 0) (leads_at ends.now.sets ends.now.asked.now.arrows ends.now.slots ends.now.types x) (ends.now.asked.now.count * 2) }
 {
     let mut r = start;
-    for e in 0..n {
+    for e in 0..ends.count() {
+        let i = usize::from(e);
         let set = source_at(ends, e);
-        mask_slot(
-            &mut r,
-            set,
-            ends.slots[usize::from(e)],
-            more,
-            keeps[usize::from(e)],
-            k,
-        );
+        mask_slot(&mut r, set, ends.slots[i], more, keeps[i], ends.types);
     }
     r
 }
 
 // The types that a target may have: of the places with an end, those in the set of each end.
-pub fn targets_of(ends: &Ends, n: u8, k: u8) -> [u32; 768]
-    requires { (n ≤ 32) × (k ≤ 24) }
-    ensures { (x u : ℕ) → x < 768 → u < 24 → bit u (get_or result x 0) ≡ target_at ends.now.sets (leads_at ends.now.sets ends.now.asked.now.arrows ends.now.slots k x) n u }
+fn targets_of(ends: &Ends) -> [u32; 768]
+    ensures { (x u : ℕ) → x < 768 → u < 24 → bit u (get_or result x 0) ≡ target_at ends.now.sets (leads_at ends.now.sets ends.now.asked.now.arrows ends.now.slots ends.now.types x) (ends.now.asked.now.count * 2) u }
 {
-    let all = [16777215u32; 32];
-    let led = masks_of([0u32; 768], ends, 16777215, &all, n, k);
-    masks_of(led, ends, 0, &ends.sets, n, k)
+    let all = [ALL_TYPES; 32];
+    let led = masks_of([0u32; 768], ends, ALL_TYPES, &all);
+    masks_of(led, ends, 0, &ends.sets)
 }

@@ -1,5 +1,5 @@
 // Sets of types, one bit for each.
-ghost use Rattle.std.specs.Prelude.{◌≡◌, ℕ, ◌<◌, ◌≤◌};
+ghost use Rattle.std.specs.Prelude.{◌≡◌, ℕ, ◌*◌, ◌<◌, ◌≤◌};
 ghost use Rattle.laws.specs.Bits.{Marks, bit};
 ghost use Rattle.laws.specs.Bounded.{all, any};
 ghost use Rattle.sheets.specs.MasksBy.{fine_in, missing_in, single_in, usable_in};
@@ -29,7 +29,7 @@ fn is_usable(kinds: &[u8; 24], dues: &[u8; 768], t: u8) -> bool
     ensures { result ≡ usable_in kinds.now dues.now t }
 {
     let kind = laws::byte(kinds, usize::from(t));
-    ((kind == 0) | (kind == 3)) & is_possible(dues, t)
+    diagrams::has_objects(kind) & is_possible(dues, t)
 }
 
 // The types of n that an object can have.
@@ -37,7 +37,7 @@ pub fn usable_of(kinds: &[u8; 24], dues: &[u8; 768], n: u8) -> u32
     requires { n ≤ 24 }
     ensures { Marks (usable_in kinds.now dues.now) n result }
 {
-    type_tables::mask_of(n, |t| is_usable(kinds, dues, t))
+    laws::mask_of(n, |t| is_usable(kinds, dues, t))
 }
 
 // Type t is a singleton class.
@@ -52,7 +52,7 @@ pub fn singles_of(kinds: &[u8; 24], n: u8) -> u32
     requires { n ≤ 24 }
     ensures { Marks (single_in kinds.now) n result }
 {
-    type_tables::mask_of(n, |t| is_single(kinds, t))
+    laws::mask_of(n, |t| is_single(kinds, t))
 }
 
 // The types that are asked for links to end e, for which there is no slot.
@@ -67,13 +67,12 @@ fn missing_at(ends: &Ends, e: u8) -> u32
     0u32
 }
 
-// To any of n ends.
-pub fn missing_of(ends: &Ends, n: u8) -> u32
-    requires { n ≤ 32 }
-    ensures { (t : ℕ) → bit t result ≡ any (λ e. bit t (missing_in ends.now.sets ends.now.asked.now.arrows ends.now.slots ends.now.asked.now.lows e)) n }
+// To any end. A loop: its invariant says which ends the mask has so far, and a fold would ask the same beside its call.
+pub fn missing_of(ends: &Ends) -> u32
+    ensures { (t : ℕ) → bit t result ≡ any (λ e. bit t (missing_in ends.now.sets ends.now.asked.now.arrows ends.now.slots ends.now.asked.now.lows e)) (ends.now.asked.now.count * 2) }
 {
     let mut mask: u32 = 0;
-    for e in 0..n {
+    for e in 0..ends.count() {
         mask |= missing_at(ends, e);
     }
     mask

@@ -45,6 +45,7 @@ impl<'a> Typed<'a> {
     }
 
     // Object o counts as type k.
+    #[tactic(auto, unfolding(crate::specs::Numbers::counts_as))]
     fn counts_as(&self, k: u8, o: u8) -> bool
         requires { (k < 32) × (o < 8) }
         ensures { result ≡ counts_as self.now.types.now.sets self.now.types.now.count self.now.objects.now k o }
@@ -57,13 +58,7 @@ impl<'a> Typed<'a> {
         requires { k < 32 }
         ensures { Marks (counts_as self.now.types.now.sets self.now.types.now.count self.now.objects.now k) 8 result }
     {
-        let mut mask: u8 = 0;
-        for o in 0u8..8 {
-            if self.counts_as(k, o) {
-                mask = mask.with(o);
-            }
-        }
-        mask
+        laws::mask_of(8, |o| self.counts_as(k, o))
     }
 
     // The objects that count as each type.
@@ -88,16 +83,13 @@ pub fn instance_masks(d: ReadDiagram, m: MemoryRecord) -> [u8; 24]
 
 // ---- slots: counts and indices are at most 32, as `as u8` keeps them
 
-// The first of n names that is the same as each. A loop, since only n of the 32 places are asked for.
+// For each of n names the first that is the same.
+#[tactic(auto, unfolding(crate::specs::Numbers::slot_at, fields::specs::Slot::slot_of))]
 fn slots_of(names: &[u8; 544], n: u8) -> [u8; 32]
     requires { n ≤ 32 }
     ensures { (i : ℕ) → i < n → get_or result i 0 ≡ slot_at names.now n i }
 {
-    let mut slots = [0u8; 32];
-    for i in 0..n {
-        slots[usize::from(i)] = fields::slot_of(names, n, fields::slot_name(names, i));
-    }
-    slots
+    fields::places::<32>(names, n, names, n)
 }
 
 // The slot of each end's role name.
@@ -117,7 +109,8 @@ pub fn attribute_slots(d: ReadDiagram) -> [u8; 32]
     slots_of(&d.stored.attributes.names, d.stored.attributes.count as u8)
 }
 
-// ---- what the rules are judged by
+// ---- what the rules are judged by. `Values` and `Roles` have the same fields, but the slots of the one are those of attributes and of the
+// other those of ends: in one struct the ghost facts would be a choice, and each rule would take it apart.
 
 // A record in memory with the diagram that it is judged by, the table of instances and that of the attributes' slots.
 #[derive(Clone, Copy)]

@@ -1,7 +1,7 @@
 -- The names of the value types, collected: the attribute types of one declaration, and the loop over all.
 -- Assumes nothing.
 use mathlib.Core.Path.{◌≡◌, ap, ap₂, refl, subst, sym, ◌∙◌}
-use mathlib.Core.Bool.{Bool, not}
+use mathlib.Core.Bool.{Bool, cond, false, not, true}
 use mathlib.Core.List.{List, [], ◌∷◌, ◌++◌, append-nil}
 use mathlib.Core.Logic.{⊎_elim}
 use Prim.Native.Nat.{ℕ, ◌+◌, ◌<◌, ◌≤◌}
@@ -39,17 +39,8 @@ use Rattle.text_checks.proofs.WithNamesLaws.{front_kept, front-with, has, with_a
 
 -- ---- the attribute types of one declaration
 
--- the first place is past the end exactly when no place has it
-first_past : (p : ℕ → Bool) (n : ℕ) → eqb (first p n) n ≡ not (any p n)
-first_past p n =
-    ⊎_elim
-    (λ a. let w = any_at p n a in ne_eqb (first p n) n (ne_of_lt (first_below p n w.0 w.1 w.2)) ∙ ap not (sym a))
-    (λ a. eq-eqb (first p n) n (first-none p n a) ∙ ap not (sym a)) (known (any p n))
-
-found-not : (r : Names) (w : Name) → eqb (first (λ j. same_name (get_or (names_in r) j []) w) r.count) r.count ≡ not (has (names_in r) w)
-found-not r w =
-    first_past (λ j. same_name (get_or (names_in r) j []) w) r.count
-    ∙ ap not (ap (any (λ j. same_name (get_or (names_in r) j []) w)) (sym (names-length r)) ∙ member-any (λ v. same_name v w) [] (names_in r))
+found_is : (r : Names) (w : Name) → any (λ j. same_name (get_or (names_in r) j []) w) r.count ≡ has (names_in r) w
+found_is r w = ap (any (λ j. same_name (get_or (names_in r) j []) w)) (sym (names-length r)) ∙ member-any (λ v. same_name v w) [] (names_in r)
 
 pub type-short : (ws : List Name) (i : ℕ) {w : Name} → ((k : ℕ) → length (get_or ws k []) ≤ 16) → w ≡ get_or ws i [] → length w ≤ 16
 type-short ws i f e = subst (λ (x : Name). length x ≤ 16) (sym e) (f i)
@@ -64,14 +55,14 @@ pub taken-begin : (ws : List Name) (n : ℕ) (r₀ : Names) → r₀.count ≤ 1
 taken-begin ws n r₀ h = record { up_to = omega arith; few = h; same = refl }
 
 module _ {ws : List Name} {n : ℕ} {r₀ : Names} {i : ℕ} {r : Names} (t : Taken ws n r₀ i r) where
-  taken_next : {w : Name} {f : ℕ} {r' : Names} → n ≡ length ws → i < n → (r.count ≡ 13 → ⊥) → w ≡ get_or ws i []
-      → f ≡ first (λ j. same_name (get_or (names_in r) j []) w) r.count → names_in r' ≡ names_in r ++ only (eqb f r.count) w → r'.count ≤ r.count + 1
+  taken_next : {w : Name} {b : Bool} {r' : Names} → n ≡ length ws → i < n → (r.count ≡ 13 → ⊥) → w ≡ get_or ws i []
+      → b ≡ any (λ j. same_name (get_or (names_in r) j []) w) r.count → names_in r' ≡ names_in r ++ only (not b) w → r'.count ≤ r.count + 1
       → Taken ws n r₀ (i + 1) r'
   unfolding with_names
-  taken_next {w} {f} {r'} m h u e q a c =
+  taken_next {w} {b} {r'} m h u e q a c =
       let l : i < length ws = omega arith in
       let next : drop i ws ≡ w ∷ drop (i + 1) ws = drop-cons ws i [] l ∙ ap₂ (λ (x : Name) (k : ℕ). x ∷ drop k ws) (sym e) (sym (add-one i)) in
-      let on : eqb f r.count ≡ not (has (names_in r) w) = ap (λ (k : ℕ). eqb k r.count) q ∙ found-not r w in
+      let on : not b ≡ not (has (names_in r) w) = ap not (q ∙ found_is r w) in
       let is : with_name (names_in r) w ≡ names_in r' = with-name-is (names_in r) w ∙ ap (λ (b : Bool). names_in r ++ only b w) (sym on) ∙ sym a in
       record {
         up_to = omega arith;
@@ -80,13 +71,13 @@ module _ {ws : List Name} {n : ℕ} {r₀ : Names} {i : ℕ} {r : Names} (t : Ta
       }
 
   -- as the code adds the name, or passes it
-  module _ {w : Name} {f : ℕ} (m : n ≡ length ws) (h : i < n) (u : r.count ≡ 13 → ⊥) (e : w ≡ get_or ws i [])
-      (q : f ≡ first (λ j. same_name (get_or (names_in r) j []) w) r.count) where
-    pub taken-push : {r' : Names} → f ≡ r.count → names_in r' ≡ names_in r ++ (w ∷ []) → r'.count ≡ r.count + 1 → Taken ws n r₀ (i + 1) r'
-    taken-push {r'} g a c = taken_next m h u e q (a ∙ ap (λ (b : Bool). names_in r ++ only b w) (sym (eq-eqb f r.count g))) (omega arith)
+  module _ {w : Name} {b : Bool} (m : n ≡ length ws) (h : i < n) (u : r.count ≡ 13 → ⊥) (e : w ≡ get_or ws i [])
+      (q : b ≡ any (λ j. same_name (get_or (names_in r) j []) w) r.count) where
+    pub taken-push : {r' : Names} → b ≡ false → names_in r' ≡ names_in r ++ (w ∷ []) → r'.count ≡ r.count + 1 → Taken ws n r₀ (i + 1) r'
+    taken-push {r'} g a c = taken_next m h u e q (a ∙ ap (λ (b : Bool). names_in r ++ only b w) (sym (ap not g))) (omega arith)
 
-    pub taken-pass : (f ≡ r.count → ⊥) → Taken ws n r₀ (i + 1) r
-    taken-pass g = taken_next m h u e q (sym (append-nil (names_in r)) ∙ ap (λ (b : Bool). names_in r ++ only b w) (sym (ne_eqb f r.count g))) (omega arith)
+    pub taken-pass : b ≡ true → Taken ws n r₀ (i + 1) r
+    taken-pass g = taken_next m h u e q (sym (append-nil (names_in r)) ∙ ap (λ (b : Bool). names_in r ++ only b w) (sym (ap not g))) (omega arith)
 
   pub taken-full : r.count ≡ 13 → names_in r ≡ take 13 (with_names (names_in r₀) ws)
   taken-full e =

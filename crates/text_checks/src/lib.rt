@@ -16,10 +16,10 @@ ghost use Rattle.text_checks.specs.ValueNames.{value_names, with_names};
 
 use name_lists::Names;
 use text_outlines::{CompleteOutline, Outline};
-use text_parts::Kind;
+use text_parts::{Kind, Side};
 use text_rows::Scanned;
 
-// ---- 24
+// ---- check 24, Undeclared: by the outline for its first 52 declarations, else from row to row. So each test is there for both.
 
 // The declaration at the front of the row is of that kind.
 fn is_kind_in_row(row: &Scanned, kind: Kind) -> bool
@@ -38,7 +38,8 @@ fn is_named_in_row(row: &Scanned, kind: Kind, w: &[u8]) -> bool
     false
 }
 
-// One of the first k declarations is of that kind and has the name w: from row to row.
+// One of the first k declarations is of that kind and has the name w: from row to row. That k rows end is known, so they are counted
+// and each end is unwrapped; a `while let` would count them too, and have an end that is never met.
 fn is_declared_in_rows(body: &[u8], k: usize, kind: Kind, w: &[u8]) -> bool
     requires { k ≤ length (declarations_by body.now) }
     ensures { result ≡ is_declared (of_kind kind) (declarations_by body.now) k w.now }
@@ -65,7 +66,7 @@ fn is_named_in_outline(o: &Outline, j: usize, kind: Kind, w: &[u8]) -> bool
     false
 }
 
-// One of the first k declarations is of that kind and has the name w: by the outline, where it has all.
+// One of the first k declarations is of that kind and has the name w: by the outline, which has these.
 fn is_declared_in_outline(o: &Outline, k: usize, kind: Kind, w: &[u8]) -> bool
     requires { (k ≤ o.now.count) × (k ≤ 52) }
     ensures { result ≡ is_declared (of_kind kind) (declarations_by o.now.body.now) k w.now }
@@ -73,7 +74,8 @@ fn is_declared_in_outline(o: &Outline, k: usize, kind: Kind, w: &[u8]) -> bool
     (0..k).any(|j| is_named_in_outline(o, j, kind, w))
 }
 
-// One of the first k declarations is of that kind and has the name w.
+// One of the first k declarations is of that kind and has the name w. That there are k is asked of each function that is handed an
+// outline and k: the number is that of the loop in `has_unknown`, or the count itself.
 fn is_declared(o: &Outline, k: usize, kind: Kind, w: &[u8]) -> bool
     requires { k ≤ o.now.count }
     ensures { result ≡ is_declared (of_kind kind) (declarations_by o.now.body.now) k w.now }
@@ -117,13 +119,22 @@ fn has_unknown_end(o: &Outline, k: usize, row: &Scanned) -> bool
     ensures { result ≡ has_unknown_end (declarations_by o.now.body.now) k }
 {
     if is_kind_in_row(row, Kind::Associations) {
-        return !is_declared(o, o.count, Kind::Types, text_parts::end_type(row, false))
-            | !is_declared(o, o.count, Kind::Types, text_parts::end_type(row, true));
+        return !is_declared(
+            o,
+            o.count,
+            Kind::Types,
+            text_parts::end_type(row, Side::Left),
+        ) | !is_declared(
+            o,
+            o.count,
+            Kind::Types,
+            text_parts::end_type(row, Side::Right),
+        );
     }
     false
 }
 
-// Some parent or end is not declared as it has to be.
+// Some parent or end is not declared as it has to be. The outline tells how many rows there are; they are read as above.
 pub fn has_unknown(o: &Outline) -> bool
     ensures { result ≡ has_unknown (declarations_by o.now.body.now) }
 {
@@ -138,20 +149,18 @@ pub fn has_unknown(o: &Outline) -> bool
     false
 }
 
-// ---- 4
+// ---- check 4, Count
 
 // How many declarations are of that kind.
 pub fn kind_count(o: &CompleteOutline, kind: Kind) -> usize
     ensures { result ≡ kind_count kind (declarations_by o.now.outline.now.body.now) }
 {
-    let mut count = 0;
-    for k in 0..o.outline.count {
-        count += usize::from(o.outline.is_kind(k, kind));
-    }
-    count
+    (0..o.outline.count)
+        .filter(|k| o.outline.is_kind(*k, kind))
+        .count()
 }
 
-// There are more than 32 attributes.
+// There are more than 32 attributes. No `sum`: that they can be added up is known here only as long as they are few.
 fn has_many_attributes(o: &CompleteOutline) -> bool
     ensures { result ≡ ltb 32 (length (used_types (declarations_by o.now.outline.now.body.now))) }
 {
@@ -185,20 +194,21 @@ pub fn has_many(o: &CompleteOutline) -> bool
         | (has_many_attributes(o) | ((16 < kind_count(o, Kind::Associations)) | has_overlong(o)))
 }
 
-// ---- names
+// ---- names: by loops, which stop where the list has no room for more. That names are short is known from the check of the grammar,
+// not from an outline, so it is asked here.
 
 // The names of the declarations of that kind, in order: the first ones, as many as there is room for.
 fn names_of_kind(o: &CompleteOutline, kind: Kind, most: usize) -> Names
     requires { ShortNames (declarations_by o.now.outline.now.body.now) × (most ≤ 24) }
     ensures { (names_in result ≡ take most (names_of_kind (of_kind kind) (declarations_by o.now.outline.now.body.now))) × (result.count ≤ most) }
 {
-    let mut names = name_lists::no_names();
+    let mut names = Names::none();
     for k in 0..o.outline.count {
         if names.count == most {
             return names;
         }
         if o.outline.is_kind(k, kind) {
-            names = name_lists::push_name(names, o.outline.name(k));
+            names.push(o.outline.name(k));
         }
     }
     names
@@ -223,8 +233,8 @@ fn with_types_of(names: Names, s: &[u8], count: usize) -> Names
             return r;
         }
         let w = text_parts::attribute_type(s, i);
-        if name_lists::find_name(r, w) == r.count {
-            r = name_lists::push_name(r, w);
+        if !r.has(w) {
+            r.push(w);
         }
     }
     r

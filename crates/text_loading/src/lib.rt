@@ -17,15 +17,16 @@ use diagrams::ReadDiagram;
 use fields::Refusal;
 use name_lists::Names;
 use text_outlines::{CompleteOutline, Outline};
+use text_rows::State;
 
 // The diagram of a body that passes these checks, with the names of its value types.
-fn read_declared(o: &CompleteOutline, values: Names) -> Result<ReadDiagram, Refusal>
-    requires { Writable (declarations_by o.now.outline.now.body.now) × (names_in values ≡ value_names (declarations_by o.now.outline.now.body.now)) }
+fn read_declared(o: &CompleteOutline, values: &Names) -> Result<ReadDiagram, Refusal>
+    requires { Writable (declarations_by o.now.outline.now.body.now) × (names_in values.now ≡ value_names (declarations_by o.now.outline.now.body.now)) }
     ensures { Loads (write_diagram (declared (declarations_by o.now.outline.now.body.now))) result }
 {
     let types = text_checks::type_names(o);
     let mut file = [0; 4096];
-    let size = text_writing::put_diagram(&mut file, o, types, values);
+    let size = text_writing::put_diagram(&mut file, o, &types, values);
     loading::read_diagram(&file[..size])
 }
 
@@ -47,7 +48,7 @@ fn read_known(text: &[u8], o: &Outline) -> Result<ReadDiagram, Refusal>
     if 12 < values.count {
         return Err(Refusal::Count);
     }
-    read_declared(&complete, values)
+    read_declared(&complete, &values)
 }
 
 pub fn read_text(text: &[u8]) -> Result<ReadDiagram, Refusal>
@@ -56,7 +57,7 @@ pub fn read_text(text: &[u8]) -> Result<ReadDiagram, Refusal>
     if !text_rows::is_accepted(text) {
         return Err(Refusal::Grammar);
     }
-    let body = text_rows::row_end(text, 0).unwrap();
+    let body = text_rows::row_end(text, State::START).unwrap();
     let o = Outline::new(body);
     if o.forbidden {
         return Err(Refusal::Grammar);

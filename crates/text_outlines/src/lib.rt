@@ -15,7 +15,7 @@ use text_rows::{Scanned, Word};
 
 // Where a declaration starts in the body, what it is, where its name stands in the body, how many parents, attributes and constants
 // it has. An association has no name.
-#[derive(Clone, Copy)]
+#[derive(Clone, Copy, Default)]
 pub(crate) struct Outlined {
     start: usize,
     what: Option<Sort>,
@@ -25,16 +25,8 @@ pub(crate) struct Outlined {
     constants: usize,
 }
 
-const UNOUTLINED: Outlined = Outlined {
-    start: 0,
-    what: None,
-    name: None,
-    parents: 0,
-    attributes: 0,
-    constants: 0,
-};
-
-// A body, how many declarations it has and the first 52 of them, and whether some cardinality is none that 01 allows.
+// A body, how many declarations it has, in all, and the first 52 of them: that many are 12 enumerations, 24 types and 16 associations.
+// Whether some cardinality is none that 01 allows.
 #[derive(Drop)]
 pub struct Outline<'a> {
     pub body: &'a [u8],
@@ -79,7 +71,7 @@ fn read_row(body: &[u8], row: &Scanned) -> Outlined
         start: body.len() - row.rest.len(),
         what: text_parts::what(row),
         name: name_in(body, row),
-        parents: text_parts::superclass_count(row) + text_parts::interface_count(row),
+        parents: text_parts::parent_count(row),
         attributes: text_parts::attribute_count(row),
         constants: text_parts::constant_count(row),
     }
@@ -90,7 +82,7 @@ impl<'a> Outline<'a> {
     pub fn new(body: &'a [u8]) -> Outline<'a>
         ensures { result.body.now ≡ body.now }
     {
-        let mut declarations = [UNOUTLINED; 52];
+        let mut declarations = [Outlined::default(); 52];
         let mut count = 0;
         let mut forbidden = false;
         let mut row = text_rows::scan_row(body);
@@ -110,7 +102,8 @@ impl<'a> Outline<'a> {
         }
     }
 
-    // ---- declaration k
+    // ---- declaration k. That it is there and kept is asked of each, and no part of a type: a caller has both from a loop over the count
+    // of a complete outline, or from a test against 52 where the outline has not all.
 
     // The rest of the text at whose front it stands.
     pub fn declaration(&self, k: usize) -> &'a [u8]

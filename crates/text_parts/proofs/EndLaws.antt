@@ -2,8 +2,9 @@
 -- Assumes nothing.
 use Prim.Native.Nat.{min, ℕ}
 use mathlib.Core.Bool.{Bool, cond, false, not, true}
-use mathlib.Core.List.{List, []}
-use mathlib.Core.Path.{◌≡◌, refl, subst, sym, ◌∙◌}
+use mathlib.Core.List.{List, [], ◌∷◌}
+use mathlib.Core.Path.{◌≡◌, ap, refl, subst, sym, ◌∙◌}
+use native.Mathlib.Omega.{arith}
 use borrow.Author.Rules.{rules}
 use borrow.Author.Tests.{eq-eqb, ne_eqb}
 use lib.Dec.{eqb}
@@ -14,6 +15,11 @@ use Rattle.texts.specs.Table.{declaration_in, end_for, limits_in, passes, role_i
 use Rattle.text_rows.specs.RowAt.{declaration_by, row_at}
 use Rattle.text_parts.specs.Ends.{Capped, capped_upper, end_on, role_given, role_word, role_words, type_words}
 use Rattle.text_parts.specs.declared.Limits.{Limits as CappedLimits}
+use Rattle.text_parts.specs.declared.Side.{Side}
+use Rattle.text_parts.specs.declared.Side.TheVariants.{Left, Right}
+use Rattle.text_rows.specs.Scan.{IsFirst}
+use Rattle.std.specs.Prelude.{Option, None, Some, unwrap_or}
+use Rattle.std.specs.Borrow.{Bor}
 
 -- ---- roles
 
@@ -23,26 +29,26 @@ either-word : (roles : List Name) (type : Name) (none : Bool)
 either-word roles type true = refl
 either-word roles type false = refl
 
-type-is : (right : Bool) (s : List ℕ) → (end_on right (declaration_by s)).type ≡ get_or (type_words right (row_at s)) 0 []
+type-is : (side : Side) (s : List ℕ) → (end_on side (declaration_by s)).type ≡ get_or (type_words side (row_at s)) 0 []
 unfolding declaration_by declaration_in end_for
-type-is true s = refl
-type-is false s = refl
+type-is Left s = refl
+type-is Right s = refl
 
 -- the word that is written, or else the type's name lowered
-pub role-is : (right : Bool) (s : List ℕ) → (end_on right (declaration_by s)).role ≡ cond (role_given right (row_at s)) (role_word right (row_at s)) (lowered (role_word right (row_at s)))
+pub role-is : (side : Side) (s : List ℕ) → (end_on side (declaration_by s)).role ≡ cond (role_given side (row_at s)) (role_word side (row_at s)) (lowered (role_word side (row_at s)))
 unfolding declaration_by declaration_in end_for role_in role_word role_given
-role-is true s = either-word (role_words true (row_at s)) (get_or (type_words true (row_at s)) 0 []) (eqb (length (role_words true (row_at s))) 0)
-role-is false s = either-word (role_words false (row_at s)) (get_or (type_words false (row_at s)) 0 []) (eqb (length (role_words false (row_at s))) 0)
+role-is Right s = either-word (role_words Right (row_at s)) (get_or (type_words Right (row_at s)) 0 []) (eqb (length (role_words Right (row_at s))) 0)
+role-is Left s = either-word (role_words Left (row_at s)) (get_or (type_words Left (row_at s)) 0 []) (eqb (length (role_words Left (row_at s))) 0)
 
 -- as the code tells it
-module _ (right : Bool) (s : List ℕ) where
-  pub role-written : {w : Name} → (length (role_words right (row_at s)) ≡ 0 → ⊥) → w ≡ get_or (role_words right (row_at s)) 0 [] → w ≡ role_word right (row_at s)
+module _ (side : Side) (s : List ℕ) where
+  pub role-written : {w : Name} → (length (role_words side (row_at s)) ≡ 0 → ⊥) → w ≡ get_or (role_words side (row_at s)) 0 [] → w ≡ role_word side (row_at s)
   unfolding role_word role_given
   role-written h e = e ∙ rw (ne_eqb _ 0 h)
 
-  pub role-type : {w : Name} → length (role_words right (row_at s)) ≡ 0 → w ≡ (end_on right (declaration_by s)).type → w ≡ role_word right (row_at s)
+  pub role-type : {w : Name} → length (role_words side (row_at s)) ≡ 0 → w ≡ (end_on side (declaration_by s)).type → w ≡ role_word side (row_at s)
   unfolding role_word role_given
-  role-type h e = e ∙ type-is right s ∙ rw (eq-eqb _ 0 h)
+  role-type h e = e ∙ type-is side s ∙ rw (eq-eqb _ 0 h)
 
 -- ---- limits
 
@@ -70,14 +76,20 @@ module _ (lows : List Name) (dots : Bool) (ups : List Name) {n : ℕ} (count : n
         record { low-is = rw (e, low, first); up_is = rw (e, sym asked ∙ t, ne_eqb (length ups) 0 (λ y. z (many ∙ y)), up, last) }
 
 -- which end they are of
-module _ (s : List ℕ) {right : Bool} {r : CappedLimits} where
-  pub limits-right : right ≡ true → Capped (limits_in (words_for 41 41 41 (row_at s)) (passes 42 (row_at s)) (words_for 43 43 43 (row_at s))) r → Capped (end_on right (declaration_by s)).limits r
+module _ (s : List ℕ) {side : Side} {r : CappedLimits} where
+  pub limits-right : side ≡ Right → Capped (limits_in (words_for 41 41 41 (row_at s)) (passes 42 (row_at s)) (words_for 43 43 43 (row_at s))) r → Capped (end_on side (declaration_by s)).limits r
   unfolding declaration_by declaration_in end_for
-  limits-right t c = subst (λ (b : Bool). Capped (end_on b (declaration_by s)).limits r) (sym t) c
+  limits-right t c = subst (λ (b : Side). Capped (end_on b (declaration_by s)).limits r) (sym t) c
 
-  pub limits-left : right ≡ false → Capped (limits_in (words_for 27 27 27 (row_at s)) (passes 28 (row_at s)) (words_for 29 29 29 (row_at s))) r → Capped (end_on right (declaration_by s)).limits r
+  pub limits-left : side ≡ Left → Capped (limits_in (words_for 27 27 27 (row_at s)) (passes 28 (row_at s)) (words_for 29 29 29 (row_at s))) r → Capped (end_on side (declaration_by s)).limits r
   unfolding declaration_by declaration_in end_for
-  limits-left t c = subst (λ (b : Bool). Capped (end_on b (declaration_by s)).limits r) (sym t) c
+  limits-left t c = subst (λ (b : Side). Capped (end_on b (declaration_by s)).limits r) (sym t) c
+
+-- the type's name, by the first word
+pub type-word : (ws : List Name) (o : Option (Bor (List ℕ))) (d : Bor (List ℕ)) {w : Bor (List ℕ)} → IsFirst ws o → d.now ≡ [] → w ≡ unwrap_or o d → w.now ≡ get_or ws 0 []
+type-word [] None d i f e = ap (λ (b : Bor (List ℕ)). b.now) e ∙ f
+type-word (x ∷ ws) None d i f e = absurd (omega arith)
+type-word ws (Some v) d i f e = ap (λ (b : Bor (List ℕ)). b.now) e ∙ i.1
 
 -- for `search`
 pub ruleset ends = (

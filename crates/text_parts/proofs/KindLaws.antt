@@ -8,7 +8,9 @@ use Rattle.text_parts.specs.declared.Kind.{Kind}
 use Rattle.text_parts.specs.declared.Kind.TheVariants.{Associations, Classes, Enumerations, Interfaces, Types}
 use Rattle.text_parts.specs.declared.Sort.{Sort}
 use Rattle.text_parts.specs.declared.Sort.TheVariants.{AbstractClass, Association, Class, Composition, SingletonClass}
-use Rattle.text_parts.specs.Sort.{kind_test, of_kind, sort_number}
+use Rattle.text_parts.specs.Sort.{kind_test, number_of, of_kind, sort_number}
+use Rattle.std.specs.Prelude.{Option, None, Some}
+use Rattle.std.specs.Option.{MatchOption}
 
 pub kind-of : (k : Kind) (d : Declaration) → kind_test k d.what ≡ of_kind k d
 unfolding is_association is_class is_enumeration is_interface_type is_type
@@ -28,6 +30,11 @@ kind-none Interfaces = refl
 kind-none Types = refl
 kind-none Enumerations = refl
 kind-none Associations = refl
+
+pub kind-asked : (k : Kind) (o : Option Sort) {b : Bool} {P : Sort → Type 0} → MatchOption o (b ≡ false) P → ((x : Sort) → P x → b ≡ kind_test k (sort_number x))
+    → (d : Declaration) → number_of o ≡ d.what → b ≡ of_kind k d
+kind-asked k None m f d q = kind-at k (m ∙ kind-none k) d q
+kind-asked k (Some x) m f d q = kind-at k (f x m) d q
 
 -- ---- classes
 

@@ -9,16 +9,24 @@ ghost use Rattle.texts.specs.Table.{limits_in, passes, words_for};
 ghost use Rattle.texts.specs.TextChecks.{ends_forbidden, limits_forbidden};
 ghost use Rattle.text_rows.specs.Noted.{word_or};
 ghost use Rattle.text_rows.specs.RowAt.{declaration_by, row_at};
-ghost use Rattle.text_parts.specs.Ends.{Capped, IsFirst, end_on, role_word, role_words};
+ghost use Rattle.text_rows.specs.Scan.{IsFirst};
+ghost use Rattle.text_parts.specs.Ends.{Capped, end_on, role_word, role_words};
 ghost use Rattle.text_parts.specs.Sort.{kind_test, number_of, of_kind, sort_number};
 
-use text_rows::{Scanned, Word};
+use text_rows::{Scanned, State, Word};
 
 // The limits of an end, as bytes of the file: above 100 each is 101, and up is 255 where there is no upper limit.
 #[derive(Clone, Copy)]
 pub struct Limits {
     pub low: u8,
     pub up: u8,
+}
+
+// An end of an association.
+#[derive(Clone, Copy)]
+pub enum Side {
+    Left,
+    Right,
 }
 
 // ---- what it is, and its names
@@ -67,94 +75,122 @@ impl Sort {
     }
 }
 
+// By the definition's order; 23 is the class of "composition".
 pub fn what(row: &Scanned) -> Option<Sort>
     ensures { number_of result ≡ (declaration_by row.now.rest.now).what }
 {
-    if row.is_passed(8) {
-        if row.is_passed(4) {
+    if row.is_passed(State::CLASS_NAME) {
+        if row.is_passed(State::STEREOTYPE) {
             return Some(Sort::SingletonClass);
         }
-        if row.is_passed(6) {
+        if row.is_passed(State::MODIFIED) {
             return Some(Sort::AbstractClass);
         }
         return Some(Sort::Class);
     }
-    if row.is_passed(17) {
+    if row.is_passed(State::INTERFACE_NAME) {
         return Some(Sort::Interface);
     }
-    if row.is_passed(21) {
+    if row.is_passed(State::ENUMERATION_NAME) {
         return Some(Sort::Enumeration);
     }
-    match row.class_for(25) {
+    match row.class_for(State::ASSOCIATION) {
         Some(23) => Some(Sort::Composition),
         Some(_) => Some(Sort::Association),
         None => None,
     }
 }
 
-// The number, 7 for none: who writes a declaration's field puts the number of whatever the row is.
+// The number, 7 for none, as in the definition: who writes a declaration's field needs it without asking whether the row is one.
 pub fn number(what: Option<Sort>) -> u8
     ensures { (result ≡ number_of what) × (result ≤ 7) }
 {
-    match what {
-        Some(sort) => sort.number(),
-        None => 7,
-    }
+    what.map_or(7, Sort::number)
 }
 
-// What is this is of that kind.
+// A declaration that is that is of the kind.
 pub fn is_kind(what: Option<Sort>, kind: Kind) -> bool
     ensures { (d : Declaration) → number_of what ≡ d.what → result ≡ of_kind kind d }
 {
-    match what {
-        Some(sort) => sort.is(kind),
-        None => false,
-    }
+    what.is_some_and(|sort| sort.is(kind))
 }
 
 // It has no name, as an association has none.
 pub fn is_nameless(row: &Scanned) -> bool
     ensures { result ≡ true → [] ≡ (declaration_by row.now.rest.now).name }
 {
-    (row.count_for(8) == 0) & ((row.count_for(17) == 0) & (row.count_for(21) == 0))
+    (row.count_for(State::CLASS_NAME) == 0)
+        & ((row.count_for(State::INTERFACE_NAME) == 0)
+            & (row.count_for(State::ENUMERATION_NAME) == 0))
 }
 
 // Where the name of the type or enumeration stands.
 pub fn name_at(s: &[u8]) -> Option<Word>
     ensures { word_or s.now result [] ≡ (declaration_by s.now).name }
 {
-    text_rows::word_at(s, 8, 17, 21, 0)
+    text_rows::word_at(
+        s,
+        State::CLASS_NAME,
+        State::INTERFACE_NAME,
+        State::ENUMERATION_NAME,
+        0,
+    )
 }
 
 // The name of the type or enumeration.
 pub fn name(s: &[u8]) -> &[u8]
     ensures { result.now ≡ (declaration_by s.now).name }
 {
-    text_rows::word_for(s, 8, 17, 21, 0)
+    text_rows::word_for(
+        s,
+        State::CLASS_NAME,
+        State::INTERFACE_NAME,
+        State::ENUMERATION_NAME,
+        0,
+    )
 }
 
 pub fn superclass_count(row: &Scanned) -> usize
     ensures { (result ≡ length (declaration_by row.now.rest.now).superclasses) × (result ≤ length row.now.rest.now) }
 {
-    row.count_for(10)
+    row.count_for(State::SUPERCLASS)
 }
 
 pub fn superclass(s: &[u8], i: usize) -> &[u8]
     ensures { result.now ≡ get_or (declaration_by s.now).superclasses i [] }
 {
-    text_rows::word_for(s, 10, 10, 10, i)
+    text_rows::word_for(
+        s,
+        State::SUPERCLASS,
+        State::SUPERCLASS,
+        State::SUPERCLASS,
+        i,
+    )
 }
 
 pub fn interface_count(row: &Scanned) -> usize
     ensures { (result ≡ length (declaration_by row.now.rest.now).interfaces) × (result ≤ length row.now.rest.now) }
 {
-    row.count_for(12) + row.count_for(19)
+    row.count_for(State::CLASS_INTERFACE) + row.count_for(State::SUPERINTERFACE)
 }
 
 pub fn interface(s: &[u8], i: usize) -> &[u8]
     ensures { result.now ≡ get_or (declaration_by s.now).interfaces i [] }
 {
-    text_rows::word_for(s, 12, 19, 19, i)
+    text_rows::word_for(
+        s,
+        State::CLASS_INTERFACE,
+        State::SUPERINTERFACE,
+        State::SUPERINTERFACE,
+        i,
+    )
+}
+
+// How many superclasses and superinterfaces.
+pub fn parent_count(row: &Scanned) -> usize
+    ensures { result ≡ length (parent_names (declaration_by row.now.rest.now)) }
+{
+    superclass_count(row) + interface_count(row)
 }
 
 // Parent i, the superclasses first.
@@ -171,40 +207,52 @@ pub fn parent<'a>(row: &Scanned<'a>, i: usize) -> &'a [u8]
 pub fn attribute_count(row: &Scanned) -> usize
     ensures { (result ≡ length (declaration_by row.now.rest.now).attribute_types) × (result ≤ length row.now.rest.now) }
 {
-    row.count_for(14)
+    row.count_for(State::ATTRIBUTE_TYPE)
 }
 
 pub fn attribute_type(s: &[u8], i: usize) -> &[u8]
     ensures { result.now ≡ get_or (declaration_by s.now).attribute_types i [] }
 {
-    text_rows::word_for(s, 14, 14, 14, i)
+    text_rows::word_for(
+        s,
+        State::ATTRIBUTE_TYPE,
+        State::ATTRIBUTE_TYPE,
+        State::ATTRIBUTE_TYPE,
+        i,
+    )
 }
 
 pub fn attribute_name(s: &[u8], i: usize) -> &[u8]
     ensures { result.now ≡ get_or (declaration_by s.now).attribute_names i [] }
 {
-    text_rows::word_for(s, 15, 15, 15, i)
+    text_rows::word_for(
+        s,
+        State::ATTRIBUTE_NAME,
+        State::ATTRIBUTE_NAME,
+        State::ATTRIBUTE_NAME,
+        i,
+    )
 }
 
 pub fn constant_count(row: &Scanned) -> usize
     ensures { (result ≡ length (declaration_by row.now.rest.now).constants) × (result ≤ length row.now.rest.now) }
 {
-    row.count_for(23)
+    row.count_for(State::CONSTANT)
 }
 
 pub fn constant(s: &[u8], i: usize) -> &[u8]
     ensures { result.now ≡ get_or (declaration_by s.now).constants i [] }
 {
-    text_rows::word_for(s, 23, 23, 23, i)
+    text_rows::word_for(s, State::CONSTANT, State::CONSTANT, State::CONSTANT, i)
 }
 
 // ---- associations
 
-// The numbers of arrows are the file's; 0 where there is none.
+// The numbers of arrows are the file's; 0 where there is none. The classes, as in the definition, are those of <->, ->, <- and --.
 pub fn arrow(row: &Scanned) -> u8
     ensures { (result ≡ (declaration_by row.now.rest.now).arrow) × (result ≤ 4) }
 {
-    match row.class_for(35) {
+    match row.class_for(State::ARROW) {
         Some(0) => 3,
         Some(1) => 1,
         Some(2) => 2,
@@ -214,52 +262,40 @@ pub fn arrow(row: &Scanned) -> u8
 }
 
 // The type of an end.
-pub fn end_type<'a>(row: &Scanned<'a>, right: bool) -> &'a [u8]
-    ensures { result.now ≡ (end_on right (declaration_by row.now.rest.now)).type }
+pub fn end_type<'a>(row: &Scanned<'a>, side: Side) -> &'a [u8]
+    ensures { result.now ≡ (end_on side (declaration_by row.now.rest.now)).type }
 {
-    if right {
-        return row.first_for(39);
+    match side {
+        Side::Left => row.first_for(State::LEFT_TYPE).unwrap_or(&[]),
+        Side::Right => row.first_for(State::RIGHT_TYPE).unwrap_or(&[]),
     }
-    row.first_for(31)
-}
-
-// The first word of the row that leads to the state q, if one does.
-fn first_word<'a>(row: &Scanned<'a>, q: u8) -> Option<&'a [u8]>
-    requires { q ≤ 46 }
-    ensures { IsFirst (words_for q q q (row_at row.now.rest.now)) result }
-{
-    if row.count_for(q) == 0 {
-        return None;
-    }
-    Some(row.first_for(q))
 }
 
 // The role that is written at the end, if one is.
-pub fn written_role<'a>(row: &Scanned<'a>, right: bool) -> Option<&'a [u8]>
-    ensures { IsFirst (role_words right (row_at row.now.rest.now)) result }
+pub fn written_role<'a>(row: &Scanned<'a>, side: Side) -> Option<&'a [u8]>
+    ensures { IsFirst (role_words side (row_at row.now.rest.now)) result }
 {
-    if right {
-        return first_word(row, 37);
+    match side {
+        Side::Left => row.first_for(State::LEFT_ROLE),
+        Side::Right => row.first_for(State::RIGHT_ROLE),
     }
-    first_word(row, 33)
 }
 
 // The role that is written, or else the type's name.
-pub fn role_word<'a>(row: &Scanned<'a>, right: bool) -> &'a [u8]
-    ensures { result.now ≡ role_word right (row_at row.now.rest.now) }
+pub fn role_word<'a>(row: &Scanned<'a>, side: Side) -> &'a [u8]
+    ensures { result.now ≡ role_word side (row_at row.now.rest.now) }
 {
-    match written_role(row, right) {
+    match written_role(row, side) {
         Some(role) => role,
-        None => end_type(row, right),
+        None => end_type(row, side),
     }
 }
 
 // A digit behind digits of the value v, 101 where the value is above 100.
 fn with_digit(v: u32, b: u8) -> u32
-    requires { v ≤ 101 }
-    ensures { result ≡ min (v * 10 + (b - 48)) 101 }
+    ensures { result ≡ min (min v 101 * 10 + (b - 48)) 101 }
 {
-    let more = v * 10 + u32::from(b.saturating_sub(48));
+    let more = v.min(101) * 10 + u32::from(b.saturating_sub(48));
     more.min(101)
 }
 
@@ -267,26 +303,21 @@ fn with_digit(v: u32, b: u8) -> u32
 fn value_of(w: &[u8]) -> u8
     ensures { result ≡ min (value w.now) 101 }
 {
-    let mut v: u32 = 0;
-    for b in w {
-        v = with_digit(v, *b);
-    }
-    v as u8
+    w.iter().fold(0, |v, b| with_digit(v, *b)) as u8
 }
 
 // The limits of the end whose low integer, ".." and high integer lead to these states.
-fn limits_for(row: &Scanned, low: u8, dots: u8, up: u8) -> Limits
-    requires { (low ≤ 46) × ((dots ≤ 46) × (up ≤ 46)) }
-    ensures { Capped (limits_in (words_for low low low (row_at row.now.rest.now)) (passes dots (row_at row.now.rest.now)) (words_for up up up (row_at row.now.rest.now))) result }
+fn limits_for(row: &Scanned, low: State, dots: State, up: State) -> Limits
+    ensures { Capped (limits_in (words_for low.number low.number low.number (row_at row.now.rest.now)) (passes dots.number (row_at row.now.rest.now)) (words_for up.number up.number up.number (row_at row.now.rest.now))) result }
 {
-    let Some(first) = first_word(row, low) else {
+    let Some(first) = row.first_for(low) else {
         return Limits { low: 0, up: 255 };
     };
     let n = value_of(first);
     if !row.is_passed(dots) {
         return Limits { low: n, up: n };
     }
-    match first_word(row, up) {
+    match row.first_for(up) {
         Some(last) => Limits {
             low: n,
             up: value_of(last),
@@ -295,25 +326,25 @@ fn limits_for(row: &Scanned, low: u8, dots: u8, up: u8) -> Limits
     }
 }
 
-pub fn end_limits(row: &Scanned, right: bool) -> Limits
-    ensures { Capped (end_on right (declaration_by row.now.rest.now)).limits result }
+pub fn end_limits(row: &Scanned, side: Side) -> Limits
+    ensures { Capped (end_on side (declaration_by row.now.rest.now)).limits result }
 {
-    if right {
-        return limits_for(row, 41, 42, 43);
+    match side {
+        Side::Left => limits_for(row, State::LEFT_LOW, State::LEFT_DOTS, State::LEFT_UP),
+        Side::Right => limits_for(row, State::RIGHT_LOW, State::RIGHT_DOTS, State::RIGHT_UP),
     }
-    limits_for(row, 27, 28, 29)
 }
 
 // 01: "Low is 0 to 100; up is 0 to 100 and not below low".
 fn is_forbidden(l: Limits) -> bool
     ensures { (m : FileLimits) → Capped m l → result ≡ limits_forbidden m }
 {
-    (100 < l.low) | ((l.up != 255) & ((100 < l.up) | (l.up < l.low)))
+    !layouts::limits_laid(l.low, l.up)
 }
 
 // A cardinality of it is none that 01 allows.
 pub fn has_forbidden_end(row: &Scanned) -> bool
     ensures { result ≡ ends_forbidden (declaration_by row.now.rest.now) }
 {
-    is_forbidden(end_limits(row, false)) | is_forbidden(end_limits(row, true))
+    is_forbidden(end_limits(row, Side::Left)) | is_forbidden(end_limits(row, Side::Right))
 }

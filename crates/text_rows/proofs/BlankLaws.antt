@@ -57,18 +57,6 @@ unblank-none x s = go (is_blank x)
 
 -- ---- runs
 
--- a letter, as the code tells it, is a name byte
-pub name-letter : (b : ℕ) → leb 65 b && leb b 90 || leb 97 b && leb b 122 ≡ true → true ≡ name_byte b
-unfolding name_byte
-name-letter b t =
-    let u = both (leb 65 b) (leb b 90) in
-    let l = both (leb 97 b) (leb b 122) in
-    let r = either (both (leb 48 b) (leb b 57)) (eqb b 95) in
-    sym
-    (⊎_elim (λ e. either_left u (either l r) (sym (and-is-both (leb 65 b) (leb b 90)) ∙ e))
-    (λ e. either-right u (either l r) (either_left l r (sym (and-is-both (leb 97 b) (leb b 122)) ∙ e)))
-    (or_cases (leb 65 b && leb b 90) (leb 97 b && leb b 122) t))
-
 -- its length, by the first byte
 pub run-stop : (x : ℕ) (s : List ℕ) → name_byte x ≡ false → length (run (x ∷ s)) ≡ 0
 unfolding run

@@ -86,35 +86,35 @@ continues-self q s = record { none = λ h. h; more = λ rs h. h }
 
 module _ {q₀ : ℕ} {s r : List ℕ} {q : ℕ} {p : Passed} (h : Passed_at r q p) (c : Continues q₀ s q r) where
   rows_on : rows_from q (tokens r)
-      ≡ cond (eqb p.state 3) ((symbol p.state (token_at p.start.now) ∷ []) ∷ rows_from p.state (tokens p.after.now)) (onto (symbol p.state (token_at p.start.now)) (rows_from p.state (tokens p.after.now)))
+      ≡ cond (eqb p.state.number 3) ((symbol p.state.number (token_at p.start.now) ∷ []) ∷ rows_from p.state.number (tokens p.after.now)) (onto (symbol p.state.number (token_at p.start.now)) (rows_from p.state.number (tokens p.after.now)))
   unfolding rows_from
   rows_on = rw (tokens-on h, to-next h)
 
   -- the row goes on
-  pub continues-next : (p.state ≡ 3 → ⊥) → Continues q₀ s p.state p.after.now
+  pub continues-next : (p.state.number ≡ 3 → ⊥) → Continues q₀ s p.state.number p.after.now
   continues-next u =
-      let a : rows_from q (tokens r) ≡ onto (symbol p.state (token_at p.start.now)) (rows_from p.state (tokens p.after.now)) = rows_on ∙ rw (ne_eqb p.state 3 u) in
-      let b : row_from q (tokens r) ≡ symbol p.state (token_at p.start.now) ∷ row_from p.state (tokens p.after.now) = row_on h ∙ rw (ne_eqb p.state 3 u) in
+      let a : rows_from q (tokens r) ≡ onto (symbol p.state.number (token_at p.start.now)) (rows_from p.state.number (tokens p.after.now)) = rows_on ∙ rw (ne_eqb p.state.number 3 u) in
+      let b : row_from q (tokens r) ≡ symbol p.state.number (token_at p.start.now) ∷ row_from p.state.number (tokens p.after.now) = row_on h ∙ rw (ne_eqb p.state.number 3 u) in
       record {
-        none = λ e. c.none (a ∙ ap (onto (symbol p.state (token_at p.start.now))) e);
-        more = λ rs e. c.more rs (a ∙ ap (onto (symbol p.state (token_at p.start.now))) e ∙ ap (λ (x : List Symbol). x ∷ rs) (sym b));
+        none = λ e. c.none (a ∙ ap (onto (symbol p.state.number (token_at p.start.now))) e);
+        more = λ rs e. c.more rs (a ∙ ap (onto (symbol p.state.number (token_at p.start.now))) e ∙ ap (λ (x : List Symbol). x ∷ rs) (sym b));
       }
 
   -- the row ends behind the token
-  pub row_ends : p.state ≡ 3 → Behind s r → RowEnd q₀ s p.after.now
+  pub row_ends : p.state.number ≡ 3 → Behind s r → RowEnd q₀ s p.after.now
   row_ends t g =
       let b = (behind-is s r g).0 in
       let d = behind-is s p.after.now (behind-after h g) in
       let l = rest-shorter h in
-      let e : row_from q (tokens r) ≡ symbol p.state (token_at p.start.now) ∷ [] = row_on h ∙ rw (eq-eqb p.state 3 t) in
-      let a : rows_from q (tokens r) ≡ (symbol p.state (token_at p.start.now) ∷ []) ∷ rows_from 3 (tokens p.after.now) = rows_on ∙ rw (eq-eqb p.state 3 t, t) in
+      let e : row_from q (tokens r) ≡ symbol p.state.number (token_at p.start.now) ∷ [] = row_on h ∙ rw (eq-eqb p.state.number 3 t) in
+      let a : rows_from q (tokens r) ≡ (symbol p.state.number (token_at p.start.now) ∷ []) ∷ rows_from 3 (tokens p.after.now) = rows_on ∙ rw (eq-eqb p.state.number 3 t, t) in
       record {
         shorter = omega arith;
         is_end = d.1;
         one_more = c.more (rows_from 3 (tokens p.after.now)) (a ∙ rw e);
       }
 
-  pub ends-some : p.state ≡ 3 → Behind s r → (b : Bor (List ℕ)) → b.now ≡ p.after.now → RowEnds q₀ s (Some b)
+  pub ends-some : p.state.number ≡ 3 → Behind s r → (b : Bor (List ℕ)) → b.now ≡ p.after.now → RowEnds q₀ s (Some b)
   ends-some t g b i =
       record {
         none_left = λ e. cc;

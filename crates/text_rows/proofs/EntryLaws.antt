@@ -1,10 +1,11 @@
 -- What is known of one state, as symbols of a row are passed one by one: what it says with what the symbols that are left say is what
 -- the whole row says.
 -- Assumes nothing.
-use Rattle.std.specs.Prelude.{ℕ, ◌+◌, ◌≤◌, Bool, cond, false, true, List, [], ◌∷◌, ◌≡◌, eqb, drop, get_or, length, take, Option, None, Some, unwrap_or}
+use Rattle.std.specs.Prelude.{ℕ, ◌+◌, ◌≤◌, Bool, cond, false, true, List, [], ◌∷◌, ◌≡◌, eqb, ltb, drop, get_or, length, take, Option, None, Some, unwrap_or}
 use Rattle.std.specs.Bool.{then_some}
-use Rattle.std.specs.Option.{option_or}
+use Rattle.std.specs.Option.{is_some, option_or}
 use Rattle.std.proofs.Common.{◌∙◌, ap, refl, sym, add-zero, arith}
+use borrow.Author.Tests.{lt-ltb}
 use Rattle.laws.specs.Bounded.{one}
 use Rattle.laws.specs.Connective.{either}
 use Rattle.files.specs.Name.{Name}
@@ -19,12 +20,13 @@ pub record Entry (s : List ℕ) (whole left : List Symbol) (x : ℕ) (n : Noted)
   pub class-is : unwrap_or n.class (class_for x left) ≡ class_for x whole
   pub class-small : (c : ℕ) → n.class ≡ Some c → c ≤ 28
   pub count-is : n.count + length (words_for x x x left) ≡ length (words_for x x x whole)
+  pub found-is : is_some n.first ≡ ltb 0 n.count
   pub word-is : word_or s n.first (get_or (words_for x x x left) 0 []) ≡ get_or (words_for x x x whole) 0 []
 
 -- ---- no symbol is passed
 
 pub entry-begin : (s : List ℕ) (whole : List Symbol) (x : ℕ) → Entry s whole whole x unpassed
-entry-begin s whole x = record { class-is = refl; class-small = λ c e. cc; count-is = omega arith; word-is = refl }
+entry-begin s whole x = record { class-is = refl; class-small = λ c e. cc; count-is = omega arith; found-is = refl; word-is = refl }
 
 -- ---- a symbol of another state is passed
 
@@ -43,6 +45,7 @@ module _ {s : List ℕ} {whole left : List Symbol} {x n : ℕ} {t : Token} {m : 
         class-is = ap (λ (k : ℕ). unwrap_or m.class k) (sym c) ∙ e.class-is;
         class-small = e.class-small;
         count-is = ap (λ (ws : List Name). m.count + length ws) (sym w) ∙ e.count-is;
+        found-is = e.found-is;
         word-is = ap (λ (ws : List Name). word_or s m.first (get_or ws 0 [])) (sym w) ∙ e.word-is;
       }
 
@@ -62,6 +65,7 @@ module _ {s : List ℕ} {whole left : List Symbol} {x n k at z : ℕ} {t : Token
         class-is = classes m.class (ap (λ (y : ℕ). unwrap_or m.class y) (sym c) ∙ e.class-is);
         class-small = small m.class e.class-small;
         count-is = counts (is_word_class k) (ap (λ (ws : List Name). m.count + length ws) (sym w) ∙ e.count-is);
+        found-is = found m.first (is_word_class k) e.found-is;
         word-is = words m.first (is_word_class k) (ap (λ (ws : List Name). word_or s m.first (get_or ws 0 [])) (sym w) ∙ e.word-is);
       }
     where
@@ -87,6 +91,13 @@ module _ {s : List ℕ} {whole left : List Symbol} {x n k at z : ℕ} {t : Token
       counts true y = omega arith
       counts false y = omega arith
 
+      found : (o : Option Word) (a : Bool) → is_some o ≡ ltb 0 m.count
+          → is_some (option_or o (then_some a (record { start = at; size = z }))) ≡ ltb 0 (m.count + one a)
+      found None true y = sym (lt-ltb 0 (m.count + 1) (omega arith))
+      found None false y = y ∙ ap (ltb 0) (sym (add-zero m.count))
+      found (Some v) true y = sym (lt-ltb 0 (m.count + 1) (omega arith))
+      found (Some v) false y = y ∙ ap (ltb 0) (sym (add-zero m.count))
+
       words : (o : Option Word) (a : Bool) → word_or s o (get_or (cond a (take z (drop at s) ∷ rest) rest) 0 []) ≡ get_or (words_for x x x whole) 0 []
           → word_or s (option_or o (then_some a (record { start = at; size = z }))) (get_or rest 0 []) ≡ get_or (words_for x x x whole) 0 []
       words None true y = y
@@ -103,6 +114,9 @@ module _ {s : List ℕ} {whole : List Symbol} {x : ℕ} {n : Noted} (e : Entry s
   pub entry-count : n.count ≡ length (words_for x x x whole)
   unfolding words_for
   entry-count = sym (add-zero n.count) ∙ e.count-is
+
+  pub entry-found : is_some n.first ≡ ltb 0 (length (words_for x x x whole))
+  entry-found = e.found-is ∙ ap (ltb 0) entry-count
 
   pub entry-word : word_or s n.first [] ≡ get_or (words_for x x x whole) 0 []
   unfolding words_for

@@ -66,35 +66,35 @@ module _ {r : List ℕ} {q : ℕ} {p : Passed} (h : Passed_at r q p) where
       sym start-tokens ∙ tokens-step p.start.now h.some (unblank-bare r p.start.now h.start-is)
       ∙ rw (h.after-is, h.tells.size_is)
 
-  pub to-next : next q (class_of front) ≡ p.state
+  pub to-next : next q (class_of front) ≡ p.state.number
   to-next = sym (h.state-is ∙ ap (next q) h.tells.class-is)
 
   -- the row's first symbol
-  pub row_on : row_from q (tokens r) ≡ symbol p.state (front) ∷ cond (eqb p.state 3) [] (row_from p.state (tokens p.after.now))
+  pub row_on : row_from q (tokens r) ≡ symbol p.state.number (front) ∷ cond (eqb p.state.number 3) [] (row_from p.state.number (tokens p.after.now))
   unfolding row_from
   row_on = rw (tokens-on, to-next)
 
   -- ---- the words for one of three states
 
-  module _ (a b c : ℕ) {w : Bool} (asked : w ≡ both (is_for p.state a b c) (is_word_class p.front.class)) where
+  module _ (a b c : ℕ) {w : Bool} (asked : w ≡ both (is_for p.state.number a b c) (is_word_class p.front.class)) where
     -- the row behind the token
     abbrev behind : List Symbol
-    behind = cond (eqb p.state 3) [] (row_from p.state (tokens p.after.now))
+    behind = cond (eqb p.state.number 3) [] (row_from p.state.number (tokens p.after.now))
 
-    words-on : words_for a b c (row_from q (tokens r)) ≡ word_if (is_for p.state a b c) (front) (words_for a b c behind)
+    words-on : words_for a b c (row_from q (tokens r)) ≡ word_if (is_for p.state.number a b c) (front) (words_for a b c behind)
     unfolding words_for
     words-on = rw row_on
 
-    asked_is : both (is_for p.state a b c) (is_word_class (class_of (front))) ≡ w
-    asked_is = sym (asked ∙ ap (λ (k : ℕ). both (is_for p.state a b c) (is_word_class k)) h.tells.class-is)
+    asked_is : both (is_for p.state.number a b c) (is_word_class (class_of (front))) ≡ w
+    asked_is = sym (asked ∙ ap (λ (k : ℕ). both (is_for p.state.number a b c) (is_word_class k)) h.tells.class-is)
 
     words-hit : w ≡ true → words_for a b c (row_from q (tokens r)) ≡ take p.front.size p.start.now ∷ words_for a b c behind
     words-hit t =
-        words-on ∙ word-taken (is_for p.state a b c) p.start.now (words_for a b c behind) (asked_is ∙ t)
+        words-on ∙ word-taken (is_for p.state.number a b c) p.start.now (words_for a b c behind) (asked_is ∙ t)
         ∙ ap (λ (k : ℕ). take k p.start.now ∷ words_for a b c behind) (sym h.tells.size_is)
 
     words-miss : w ≡ false → words_for a b c (row_from q (tokens r)) ≡ words_for a b c behind
-    words-miss t = words-on ∙ word-passed (is_for p.state a b c) p.start.now (words_for a b c behind) (asked_is ∙ t)
+    words-miss t = words-on ∙ word-passed (is_for p.state.number a b c) p.start.now (words_for a b c behind) (asked_is ∙ t)
 
     -- which one stands at i
     pub word-here : (i : ℕ) → w && eqb i 0 ≡ true → take p.front.size p.start.now ≡ get_or (words_for a b c (row_from q (tokens r))) i []
@@ -109,31 +109,31 @@ module _ {r : List ℕ} {q : ℕ} {p : Passed} (h : Passed_at r q p) where
           go true t (suc i) e k = let l : j ≡ i = omega arith in rw (words-hit t, l)
           go false t i e k = let l : j ≡ i = omega arith in rw (words-miss t, l)
 
-      pub word_none : p.state ≡ 3 → [] ≡ get_or (words_for a b c (row_from q (tokens r))) i []
+      pub word_none : p.state.number ≡ 3 → [] ≡ get_or (words_for a b c (row_from q (tokens r))) i []
       unfolding words_for
-      word_none t = sym (word_on ∙ rw (eq-eqb p.state 3 t))
+      word_none t = sym (word_on ∙ rw (eq-eqb p.state.number 3 t))
 
-      pub word_next : (p.state ≡ 3 → ⊥) → get_or (words_for a b c (row_from q (tokens r))) i [] ≡ get_or (words_for a b c (row_from p.state (tokens p.after.now))) j []
-      word_next u = word_on ∙ rw (ne_eqb p.state 3 u)
+      pub word_next : (p.state.number ≡ 3 → ⊥) → get_or (words_for a b c (row_from q (tokens r))) i [] ≡ get_or (words_for a b c (row_from p.state.number (tokens p.after.now))) j []
+      word_next u = word_on ∙ rw (ne_eqb p.state.number 3 u)
 
   -- ---- accepted
 
-  module _ {m : Bool} (named : m ≡ is_name_state p.state) where
-    long-is : long_at p.state front ≡ m && ltb 16 p.front.size
-    long-is = long-front p.state p.start.now ∙ rw (named, h.tells.size_is) (sym (and-is-both (is_name_state p.state) (ltb 16 (size front))))
+  module _ {m : Bool} (named : m ≡ is_name_state p.state.number) where
+    long-is : long_at p.state.number front ≡ m && ltb 16 p.front.size
+    long-is = long-front p.state.number p.start.now ∙ rw (named, h.tells.size_is) (sym (and-is-both (is_name_state p.state.number) (ltb 16 (size front))))
 
-    accepted-on : accepted q (tokens r) ≡ both (accepts p.state (tokens p.after.now)) (not (either (m && ltb 16 p.front.size) (has_long_from p.state (tokens p.after.now))))
+    accepted-on : accepted q (tokens r) ≡ both (accepts p.state.number (tokens p.after.now)) (not (either (m && ltb 16 p.front.size) (has_long_from p.state.number (tokens p.after.now))))
     unfolding accepts has_long_from
     accepted-on =
-        let a : accepts q (tokens r) ≡ accepts p.state (tokens p.after.now) = ap (accepts q) tokens-on ∙ ap (λ (k : ℕ). accepts k (tokens p.after.now)) to-next in
-        let l : has_long_from q (tokens r) ≡ either (m && ltb 16 p.front.size) (has_long_from p.state (tokens p.after.now)) = rw (tokens-on, to-next, long-is) in
+        let a : accepts q (tokens r) ≡ accepts p.state.number (tokens p.after.now) = ap (accepts q) tokens-on ∙ ap (λ (k : ℕ). accepts k (tokens p.after.now)) to-next in
+        let l : has_long_from q (tokens r) ≡ either (m && ltb 16 p.front.size) (has_long_from p.state.number (tokens p.after.now)) = rw (tokens-on, to-next, long-is) in
         ap₂ (λ (x y : Bool). both x (not y)) a l
 
     pub accepted-long : m && ltb 16 p.front.size ≡ true → false ≡ accepted q (tokens r)
     unfolding either
-    accepted-long t = sym (accepted-on ∙ rw t (both_false (accepts p.state (tokens p.after.now))))
+    accepted-long t = sym (accepted-on ∙ rw t (both_false (accepts p.state.number (tokens p.after.now))))
 
-    pub accepted-next : m && ltb 16 p.front.size ≡ false → accepted q (tokens r) ≡ accepted p.state (tokens p.after.now)
+    pub accepted-next : m && ltb 16 p.front.size ≡ false → accepted q (tokens r) ≡ accepted p.state.number (tokens p.after.now)
     unfolding either
     accepted-next t = accepted-on ∙ rw t
 

@@ -19,7 +19,7 @@ use Rattle.text_rows.specs.RowAt.{row_at}
 use Rattle.text_rows.specs.Scan.{Scans}
 use Rattle.text_rows.proofs.BoundLaws.{count-bound}
 use Rattle.text_rows.proofs.EndLaws.{Behind, Continues, behind-is, behind-start}
-use Rattle.text_rows.proofs.EntryLaws.{Entry, Stands, entry-begin, entry-class, entry-count, entry_other, entry-own, entry-word}
+use Rattle.text_rows.proofs.EntryLaws.{Entry, Stands, entry-begin, entry-class, entry-count, entry-found, entry_other, entry-own, entry-word}
 use Rattle.text_rows.proofs.RowLaws.{row-none, row_on}
 use Rattle.text_rows.proofs.TokenLaws.{word-passed, word-taken}
 
@@ -52,6 +52,7 @@ scanned-all c =
       class-is = λ x h. entry-class (c.entry x h);
       class-small = λ x h. (c.entry x h).class-small;
       count-is = λ x h. entry-count (c.entry x h);
+      found-is = λ x h. entry-found (c.entry x h);
       word-is = λ x h. entry-word (c.entry x h);
     }
 
@@ -104,21 +105,21 @@ module _ {s : List ℕ} {states : List Noted} {r : List ℕ} {q : ℕ} {p : Pass
   stands : Stands s (token_at p.start.now) p.front.class (length s - length p.start.now) p.front.size
   stands = record { class-is = h.tells.class-is; class-small = h.tells.class-small; word-is = front-word }
 
-  here : ScannedTo s states (symbol p.state (token_at p.start.now) ∷ cond (eqb p.state 3) [] (row_from p.state (tokens p.after.now)))
+  here : ScannedTo s states (symbol p.state.number (token_at p.start.now) ∷ cond (eqb p.state.number 3) [] (row_from p.state.number (tokens p.after.now)))
   here = subst (ScannedTo s states) (row_on h) c
 
-  pub scanned-room : (get_or states p.state unpassed).count + one (is_word_class p.front.class) ≤ length s
-  scanned-room = scanned-count h.state-small here stands
+  pub scanned-room : (get_or states p.state.number unpassed).count + one (is_word_class p.front.class) ≤ length s
+  scanned-room = scanned-count p.state.in_table here stands
 
-  module _ {states' : List Noted} (is : states' ≡ set states p.state (noted (get_or states p.state unpassed) p.front.class (length s - length p.start.now) p.front.size)) where
-    behind-it : ScannedTo s states' (cond (eqb p.state 3) [] (row_from p.state (tokens p.after.now)))
-    behind-it = rw is (scanned-on h.state-small here stands)
+  module _ {states' : List Noted} (is : states' ≡ set states p.state.number (noted (get_or states p.state.number unpassed) p.front.class (length s - length p.start.now) p.front.size)) where
+    behind-it : ScannedTo s states' (cond (eqb p.state.number 3) [] (row_from p.state.number (tokens p.after.now)))
+    behind-it = rw is (scanned-on p.state.in_table here stands)
 
-    pub scanned-stop : p.state ≡ 3 → Scans s states'
-    scanned-stop t = scanned-all (subst (ScannedTo s states') (rw (eq-eqb p.state 3 t)) behind-it)
+    pub scanned-stop : p.state.number ≡ 3 → Scans s states'
+    scanned-stop t = scanned-all (subst (ScannedTo s states') (rw (eq-eqb p.state.number 3 t)) behind-it)
 
-    pub scanned-next : (p.state ≡ 3 → ⊥) → ScannedTo s states' (row_from p.state (tokens p.after.now))
-    scanned-next u = subst (ScannedTo s states') (rw (ne_eqb p.state 3 u)) behind-it
+    pub scanned-next : (p.state.number ≡ 3 → ⊥) → ScannedTo s states' (row_from p.state.number (tokens p.after.now))
+    scanned-next u = subst (ScannedTo s states') (rw (ne_eqb p.state.number 3 u)) behind-it
 
 -- ---- the loop
 

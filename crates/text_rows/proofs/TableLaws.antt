@@ -1,18 +1,19 @@
 -- The code's tables of states are the document's: by class, where the document's is by state. The statements over all states and
 -- classes are computed.
 -- Assumes nothing.
-use Prim.Native.Nat.{ℕ, ◌<◌, ◌≤◌}
+use Prim.Native.Nat.{ℕ, suc, zero, ◌<◌, ◌≤◌}
 use native.Mathlib.Omega.{arith}
 use mathlib.Core.Bool.{Bool, ◌&&◌, cond, not, false, true}
-use mathlib.Core.List.{List, [], ◌∷◌, map}
+use mathlib.Core.List.{List, [], ◌∷◌, ◌++◌, map}
+use mathlib.Core.Logic.{◌⊎◌, ⊎_elim, inl, inr}
 use mathlib.Core.Path.{◌≡◌, ◌∙◌, ap, refl, sym}
 use lib.Dec.{eqb, leb, ltb}
 use lib.ListN.{get_or, length}
-use borrow.Author.Tests.{eqb-true, leb-true, ltb-true, not-true}
+use borrow.Author.Tests.{eqb-true, le-ltb, leb-true, ltb-true, ne_eqb, not-true}
 use Rattle.laws.specs.Bounded.{all, any}
 use Rattle.laws.specs.Connective.{either}
 use Rattle.laws.proofs.BoundedLaws.{all-at}
-use Rattle.laws.proofs.ConnectiveLaws.{and_left, and_right}
+use Rattle.laws.proofs.ConnectiveLaws.{and_left, and_right, true-false}
 use Rattle.texts.specs.Table.{is_name_state, lookup, next}
 use Rattle.text_rows.proofs.AmongLaws.{Among, Apart, alone, among, among_any, each, each_at, excluded}
 
@@ -124,16 +125,59 @@ module _ {q c : ℕ} (h : q ≤ 46) (k : ℕ) (e : c ≡ k) where
     pub as-name : {r : ℕ} → elsewhere k q ≡ next q 27 → (r ≡ next q 27) × (r ≤ 46) → (r ≡ next q c) × (r ≤ 46)
     as-name f n = (n.0 ∙ sym f ∙ other, n.1)
 
-all-classes : all (λ c. either (among_any c (alone 0 28)) (eqb c 28)) 29 ≡ true
+-- the arms of one class each, as the code has them
+abbrev pub singles : List (List ℕ)
+singles = alone 4 18 ++ alone 24 4
+
+-- the classes of the two arms of more than one
+abbrev arms_left : ℕ → Bool
+arms_left c = either (ltb c 4) (either (either (eqb c 22) (eqb c 23)) (eqb c 28))
+
+all-classes : all (λ c. either (among_any c singles) (arms_left c)) 29 ≡ true
 unfolding all among_any among either
 all-classes = refl
 
+one_of : (a b d : Bool) → d ≡ false → either (either a b) d ≡ true → (a ≡ true) ⊎ (b ≡ true)
+unfolding either
+one_of true b d f e = inl refl
+one_of false true d f e = inr refl
+one_of false false d f e = absurd (true-false e f)
+
+the_last : (a b d : Bool) → a ≡ false → b ≡ false → either (either a b) d ≡ true → d ≡ true
+unfolding either
+the_last true b d f g e = absurd (true-false refl f)
+the_last false true d f g e = absurd (true-false refl g)
+the_last false false d f g e = e
+
+module _ {c : ℕ} (l : c ≤ 28) (a : Apart Unit c singles) (h : 4 ≤ c) where
+  left : either (either (eqb c 22) (eqb c 23)) (eqb c 28) ≡ true
+  unfolding either
+  left =
+      let b : c < 29 = omega arith in
+      ap (λ (x : Bool). either x (either (either (eqb c 22) (eqb c 23)) (eqb c 28))) (sym (le-ltb c 4 h)) ∙ excluded 29 singles arms_left all-classes c b a
+
+  pub associations : c < 24 → Among c (22 ∷ 23 ∷ [])
+  associations m =
+      ⊎_elim (λ e. inl (eqb-true c 22 e)) (λ e. inr (eqb-true c 23 e))
+      (one_of (eqb c 22) (eqb c 23) (eqb c 28) (ne_eqb c 28 (λ q. absurd (omega arith))) left)
+
+  strays : 24 ≤ c → eqb c 28 ≡ true
+  strays m =
+      the_last (eqb c 22) (eqb c 23) (eqb c 28) (ne_eqb c 22 (λ q. absurd (omega arith))) (ne_eqb c 23 (λ q. absurd (omega arith))) left
+
+pub arrows : (c : ℕ) → c < 4 → Among c (0 ∷ 1 ∷ 2 ∷ 3 ∷ [])
+arrows zero h = inl refl
+arrows (suc zero) h = inr (inl refl)
+arrows (suc (suc zero)) h = inr (inr (inl refl))
+arrows (suc (suc (suc zero))) h = inr (inr (inr refl))
+arrows (suc (suc (suc (suc c)))) h = absurd (omega arith)
+
 -- the last arm of the outer match
-pub stray : {q c : ℕ} → q ≤ 46 → c ≤ 28 → Apart Unit c (alone 0 28) → (46 ≡ next q c) × (46 ≤ 46)
-stray {q} {c} h l a =
-    let b : c < 29 = omega arith in
+pub stray : {q c : ℕ} → q ≤ 46 → c ≤ 28 → Apart Unit c singles → 24 ≤ c → (46 ≡ next q c) × (46 ≤ 46)
+stray {q} {c} h l a m =
     let d : q < 47 = omega arith in
-    let e = eqb-true c 28 (excluded 29 (alone 0 28) (λ c. eqb c 28) all-classes c b a) in
+    let n : 4 ≤ c = omega arith in
+    let e = eqb-true c 28 (strays l a n m) in
     (eqb-true 46 (next q 28) (all-at (λ q. eqb 46 (next q 28)) 47 all-stray q d) ∙ ap (next q) (sym e), omega arith)
 
 -- ---- the states that a name leads to, as the code has them

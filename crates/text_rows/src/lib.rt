@@ -7,13 +7,15 @@ ghost use Rattle.laws.specs.Connective.{both, either};
 ghost use Rattle.texts.specs.Token.{tokens};
 ghost use Rattle.texts.specs.Table.{accepts, class_for, has_long_from, passes, words_for};
 ghost use Rattle.text_rows.specs.RowAt.{RowEnds, row_at};
-ghost use Rattle.text_rows.specs.Scan.{Scans};
+ghost use Rattle.text_rows.specs.Scan.{IsFirst, Scans};
 ghost use Rattle.text_rows.specs.Noted.{is_word_class, noted, word_or};
 ghost use Rattle.text_rows.specs.Passes.{Passes};
 
+mod states; // states.rt: the states of the table
 mod table; // table.rt: the state that a token leads to
 mod tokens; // tokens.rt: the word or mark at the front
 
+pub use states::State;
 use tokens::Front;
 
 // ---- words
@@ -42,14 +44,13 @@ pub fn word_of(s: &[u8], word: Option<Word>) -> &[u8]
 pub(crate) struct Passed<'a> {
     start: &'a [u8],
     front: Front,
-    state: u8,
+    state: State,
     after: &'a [u8],
 }
 
 // The token that comes next in the state q, behind the blanks at the front, if there is one.
-fn next_token(s: &[u8], q: u8) -> Option<Passed<'_>>
-    requires { q ≤ 46 }
-    ensures { Passes s.now q result }
+fn next_token(s: &[u8], q: State) -> Option<Passed<'_>>
+    ensures { Passes s.now q.number result }
 {
     let start = tokens::unblanked(s);
     if start.is_empty() {
@@ -59,7 +60,9 @@ fn next_token(s: &[u8], q: u8) -> Option<Passed<'_>>
     Some(Passed {
         start,
         front,
-        state: table::next_state(q, front.class),
+        state: State {
+            number: table::next_state(q.number, front.class),
+        },
         after: laws::past(start, front.size),
     })
 }
@@ -69,26 +72,25 @@ pub fn is_accepted(text: &[u8]) -> bool
     ensures { result ≡ both (accepts 0 (tokens text.now)) (not (has_long_from 0 (tokens text.now))) }
 {
     let mut rest = text;
-    let mut q: u8 = 0;
+    let mut q = State::START;
     while let Some(token) = next_token(rest, q) {
-        if table::is_name_state(token.state) & (16 < token.front.size) {
+        if table::is_name_state(token.state.number) & (16 < token.front.size) {
             return false;
         }
         rest = token.after;
         q = token.state;
     }
-    q == 45
+    q.number == State::END.number
 }
 
-// What stands behind the row from state q: behind the token that leads to state 3, if one does.
-pub fn row_end(s: &[u8], q: u8) -> Option<&[u8]>
-    requires { q ≤ 46 }
-    ensures { RowEnds q s.now result }
+// What stands behind the row from state q: behind the token that leads between declarations, if one does.
+pub fn row_end(s: &[u8], q: State) -> Option<&[u8]>
+    ensures { RowEnds q.number s.now result }
 {
     let mut rest = s;
     let mut state = q;
     while let Some(token) = next_token(rest, state) {
-        if token.state == 3 {
+        if token.state.number == State::BETWEEN.number {
             return Some(token.after);
         }
         rest = token.after;
@@ -100,19 +102,12 @@ pub fn row_end(s: &[u8], q: u8) -> Option<&[u8]>
 // ---- what one walk over a row tells of each state
 
 // Of the tokens that lead to a state the class of the first, how many are words, and the first of these.
-#[derive(Clone, Copy)]
+#[derive(Clone, Copy, Default)]
 pub(crate) struct Noted {
     class: Option<u8>,
     count: usize,
     first: Option<Word>,
 }
-
-// No token leads there.
-const UNPASSED: Noted = Noted {
-    class: None,
-    count: 0,
-    first: None,
-};
 
 // A token of that class is a word.
 fn is_word_class(class: u8) -> bool
@@ -150,14 +145,14 @@ pub struct Scanned<'a> {
 pub fn scan_row<'a>(s: &'a [u8]) -> Scanned<'a>
     ensures { result.rest.now ≡ s.now }
 {
-    let mut states = [UNPASSED; 47];
+    let mut states = [Noted::default(); 47];
     let mut rest = s;
-    let mut state: u8 = 3;
+    let mut state = State::BETWEEN;
     while let Some(token) = next_token(rest, state) {
         let at = s.len() - token.start.len();
-        let k = usize::from(token.state);
+        let k = usize::from(token.state.number);
         states[k] = states[k].with_token(token.front.class, at, token.front.size);
-        if token.state == 3 {
+        if token.state.number == State::BETWEEN.number {
             return Scanned {
                 rest: s,
                 states,
@@ -183,54 +178,51 @@ impl<'a> Scanned<'a> {
     }
 
     // The class of the first token of the row that leads to the state q.
-    pub fn class_for(&self, q: u8) -> Option<u8>
-        requires { q ≤ 46 }
-        ensures { (unwrap_or result 29 ≡ class_for q (row_at self.now.rest.now)) × ((c : ℕ) → result ≡ Some c → c ≤ 28) }
+    pub fn class_for(&self, q: State) -> Option<u8>
+        ensures { (unwrap_or result 29 ≡ class_for q.number (row_at self.now.rest.now)) × ((c : ℕ) → result ≡ Some c → c ≤ 28) }
     {
-        self.states[usize::from(q)].class
+        self.states[usize::from(q.number)].class
     }
 
     // Some token of the row leads to q.
-    pub fn is_passed(&self, q: u8) -> bool
-        requires { q ≤ 46 }
-        ensures { result ≡ passes q (row_at self.now.rest.now) }
+    pub fn is_passed(&self, q: State) -> bool
+        ensures { result ≡ passes q.number (row_at self.now.rest.now) }
     {
-        let class = self.states[usize::from(q)].class;
-        class.is_some()
+        self.class_for(q).is_some()
     }
 
     // How many words of the row lead to q.
-    pub fn count_for(&self, q: u8) -> usize
-        requires { q ≤ 46 }
-        ensures { (result ≡ length (words_for q q q (row_at self.now.rest.now))) × (result ≤ length self.now.rest.now) }
+    pub fn count_for(&self, q: State) -> usize
+        ensures { (result ≡ length (words_for q.number q.number q.number (row_at self.now.rest.now))) × (result ≤ length self.now.rest.now) }
     {
-        self.states[usize::from(q)].count
+        self.states[usize::from(q.number)].count
     }
 
-    // The first of these; no bytes where there is none.
-    pub fn first_for(&self, q: u8) -> &'a [u8]
-        requires { q ≤ 46 }
-        ensures { result.now ≡ get_or (words_for q q q (row_at self.now.rest.now)) 0 [] }
+    // The first of these, if there is one.
+    pub fn first_for(&self, q: State) -> Option<&'a [u8]>
+        ensures { IsFirst (words_for q.number q.number q.number (row_at self.now.rest.now)) result }
     {
-        word_of(self.rest, self.states[usize::from(q)].first)
+        let first = self.states[usize::from(q.number)].first?;
+        Some(laws::front(laws::past(self.rest, first.start), first.size))
     }
 }
 
-// ---- words for one of three states
+// ---- words for one of three states: that many, since the definition, `words_for`, has three
 
 // A token of that class, which leads to q, is a word for one of three states.
-fn is_wanted(q: u8, class: u8, a: u8, b: u8, c: u8) -> bool
-    ensures { result ≡ both (either (eqb q a) (either (eqb q b) (eqb q c))) (is_word_class class) }
+fn is_wanted(q: State, class: u8, a: State, b: State, c: State) -> bool
+    ensures { result ≡ both (either (eqb q.number a.number) (either (eqb q.number b.number) (eqb q.number c.number))) (is_word_class class) }
 {
-    ((q == a) | ((q == b) | (q == c))) & is_word_class(class)
+    ((q.number == a.number) | ((q.number == b.number) | (q.number == c.number)))
+        & is_word_class(class)
 }
 
 // Where word i of those that lead to one of three states stands, if there is one.
-pub fn word_at(s: &[u8], a: u8, b: u8, c: u8, i: usize) -> Option<Word>
-    ensures { word_or s.now result [] ≡ get_or (words_for a b c (row_at s.now)) i [] }
+pub fn word_at(s: &[u8], a: State, b: State, c: State, i: usize) -> Option<Word>
+    ensures { word_or s.now result [] ≡ get_or (words_for a.number b.number c.number (row_at s.now)) i [] }
 {
     let mut rest = s;
-    let mut state: u8 = 3;
+    let mut state = State::BETWEEN;
     let mut left = i;
     while let Some(token) = next_token(rest, state) {
         let wanted = is_wanted(token.state, token.front.class, a, b, c);
@@ -241,7 +233,7 @@ pub fn word_at(s: &[u8], a: u8, b: u8, c: u8, i: usize) -> Option<Word>
             });
         }
         left = left.saturating_sub(usize::from(wanted));
-        if token.state == 3 {
+        if token.state.number == State::BETWEEN.number {
             return None;
         }
         rest = token.after;
@@ -251,8 +243,8 @@ pub fn word_at(s: &[u8], a: u8, b: u8, c: u8, i: usize) -> Option<Word>
 }
 
 // That word; no bytes where there is none.
-pub fn word_for(s: &[u8], a: u8, b: u8, c: u8, i: usize) -> &[u8]
-    ensures { result.now ≡ get_or (words_for a b c (row_at s.now)) i [] }
+pub fn word_for(s: &[u8], a: State, b: State, c: State, i: usize) -> &[u8]
+    ensures { result.now ≡ get_or (words_for a.number b.number c.number (row_at s.now)) i [] }
 {
     word_of(s, word_at(s, a, b, c, i))
 }

@@ -32,23 +32,8 @@ pub(crate) fn next_state(q: u8, c: u8) -> u8
     ensures { (result ≡ next q c) × (result ≤ 46) }
 {
     match c {
-        // <->
-        0 => match q {
-            31 | 34 => 35,
-            _ => 46,
-        },
-        // ->
-        1 => match q {
-            31 | 34 => 35,
-            _ => 46,
-        },
-        // <-
-        2 => match q {
-            31 | 34 => 35,
-            _ => 46,
-        },
-        // --
-        3 => match q {
+        // <-> -> <- --
+        0..=3 => match q {
             31 | 34 => 35,
             _ => 46,
         },
@@ -157,13 +142,8 @@ pub(crate) fn next_state(q: u8, c: u8) -> u8
             3 => 20,
             _ => 46,
         },
-        // association
-        22 => match q {
-            3 => 25,
-            _ => 46,
-        },
-        // composition
-        23 => match q {
+        // association, composition
+        22..=23 => match q {
             3 => 25,
             _ => 46,
         },
@@ -191,7 +171,7 @@ pub(crate) fn next_state(q: u8, c: u8) -> u8
     }
 }
 
-// A name leads to q.
+// A name leads to q. Two arms, and no `matches!`: that makes a range of 14 and 15, and its proof a case for each state.
 pub(crate) fn is_name_state(q: u8) -> bool
     ensures { result ≡ is_name_state q }
 {

@@ -5,20 +5,23 @@ ghost use Rattle.files.specs.Name.{name_byte};
 ghost use Rattle.texts.specs.Token.{is_blank, is_integer, mark_at, marks, run, same_word, word_class};
 ghost use Rattle.text_rows.specs.Front.{Fronts, NoOther, known_words, unblank};
 
-// Its class, and of how many bytes it is. Classes and states are numbers: the table of the grammar goes by them.
+// Its class, and of how many bytes it is. A class is a number, as in the definition: of the 29 the table has most in equal steps, and an
+// enum would name each once more beside that definition.
 #[derive(Clone, Copy)]
 pub(crate) struct Front {
     pub class: u8,
     pub size: usize,
 }
 
-// One answer where byte i is b, another where it is not.
+// One answer where byte i is b, another where it is not. What it says is one equation, also past the end, and the laws of the marks
+// take it; a pattern of a slice would tell the lengths apart in each arm.
 fn by_byte(s: &[u8], i: usize, b: u8, yes: Option<u8>, no: Option<u8>) -> Option<u8>
     ensures { result ≡ cond (eqb b (get_or s.now i 0)) yes no }
 {
     if b == laws::byte(s, i) { yes } else { no }
 }
 
+// By `|`, nested as in the definition, so that the code is that definition.
 fn is_blank(b: u8) -> bool
     ensures { result ≡ is_blank b }
 {
@@ -33,18 +36,13 @@ pub(crate) fn unblanked(s: &[u8]) -> &[u8]
     laws::past(s, blanks)
 }
 
-// A byte of a name. Most are letters, and these are told first.
-fn is_name_byte(b: u8) -> bool
-    ensures { result ≡ name_byte b }
-{
-    b.is_ascii_alphabetic() || fields::name_byte(b)
-}
-
 // The length of the longest run of name bytes at the front.
 fn run_size(s: &[u8]) -> usize
     ensures { result ≡ length (run s.now) }
 {
-    s.iter().position(|b| !is_name_byte(*b)).unwrap_or(s.len())
+    s.iter()
+        .position(|b| !fields::name_byte(*b))
+        .unwrap_or(s.len())
 }
 
 // ---- words
@@ -66,7 +64,7 @@ fn candidate(w: &[u8]) -> Option<u8>
     }
 }
 
-// w is known word k.
+// w is known word k. Ten arms, and no table: what an element of a constant array of slices holds is not known in a proof.
 fn is_word(k: u8, w: &[u8]) -> bool
     requires { k ≤ 10 }
     ensures { result ≡ both (ltb k 10) (same_word (get_or known_words k []) w.now) }

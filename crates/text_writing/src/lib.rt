@@ -24,11 +24,11 @@ use text_parts::Kind;
 #[derive(Drop)]
 struct Named<'a> {
     outline: &'a Outline<'a>,
-    types: Names,
-    values: Names,
+    types: &'a Names,
+    values: &'a Names,
     ghost writable: { WritableBody outline.now.body.now outline.now.count },
-    ghost types_named: { names_in types ≡ names_of_kind is_type (declarations_by outline.now.body.now) },
-    ghost values_named: { names_in values ≡ value_names (declarations_by outline.now.body.now) },
+    ghost types_named: { names_in types.now ≡ names_of_kind is_type (declarations_by outline.now.body.now) },
+    ghost values_named: { names_in values.now ≡ value_names (declarations_by outline.now.body.now) },
 }
 
 // ---- plain types
@@ -38,8 +38,7 @@ fn put_plain_at(out: &mut [u8], values: &Names, i: usize) -> usize
     requires { (i < values.now.count) × (160 ≤ length out.old) }
     ensures { Put (field 0x20 (value_type_bytes (plain_of (get_or (names_in values.now) i [])))) out.old result out.new }
 {
-    let names = values.names;
-    text_fields::put_plain_type(out, fields::slot_name(&names, field_writers::narrow(i)))
+    text_fields::put_plain_type(out, fields::slot_name(&values.names, i as u8))
 }
 
 // The value types from number e on.
@@ -56,7 +55,8 @@ fn put_plain_types(out: &mut [u8], values: &Names, e: usize) -> usize
 }
 
 impl Named<'_> {
-    // ---- declaration k
+    // ---- declaration k. Its index and that of the type that it may declare are the loops' own; as a struct of both each loop would
+    // make one a turn, and take it apart here.
 
     // The index of the type that comes behind declaration k, where that of the type that it may declare is own.
     fn index_behind(&self, k: usize, own: usize) -> usize
@@ -66,7 +66,7 @@ impl Named<'_> {
         own + usize::from(self.outline.is_kind(k, Kind::Types))
     }
 
-    // The field of an enumeration, or nothing.
+    // The field of an enumeration, or 0 bytes.
     fn put_enumeration_at(&self, out: &mut [u8], k: usize) -> usize
         requires { (k < self.now.outline.now.count) × (160 ≤ length out.old) }
         ensures { Put (enumeration_piece (declarations_by self.now.outline.now.body.now) k) out.old result out.new }
@@ -77,7 +77,7 @@ impl Named<'_> {
         0
     }
 
-    // The field of the type with the index own, or nothing.
+    // The field of the type with the index own, or 0 bytes.
     fn put_type_at(&self, out: &mut [u8], k: usize, own: usize) -> usize
         requires { (k < self.now.outline.now.count) × ((own ≡ types_before (declarations_by self.now.outline.now.body.now) k) × (160 ≤ length out.old)) }
         ensures { Put (type_piece (declarations_by self.now.outline.now.body.now) k) out.old result out.new }
@@ -99,7 +99,7 @@ impl Named<'_> {
         0
     }
 
-    // The field of an association, or nothing.
+    // The field of an association, or 0 bytes.
     fn put_association_at(&self, out: &mut [u8], k: usize) -> usize
         requires { (k < self.now.outline.now.count) × (160 ≤ length out.old) }
         ensures { Put (association_piece (declarations_by self.now.outline.now.body.now) k) out.old result out.new }
@@ -110,7 +110,8 @@ impl Named<'_> {
         0
     }
 
-    // ---- all of them: a loop for each tag, since the piece that it puts stands in what it keeps
+    // ---- all of them, tag by tag: what a loop has put is stated by the piece of its tag, so one function for all would have to be handed
+    // that piece and the writer as a closure, and two of the loops count types besides
 
     fn put_enumerations(&self, out: &mut [u8]) -> usize
         requires { length (joined (enumeration_piece (declarations_by self.now.outline.now.body.now)) (length (declarations_by self.now.outline.now.body.now))) + 160 ≤ length out.old }
@@ -128,12 +129,13 @@ impl Named<'_> {
         requires { length (value_types_part (declarations_by self.now.outline.now.body.now)) + 160 ≤ length out.old }
         ensures { Put (value_types_part (declarations_by self.now.outline.now.body.now)) out.old result out.new }
     {
+        // For the count alone; all else here reads the outline itself.
         let complete = CompleteOutline {
             outline: self.outline,
         };
         let count = text_checks::kind_count(&complete, Kind::Enumerations);
         let a = self.put_enumerations(out);
-        a + put_plain_types(&mut out[a..], &self.values, count)
+        a + put_plain_types(&mut out[a..], self.values, count)
     }
 
     fn put_types(&self, out: &mut [u8]) -> usize
@@ -201,8 +203,8 @@ impl Named<'_> {
 }
 
 // The whole file.
-pub fn put_diagram(out: &mut [u8], o: &CompleteOutline, types: Names, values: Names) -> usize
-    requires { Writable (declarations_by o.now.outline.now.body.now) × ((names_in types ≡ names_of_kind is_type (declarations_by o.now.outline.now.body.now)) × ((names_in values ≡ value_names (declarations_by o.now.outline.now.body.now)) × (4096 ≤ length out.old))) }
+pub fn put_diagram(out: &mut [u8], o: &CompleteOutline, types: &Names, values: &Names) -> usize
+    requires { Writable (declarations_by o.now.outline.now.body.now) × ((names_in types.now ≡ names_of_kind is_type (declarations_by o.now.outline.now.body.now)) × ((names_in values.now ≡ value_names (declarations_by o.now.outline.now.body.now)) × (4096 ≤ length out.old))) }
     ensures { (result ≤ 3936) × Put (write_diagram (declared (declarations_by o.now.outline.now.body.now))) out.old result out.new }
 {
     field_writers::put_head(out, 0x10, 1, 1);

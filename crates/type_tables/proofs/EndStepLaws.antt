@@ -1,26 +1,14 @@
--- The ways out of the functions on ends and sets, one law for each, with the facts as the code has them.
+-- The ways out of the functions on ends, one law for each, with the facts as the code has them.
 -- Assumes nothing.
-use Prim.Native.Nat.{◌%◌, ◌/◌, ◌<◌, ◌≤◌, ℕ}
+use Prim.Native.Nat.{◌%◌, ◌/◌, ℕ}
 use mathlib.Core.Bool.{Bool}
 use mathlib.Core.List.{List}
 use mathlib.Core.Path.{◌∙◌, ◌≡◌, ap, sym}
 use lib.ListN.{get_or}
-use borrow.Author.Tests.{eq-eqb, le-ltb, lt-ltb, ne_eqb}
+use borrow.Author.Tests.{eq-eqb, ne_eqb}
 use Rattle.laws.proofs.ListLaws.{read_at}
 use Rattle.rules.specs.Arrow.{carries_left, carries_right}
-use Rattle.type_tables.specs.RowsIn.{carried_in, set_of}
-
--- ---- sets of a table
-
-pub set-inside : (table : List ℕ) (x : ℕ) {i : ℕ} → i ≡ x → i < 24 → get_or table i 0 ≡ set_of table x
-unfolding set_of
-set-inside table x {i} e l = rw (sym e, lt-ltb i 24 l)
-
-pub set-outside : (table : List ℕ) (x : ℕ) {i : ℕ} → i ≡ x → 24 ≤ i → 0 ≡ set_of table x
-unfolding set_of
-set-outside table x {i} e l = rw (sym e, le-ltb i 24 l)
-
--- ---- arrows
+use Rattle.type_tables.specs.RowsIn.{carried_in}
 
 pub carried-left : (arrows : List ℕ) (e : ℕ) {w b : ℕ} {r : Bool} → w ≡ e / 2 → b ≡ get_or arrows w 0 → e % 2 ≡ 0 → r ≡ carries_left b → r ≡ carried_in arrows e
 unfolding carried_in
@@ -31,4 +19,4 @@ unfolding carried_in
 carried-right arrows e f q z r = r ∙ ap carries_right (read_at arrows (e / 2) f q) ∙ sym (rw (ne_eqb (e % 2) 0 z))
 
 -- for `search`, as `search steps depth 8 fits 20000`
-pub ruleset steps = (set-inside, set-outside, carried-left, carried-right)
+pub ruleset steps = (carried-left, carried-right)

@@ -5,3 +5,4 @@ pub mod StoredLaws
 pub mod DueInLaws
 pub mod EndStepLaws
 pub mod EndAtLaws
+pub mod TypePlaceLaws

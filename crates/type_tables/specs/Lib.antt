@@ -3,4 +3,4 @@ pub mod Rows
 pub mod TypeTables
 pub mod ValuesIn
 pub mod RowsIn
-pub mod Releases
+pub mod Pairs

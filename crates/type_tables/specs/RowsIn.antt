@@ -1,6 +1,6 @@
 -- Types and ends as numbers of the arrays, before anything is said of a diagram. Sets of types are masks.
 -- Assumes nothing.
-use Rattle.std.specs.Prelude.{◌%◌, ◌*◌, ◌+◌, ◌-◌, ◌/◌, ℕ, Bool, cond, List, eqb, ltb, get_or}
+use Rattle.std.specs.Prelude.{◌%◌, ◌*◌, ◌+◌, ◌-◌, ◌/◌, ℕ, Bool, cond, List, eqb, get_or}
 use Rattle.laws.specs.Bits.{bit}
 use Rattle.rules.specs.Arrow.{carries_left, carries_right}
 
@@ -9,10 +9,6 @@ use Rattle.rules.specs.Arrow.{carries_left, carries_right}
 -- type u counts as type x, by the sets of what each type counts as
 unfoldable pub is_subtype : List ℕ → ℕ → ℕ → Bool
 is_subtype sets x u = bit x (get_or sets u 0)
-
--- the set at x of a table for 24 types, empty past it
-unfoldable pub set_of : List ℕ → ℕ → ℕ
-set_of table x = cond (ltb x 24) (get_or table x 0) 0
 
 -- ---- ends
 

@@ -1,4 +1,5 @@
 // What one diagram asks of values, by an object's type, as a table; and what tables by types are made of: names, types, ends and limits.
+// Counts, slots and capped limits are below 256, as `as u8` keeps them.
 #![tactic(auto)]
 
 ghost use Rattle.std.specs.Prelude.{◌≡◌, cond, true, Bool, ℕ, ◌%◌, ◌/◌, ◌<◌, ◌≤◌, max, min, get_or};
@@ -7,23 +8,44 @@ ghost use Rattle.fields.specs.Slot.{slot_name, slot_of};
 ghost use Rattle.diagrams.specs.View.{diagram_of};
 ghost use Rattle.type_tables.specs.Due.{joined};
 ghost use Rattle.type_tables.specs.ValuesIn.{declares_in, due_at, due_in};
-ghost use Rattle.type_tables.specs.RowsIn.{carried_in, is_subtype, set_of};
-ghost use Rattle.type_tables.specs.TypeTables.{Dues};
+ghost use Rattle.type_tables.specs.RowsIn.{carried_in, is_subtype};
+ghost use Rattle.type_tables.specs.TypeTables.{Dues, TypePlaces};
 
 use diagrams::{Attributes, ReadDiagram};
 use laws::Mask;
 
-// Two diagrams that meet through names: what `new` says is asked by the types and slots of `old`. They may be one diagram.
+// Two diagrams: what `new` says is asked by the types and slots of `old`. They may be one diagram.
 #[derive(Clone, Copy)]
-pub struct Releases<'a> {
+pub struct Pair<'a> {
     pub old: &'a ReadDiagram,
     pub new: &'a ReadDiagram,
-    // What each type of `old` asks of the value in each slot.
-    pub dues: &'a [u8; 768],
-    ghost due: { Dues (diagram_of old.now.stored) dues.now },
 }
 
-// x where the test holds, else y.
+// A pair, and what each type of `old` asks of the value in each slot.
+#[derive(Clone, Copy)]
+pub struct PairDues<'a> {
+    pub pair: Pair<'a>,
+    pub dues: &'a [u8; 768],
+    ghost due: { Dues (diagram_of pair.old.now.stored) dues.now },
+}
+
+impl<'a> PairDues<'a> {
+    // The three together; it gives them one lifetime.
+    pub fn of(old: &'a ReadDiagram, new: &'a ReadDiagram, dues: &'a [u8; 768]) -> PairDues<'a>
+        requires { Dues (diagram_of old.now.stored) dues.now }
+        ensures { (result.pair.old.now ≡ old.now) × (result.pair.new.now ≡ new.now) × (result.dues.now ≡ dues.now) }
+    {
+        PairDues {
+            pair: Pair { old, new },
+            dues,
+        }
+    }
+}
+
+// The set of all 24 types.
+pub const ALL_TYPES: u32 = 0xFF_FFFF;
+
+// x where the test holds, else y. As a function, it leaves an expression that has several of them one path in the proof.
 pub fn pick<T: Copy>(b: bool, x: T, y: T) -> T
     ensures { result ≡ cond b x y }
 {
@@ -36,54 +58,21 @@ pub fn pick<T: Copy>(b: bool, x: T, y: T) -> T
 pub fn is_in(set: u32, k: u8) -> bool
     ensures { result ≡ bit k set }
 {
-    if k < 32 {
-        return set.has(u32::from(k));
-    }
-    false
+    k < 32 && set.has(u32::from(k))
 }
 
-// The numbers below n that pass the test.
-pub fn mask_of<F: Fn(u8) -> bool>(n: u8, test: F) -> u32
-    requires few { n ≤ 32 }
-    requires callable { (t : ℕ) → t < n → F.pre test t }
-    ensures { (p : ℕ → Bool) → ((t : ℕ) (b : Bool) → t < n → F.post test t b → b ≡ p t) → Marks p n result }
-{
-    let mut mask: u32 = 0;
-    for t in 0..n {
-        if test(t) {
-            mask = mask.with(u32::from(t));
-        }
-    }
-    mask
-}
-
-// All of a is in b, bit by bit; `Mask::is_inside` has it as an equation of the numbers.
+// All of a is in b, said bit by bit; `Mask::is_inside` says it of the numbers.
 pub fn is_inside(a: u32, b: u32) -> bool
     ensures { result ≡ true → (k : ℕ) → bit k a ≡ true → bit k b ≡ true }
 {
-    a & b == a
-}
-
-// ---- names
-
-// For each of n names its place among k others, or k: a table of bytes, which is compared with bounds. A loop, since only the first n are
-// looked up, and array::from_fn makes all.
-pub fn places<const N: usize>(names: &[u8], n: u8, others: &[u8], k: u8) -> [u8; N]
-    requires { n ≤ N }
-    ensures { ((i : ℕ) → i < n → get_or result i 0 ≡ slot_of others.now k (slot_name names.now i)) × ((i : ℕ) → get_or result i 0 ≤ k) }
-{
-    let mut r = [0u8; N];
-    for i in 0..n {
-        let at = fields::slot_of(others, k, fields::slot_name(names, i));
-        r[usize::from(i)] = at;
-    }
-    r
+    a.is_inside(b)
 }
 
 // ---- values
 
 // What is asked for by a declaration with value type v besides, where e was asked before: 0 for no value, 1 + v for one of value type v,
-// 255 where declarations disagree. Numbers say it, as they are stored in a table of bytes.
+// 255 where declarations disagree. These are the numbers of the definition `due`, which rules 3 and 4 by types compare (`1 + v`, 255) in one
+// sentence each; an enum would part every one of them in cases.
 fn join_due(e: u8, v: u8) -> u8
     requires { v < 255 }
     ensures { result ≡ joined e v }
@@ -115,7 +104,8 @@ impl Declared<'_> {
         is_in(set, laws::byte(&self.attributes.owners, a)) & (laws::byte(slots, a) == s)
     }
 
-    // What the attributes ask of the value in slot s of an object whose type has this set.
+    // What the attributes ask of the value in slot s of an object whose type has this set. A loop: a fold would need a branch that gives e
+    // back for the attributes that do not declare it.
     fn due(&self, set: u32, s: u8) -> u8
         ensures { result ≡ due_in set self.now.attributes.now.owners self.now.attributes.now.types self.now.slots.now s self.now.attributes.now.count }
     {
@@ -128,16 +118,22 @@ impl Declared<'_> {
         e
     }
 
-    // The same at x for type x / 32 and slot x % 32, up to `end`. A loop, since no type stands past the end.
-    fn dues(&self, sets: &[u32; 24], end: usize) -> [u8; 768]
-        requires { end ≤ 768 }
-        ensures { (x : ℕ) → x < end → get_or result x 0 ≡ due_at sets.now self.now.attributes.now.owners self.now.attributes.now.types self.now.slots.now self.now.attributes.now.count x }
+    // The same for type x / 32 and slot x % 32, where x is below `end`; past it nothing is looked up.
+    fn due_at(&self, sets: &[u32; 24], end: usize, x: usize) -> u8
+        requires { x < 768 }
+        ensures { x < end → result ≡ due_at sets.now self.now.attributes.now.owners self.now.attributes.now.types self.now.slots.now self.now.attributes.now.count x }
     {
-        let mut dues = [0u8; 768];
-        for x in 0..end {
-            dues[x] = self.due(sets[x / 32], (x % 32) as u8);
+        if end <= x {
+            return 0;
         }
-        dues
+        self.due(sets[x / 32], (x % 32) as u8)
+    }
+
+    // For each x.
+    fn dues(&self, sets: &[u32; 24], end: usize) -> [u8; 768]
+        ensures { (x : ℕ) → x < 768 → x < end → get_or result x 0 ≡ due_at sets.now self.now.attributes.now.owners self.now.attributes.now.types self.now.slots.now self.now.attributes.now.count x }
+    {
+        std::array::from_fn(|x| self.due_at(sets, end, x))
     }
 }
 
@@ -169,18 +165,16 @@ pub fn subtypes_of(sets: &[u32; 24], x: u8) -> u32
     requires { x < 32 }
     ensures { Marks (is_subtype sets.now x) 24 result }
 {
-    mask_of(24, |u| is_subtype(sets, x, u))
+    laws::mask_of(24, |u| is_subtype(sets, x, u))
 }
 
-// The set at x, empty past the last.
-pub fn set_of(table: &[u32; 24], x: u8) -> u32
-    ensures { result ≡ set_of table.now x }
+// For each type of d the type of e with the same name, or their number: the entries are compared with it, and nothing else is made of them.
+pub fn type_places(d: &ReadDiagram, e: &ReadDiagram) -> [u8; 24]
+    ensures { TypePlaces (diagram_of d.now.stored) (diagram_of e.now.stored) result }
 {
-    let i = usize::from(x);
-    if i < 24 {
-        return table[i];
-    }
-    0u32
+    let t = &d.stored.types;
+    let u = &e.stored.types;
+    fields::places(&t.names, t.count as u8, &u.names, u.count as u8)
 }
 
 // The arrow carries links to end e.

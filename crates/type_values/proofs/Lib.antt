@@ -12,4 +12,3 @@ pub mod ChosenLaws
 pub mod FilledLaws
 pub mod BreaksLaws
 pub mod FilledInLaws
-pub mod FromFnLaws

@@ -16,22 +16,22 @@ use Rattle.laws.proofs.ConnectiveLaws.{both_left, both_of, both_right, known, sa
 use Rattle.laws.proofs.FirstLaws.{first-ext}
 use Rattle.laws.proofs.JoinedLaws.{get_or-each, length-each}
 use Rattle.laws.proofs.SearchLaws.{both-no, both_yes}
-use Rattle.fields.specs.Slot.{slot_name, slot_of, constant_name}
-use Rattle.files.specs.Diagram.{ValueType, attribute_at, type_at, value_type_at}
+use Rattle.fields.specs.Slot.{constant_name, known_in, slot_name, slot_of}
+use Rattle.files.specs.Diagram.{ValueType, attribute_at, value_type_at}
 use Rattle.files.specs.Name.{Name, same_name}
 use Rattle.files.proofs.NameLaws.{key-same}
 use Rattle.diagrams.specs.declared.StoredDiagram.{StoredDiagram}
 use Rattle.diagrams.specs.Held.{Held}
 use Rattle.diagrams.specs.View.{diagram_of, value_type_in}
-use Rattle.diagrams.proofs.ViewLaws.{attribute-count, type-count, value-type-at, value-type-count}
-use Rattle.diagrams.proofs.NamedLaws.{attribute-named, type-named, value-type-named}
-use Rattle.resolving.proofs.LookupLaws.{attribute-slot, type-index}
+use Rattle.diagrams.proofs.ViewLaws.{attribute-count, value-type-at, value-type-count}
+use Rattle.diagrams.proofs.NamedLaws.{attribute-named, value-type-named}
+use Rattle.resolving.proofs.LookupLaws.{attribute-slot}
 use Rattle.records.specs.Written.{constant_known}
 use Rattle.rules.specs.ValueRules.{belongs}
 use Rattle.type_values.specs.Bad.{coded_value}
 use Rattle.type_values.specs.Lacking.{first_lacking, lacking, same_type, shared}
-use Rattle.type_values.specs.Tables.{AttributePlaces, Lackings, SameTypes, TypePlaces}
-use Rattle.type_values.specs.Numbers.{constant_in, known_in, lacking_in, shared_in}
+use Rattle.type_values.specs.Tables.{AttributePlaces, Lackings, SameTypes}
+use Rattle.type_values.specs.Numbers.{constant_in, lacking_in, shared_in}
 use Rattle.type_values.proofs.SharedLaws.{belongs-shared, coded-same, same-name}
 
 module _ (d : StoredDiagram) where
@@ -176,14 +176,6 @@ module _ (old new : StoredDiagram) (held : Held new) where
         f v (subst (λ (i : ℕ). v < i) (sym e) k)
         ∙ ap (λ (i : ℕ). first (lacking_in old.values.constants (get_or old.values.sizes v 0) new.values.sizes new.values.constants i (get_or types v 0) v) 8) q
         ∙ first-ext _ _ 8 (λ c small. lacking-in v c (get_or types v 0) k small (is.exact v l));
-  }
-
-  pub types-placed : (index : List ℕ) (m n : ℕ) → m ≡ old.types.count → n ≡ new.types.count
-      → ((i : ℕ) → i < m → get_or index i 0 ≡ slot_of new.types.names n (slot_name old.types.names i)) → TypePlaces (diagram_of old) (diagram_of new) index
-  types-placed index m n e q f = record {
-    exact = λ t l.
-        let k : t < old.types.count = subst (λ (i : ℕ). t < i) (type-count old) l in
-        f t (subst (λ (i : ℕ). t < i) (sym e) k) ∙ ap₂ (λ (i : ℕ) (w : Name). slot_of new.types.names i w) q (sym (type-named old t k)) ∙ sym (type-index new (type_at (diagram_of old) t).name);
   }
 
   pub attributes-placed : (slots : List ℕ) (m n : ℕ) → m ≡ old.attributes.count → n ≡ new.attributes.count

@@ -13,9 +13,9 @@ use Rattle.laws.specs.Bounded.{all}
 use Rattle.laws.specs.Connective.{both, either}
 use Rattle.laws.proofs.ConnectiveLaws.{both_of, and-is-both, or-is-either}
 use Rattle.laws.proofs.SearchLaws.{both-no, both-right-no, both_yes}
-use Rattle.fields.specs.Slot.{constant_name}
+use Rattle.fields.specs.Slot.{constant_name, known_in}
 use Rattle.files.specs.Name.{Name}
-use Rattle.type_values.specs.Numbers.{chosen_in, constant_in, due_by, good_in, kept_in, known_in, lacking_in, shared_in, slot_asked_in, slot_kept_in, value_at_in}
+use Rattle.type_values.specs.Numbers.{chosen_in, constant_in, due_by, good_in, kept_in, lacking_in, shared_in, slot_asked_in, slot_kept_in, value_at_in}
 
 module _ (sizes constants : List ℕ) (n v : ℕ) (w : Name) where
   pub shared-past : n ≤ v → false ≡ shared_in sizes constants n v w

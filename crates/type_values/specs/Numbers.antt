@@ -3,7 +3,7 @@
 use Rattle.std.specs.Prelude.{◌%◌, ◌*◌, ◌+◌, ◌-◌, ◌/◌, ℕ, Bool, cond, not, true, List, eqb, ltb, get_or, length}
 use Rattle.laws.specs.Bounded.{all, any}
 use Rattle.laws.specs.Connective.{both, either}
-use Rattle.fields.specs.Slot.{slot_name, constant_name}
+use Rattle.fields.specs.Slot.{constant_name, known_in, slot_name}
 use Rattle.files.specs.Name.{Name, same_name}
 
 -- ---- constants
@@ -16,10 +16,6 @@ constant_in constants v size w = any (λ i. same_name (slot_name constants (v * 
 unfoldable pub shared_in : List ℕ → List ℕ → ℕ → ℕ → Name → Bool
 shared_in sizes constants n v w =
     both (ltb v n) (either (constant_in constants v (get_or sizes v 0) w) (both (eqb (get_or sizes v 0) 0) (eqb (length w) 0)))
-
--- of `size` constants, c is one, or it is the unnamed value
-unfoldable pub known_in : ℕ → ℕ → Bool
-known_in size c = either (ltb c size) (both (eqb size 0) (eqb c 0))
 
 -- constant c of value type v does not belong to value type j of the others
 unfoldable pub lacking_in : List ℕ → ℕ → List ℕ → List ℕ → ℕ → ℕ → ℕ → ℕ → Bool

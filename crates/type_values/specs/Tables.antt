@@ -2,13 +2,10 @@
 -- where there is none.
 -- Assumes nothing.
 use Rattle.std.specs.Prelude.{◌<◌, ℕ, List, ◌≡◌, get_or, length}
-use Rattle.files.specs.Diagram.{Diagram, attribute_at, type_at}
-use Rattle.records.specs.Slots.{attribute_slot, type_index}
-use Rattle.type_tables.specs.TypeTables.{Dues}
+use Rattle.files.specs.Diagram.{Diagram, attribute_at}
+use Rattle.records.specs.Slots.{attribute_slot}
+use Rattle.type_tables.specs.TypeTables.{Dues, TypePlaces}
 use Rattle.type_values.specs.Lacking.{first_lacking, same_type}
-
-pub record TypePlaces (old new : Diagram) (index : List ℕ) : Type 0 where
-  pub exact : (t : ℕ) → t < length old.types → get_or index t 0 ≡ type_index new (type_at old t).name
 
 pub record AttributePlaces (old new : Diagram) (slots : List ℕ) : Type 0 where
   pub exact : (s : ℕ) → s < length old.attributes → get_or slots s 0 ≡ attribute_slot new (attribute_at old s).name

@@ -1,19 +1,20 @@
 // Rules 1, 3 and 4 of a diagram by the types of another one, and values for objects that are given by their types.
+// Counts, slots and codes are below 256, as `as u8` keeps them.
 #![tactic(auto)]
 
 ghost use Rattle.std.specs.Prelude.{◌≡◌, cond, not, ℕ, ◌+◌, ◌*◌, ◌<◌, ◌≤◌, ltb, get_or};
 ghost use Rattle.laws.specs.Bounded.{all, first};
 ghost use Rattle.files.specs.Name.{same_name};
 ghost use Rattle.fields.specs.Slot.{slot_name, slot_of, constant_name};
-ghost use Rattle.type_tables.specs.Releases.{new_of, old_of};
+ghost use Rattle.type_tables.specs.Pairs.{new_of, old_of};
 ghost use Rattle.type_values.specs.Bad.{BadTypes};
 ghost use Rattle.type_values.specs.Filled.{Filled};
-ghost use Rattle.type_values.specs.Tables.{AttributePlaces, Lackings, SameTypes, Translated, TypePlaces};
-ghost use Rattle.type_values.specs.Numbers.{chosen_in, constant_in, due_by, good_in, kept_in, known_in, lacking_in, shared_in, slot_asked_in, slot_kept_in, value_at_in};
+ghost use Rattle.type_values.specs.Tables.{AttributePlaces, Lackings, SameTypes, Translated};
+ghost use Rattle.type_values.specs.Numbers.{chosen_in, constant_in, due_by, good_in, kept_in, lacking_in, shared_in, slot_asked_in, slot_kept_in, value_at_in};
 ghost use Rattle.type_values.specs.Values.{FewValues};
 
-use diagrams::ValueTypes;
-use type_tables::Releases;
+use diagrams::{Types, ValueTypes};
+use type_tables::{Pair, PairDues};
 
 // ---- values
 
@@ -25,61 +26,58 @@ fn has_constant(constants: &[u8], v: u8, size: u8, w: &[u8]) -> bool
     (0..size).any(|i| fields::same_name(fields::slot_name(constants, v * 8 + i), w))
 }
 
-// A value with the constant w belongs to value type v, if they have one name.
-fn is_shared(values: &ValueTypes, v: u8, w: &[u8]) -> bool
-    requires { FewValues values.now }
-    ensures { result ≡ shared_in values.now.sizes values.now.constants values.now.count v w.now }
-{
-    let i = usize::from(v);
-    if values.count <= i {
-        return false;
-    }
-    let size = values.sizes[i];
-    has_constant(&values.constants, v, size, w) | ((size == 0) & w.is_empty())
+// The value types of a diagram, each with at most 8 constants.
+#[derive(Clone, Copy)]
+struct Constants<'a> {
+    values: &'a ValueTypes,
+    ghost few: { FewValues values.now },
 }
 
-// Of so many constants c is one, or it is the unnamed value.
-fn is_known(size: u8, c: u8) -> bool
-    ensures { result ≡ known_in size c }
-{
-    (c < size) | ((size == 0) & (c == 0))
-}
-
-// Constant c of value type v does not belong to value type j of the other diagram.
-fn is_lacking(olds: &[u8], size: u8, values: &ValueTypes, j: u8, v: u8, c: u8) -> bool
-    requires { ((v < 12) × (c < 8)) × FewValues values.now }
-    ensures { result ≡ lacking_in olds.now size values.now.sizes values.now.constants values.now.count j v c }
-{
-    if is_known(size, c) {
-        let w = fields::constant_name(olds, size, v * 8 + c);
-        return !is_shared(values, j, w);
-    }
-    false
-}
-
-// The first such constant, or 8. A number says it, as it is stored in a table of bytes.
-fn first_lacking(olds: &[u8], size: u8, values: &ValueTypes, j: u8, v: u8) -> u8
-    requires { (v < 12) × FewValues values.now }
-    ensures { result ≡ first (lacking_in olds.now size values.now.sizes values.now.constants values.now.count j v) 8 }
-{
-    for c in 0u8..8 {
-        if is_lacking(olds, size, values, j, v, c) {
-            return c;
+impl Constants<'_> {
+    // A value with the constant w belongs to value type v, if they have one name.
+    fn is_shared(&self, v: u8, w: &[u8]) -> bool
+        ensures { result ≡ shared_in self.now.values.now.sizes self.now.values.now.constants self.now.values.now.count v w.now }
+    {
+        let values = self.values;
+        let i = usize::from(v);
+        if values.count <= i {
+            return false;
         }
+        let size = values.sizes[i];
+        has_constant(&values.constants, v, size, w) | ((size == 0) & w.is_empty())
     }
-    8
-}
 
-// For each value type of olds the first such constant, where `types` has the other diagram's value types of the same names.
-fn all_lacking(olds: &ValueTypes, values: &ValueTypes, types: &[u8; 32]) -> [u8; 12]
-    requires { (olds.now.count ≤ 12) × FewValues values.now }
-    ensures { (v : ℕ) → v < olds.now.count → get_or result v 0 ≡ first (lacking_in olds.now.constants (get_or olds.now.sizes v 0) values.now.sizes values.now.constants values.now.count (get_or types.now v 0) v) 8 }
-{
-    let mut firsts = [0u8; 12];
-    for v in 0..olds.count {
-        firsts[v] = first_lacking(&olds.constants, olds.sizes[v], values, types[v], v as u8);
+    // Constant c of value type v does not belong to value type j of these.
+    fn is_lacking(&self, constants: &[u8], size: u8, j: u8, v: u8, c: u8) -> bool
+        requires { (v < 12) × (c < 8) }
+        ensures { result ≡ lacking_in constants.now size self.now.values.now.sizes self.now.values.now.constants self.now.values.now.count j v c }
+    {
+        if fields::is_known(size, c) {
+            let w = fields::constant_name(constants, size, v * 8 + c);
+            return !self.is_shared(j, w);
+        }
+        false
     }
-    firsts
+
+    // The first such constant, or 8. A number, as the definition `first` has it: who asks compares it with 8, and takes it for the constant
+    // below 8.
+    fn first_lacking(&self, constants: &[u8], size: u8, j: u8, v: u8) -> u8
+        requires { v < 12 }
+        ensures { result ≡ first (lacking_in constants.now size self.now.values.now.sizes self.now.values.now.constants self.now.values.now.count j v) 8 }
+    {
+        (0u8..8)
+            .find(|c| self.is_lacking(constants, size, j, v, *c))
+            .unwrap_or(8)
+    }
+
+    // For each value type of `others` the first such constant, where `types` has these value types of the same names.
+    fn all_lacking(&self, others: &ValueTypes, types: &[u8; 32]) -> [u8; 12]
+        ensures { (v : ℕ) → v < 12 → get_or result v 0 ≡ first (lacking_in others.now.constants (get_or others.now.sizes v 0) self.now.values.now.sizes self.now.values.now.constants self.now.values.now.count (get_or types.now v 0) v) 8 }
+    {
+        std::array::from_fn(|v| {
+            self.first_lacking(&others.constants, others.sizes[v], types[v], v as u8)
+        })
+    }
 }
 
 // ---- slots
@@ -97,13 +95,12 @@ fn due_by(dues: &[u8; 768], t: u8, n: u8, s: u8) -> u8
 // A diagram and another one: what is due by types of either, and where the names of the one stand in the other.
 #[derive(Clone, Copy)]
 struct Translation<'a> {
-    olds: &'a [u8; 768],
-    news: &'a [u8; 768],
-    // The kinds of the other's types, and how many there are.
-    kinds: &'a [u8; 24],
-    count: u8,
+    old_dues: &'a [u8; 768],
+    new_dues: &'a [u8; 768],
+    // The types of the other.
+    others: &'a Types,
     // For each type, slot and value type of the one that of the other, and for each slot of the other that of the one.
-    index: [u8; 32],
+    index: [u8; 24],
     slots: [u8; 32],
     types: [u8; 32],
     back: [u8; 32],
@@ -131,13 +128,13 @@ impl Translation<'_> {
 
     // What type t of the one asks for in slot s type u of the other keeps.
     fn keeps_slot(&self, t: u8, u: u8, s: u8) -> bool
-        ensures { result ≡ slot_kept_in self.now.olds.now self.now.news.now self.now.slots self.now.types self.now.firsts t u self.now.n s }
+        ensures { result ≡ slot_kept_in self.now.old_dues.now self.now.new_dues.now self.now.slots self.now.types self.now.firsts t u self.now.n s }
     {
-        let olds = self.olds;
+        let dues = self.old_dues;
         self.keeps(
-            laws::byte(olds, laws::place(t, s)),
+            laws::byte(dues, laws::place(t, s)),
             due_by(
-                self.news,
+                self.new_dues,
                 u,
                 self.n,
                 laws::byte(&self.slots, usize::from(s)),
@@ -147,100 +144,103 @@ impl Translation<'_> {
 
     // What type u of the other asks for in slot s type t of the one asks for.
     fn asks_slot(&self, t: u8, u: u8, s: u8) -> bool
-        ensures { result ≡ slot_asked_in self.now.olds.now self.now.news.now self.now.back t u self.now.m s }
+        ensures { result ≡ slot_asked_in self.now.old_dues.now self.now.new_dues.now self.now.back t u self.now.m s }
     {
-        let news = self.news;
-        (laws::byte(news, laws::place(u, s)) == 0)
-            | (due_by(self.olds, t, self.m, laws::byte(&self.back, usize::from(s))) != 0)
+        let dues = self.new_dues;
+        (laws::byte(dues, laws::place(u, s)) == 0)
+            | (due_by(
+                self.old_dues,
+                t,
+                self.m,
+                laws::byte(&self.back, usize::from(s)),
+            ) != 0)
     }
 
     // Each slot of the one is kept.
     fn keeps_slots(&self, t: u8, u: u8) -> bool
-        ensures { result ≡ all (slot_kept_in self.now.olds.now self.now.news.now self.now.slots self.now.types self.now.firsts t u self.now.n) self.now.m }
+        ensures { result ≡ all (slot_kept_in self.now.old_dues.now self.now.new_dues.now self.now.slots self.now.types self.now.firsts t u self.now.n) self.now.m }
     {
         (0..self.m).all(|s| self.keeps_slot(t, u, s))
     }
 
     // Each slot of the other is asked for.
     fn asks_slots(&self, t: u8, u: u8) -> bool
-        ensures { result ≡ all (slot_asked_in self.now.olds.now self.now.news.now self.now.back t u self.now.m) self.now.n }
+        ensures { result ≡ all (slot_asked_in self.now.old_dues.now self.now.new_dues.now self.now.back t u self.now.m) self.now.n }
     {
         (0..self.n).all(|s| self.asks_slot(t, u, s))
     }
 
     // Type t of the one diagram, with the name of a type of the other, keeps rules 1, 3 and 4 of the other.
     fn is_good(&self, t: u8) -> bool
-        ensures { result ≡ good_in self.now.kinds.now self.now.count self.now.index self.now.olds.now self.now.news.now self.now.slots self.now.back self.now.types self.now.firsts self.now.m self.now.n t }
+        ensures { result ≡ good_in self.now.others.now.kinds self.now.others.now.count self.now.index self.now.old_dues.now self.now.new_dues.now self.now.slots self.now.back self.now.types self.now.firsts self.now.m self.now.n t }
     {
-        let kinds = self.kinds;
         let u = laws::byte(&self.index, usize::from(t));
-        let kind = laws::byte(kinds, usize::from(u));
-        (u < self.count)
-            & (((kind == 0) | (kind == 3)) & (self.keeps_slots(t, u) & self.asks_slots(t, u)))
+        let kind = laws::byte(&self.others.kinds, usize::from(u));
+        (usize::from(u) < self.others.count)
+            & (diagrams::has_objects(kind) & (self.keeps_slots(t, u) & self.asks_slots(t, u)))
     }
 }
 
 // ---- types
 
+// Two functions of one line, since each has a contract of its own: what the numbers are, by the definitions of the diagrams.
+
 // For each value type of old new's value type of the same name, or their number.
-fn same_types(by: &Releases) -> [u8; 32]
+fn same_types(by: &Pair) -> [u8; 32]
     ensures { SameTypes (old_of by.now) (new_of by.now) result }
 {
     let v = &by.old.stored.values;
     let w = &by.new.stored.values;
-    type_tables::places(&v.names, v.count as u8, &w.names, w.count as u8)
-}
-
-// For each value type of old the first of its values that new does not have, or 8.
-fn lacking_values(by: &Releases, types: &[u8; 32]) -> [u8; 12]
-    requires { SameTypes (old_of by.now) (new_of by.now) types.now }
-    ensures { Lackings (old_of by.now) (new_of by.now) result }
-{
-    all_lacking(&by.old.stored.values, &by.new.stored.values, types)
-}
-
-// For each type of old new's type of the same name, or their number.
-fn type_places(by: &Releases) -> [u8; 32]
-    ensures { TypePlaces (old_of by.now) (new_of by.now) result }
-{
-    let v = &by.old.stored.types;
-    let w = &by.new.stored.types;
-    type_tables::places(&v.names, v.count as u8, &w.names, w.count as u8)
+    fields::places(&v.names, v.count as u8, &w.names, w.count as u8)
 }
 
 // For each attribute of old new's slot of the same name, or the number of its attributes.
-fn attribute_places(by: &Releases) -> [u8; 32]
+fn attribute_places(by: &Pair) -> [u8; 32]
     ensures { AttributePlaces (old_of by.now) (new_of by.now) result }
 {
     let v = &by.old.stored.attributes;
     let w = &by.new.stored.attributes;
-    type_tables::places(&v.names, v.count as u8, &w.names, w.count as u8)
+    fields::places(&v.names, v.count as u8, &w.names, w.count as u8)
+}
+
+// For each value type of old the first of its values that new does not have, or 8.
+fn lacking_values(by: &Pair, types: &[u8; 32]) -> [u8; 12]
+    requires { SameTypes (old_of by.now) (new_of by.now) types.now }
+    ensures { Lackings (old_of by.now) (new_of by.now) result }
+{
+    let new = by.new;
+    let constants = Constants {
+        values: &new.stored.values,
+    };
+    constants.all_lacking(&by.old.stored.values, types)
 }
 
 // The types of old whose objects break rule 1 or rule 3 of new, or can break rule 4.
-pub fn bad_types(by: &Releases) -> u32
-    ensures { BadTypes (old_of by.now) (new_of by.now) result }
+pub fn bad_types(by: &PairDues) -> u32
+    ensures { BadTypes (old_of by.now.pair) (new_of by.now.pair) result }
 {
-    let types = same_types(by);
-    let news = type_tables::due_values(by.new);
-    let by_names = Translation {
-        olds: by.dues,
-        news: &news,
-        kinds: &by.new.stored.types.kinds,
-        count: by.new.stored.types.count as u8,
-        index: type_places(by),
-        slots: attribute_places(by),
+    let pair = &by.pair;
+    let new = pair.new;
+    let types = same_types(pair);
+    let new_dues = type_tables::due_values(new);
+    let translation = Translation {
+        old_dues: by.dues,
+        new_dues: &new_dues,
+        others: &new.stored.types,
+        index: type_tables::type_places(pair.old, new),
+        slots: attribute_places(pair),
         types,
-        back: attribute_places(&Releases {
-            old: by.new,
-            new: by.old,
-            dues: &news,
+        back: attribute_places(&Pair {
+            old: new,
+            new: pair.old,
         }),
-        firsts: lacking_values(by, &types),
-        m: by.old.stored.attributes.count as u8,
-        n: by.new.stored.attributes.count as u8,
+        firsts: lacking_values(pair, &types),
+        m: pair.old.stored.attributes.count as u8,
+        n: new.stored.attributes.count as u8,
     };
-    type_tables::mask_of(by.old.stored.types.count as u8, |t| !by_names.is_good(t))
+    laws::mask_of(pair.old.stored.types.count as u8, |t| {
+        !translation.is_good(t)
+    })
 }
 
 // ---- values of objects
@@ -286,19 +286,22 @@ fn all_values(dues: &[u8; 768], firsts: &[u8; 12], types: &[u8; 8], n: u8) -> [u
     std::array::from_fn(|x| value_at(dues, firsts, types, n, x))
 }
 
-// A record of n objects with these types and links, and for each object a value in each slot where old asks for one: a value that new
-// lacks, if old allows one.
-pub fn with_values(by: &Releases, types: [u8; 8], links: [u8; 256], n: u8) -> records::MemoryRecord
-    requires { (o : ℕ) → o < n → get_or types o 0 < by.now.old.now.stored.types.count }
-    ensures { Filled (old_of by.now) (new_of by.now) types links n result }
+// A record of n objects with the types and links of a site, and for each object a value in each slot where old asks for one: a value that
+// new lacks, if old allows one.
+pub fn with_values(by: &PairDues, site: worlds::Site, n: u8) -> records::MemoryRecord
+    requires { (o : ℕ) → o < n → get_or site.types o 0 < by.now.pair.old.now.stored.types.count }
+    ensures { Filled (old_of by.now.pair) (new_of by.now.pair) site.types site.links n result }
 {
-    let firsts = lacking_values(by, &same_types(by));
+    let types = site.types;
+    let links = site.links;
+    let firsts = lacking_values(&by.pair, &same_types(&by.pair));
     let values = all_values(by.dues, &firsts, &types, n);
     records::MemoryRecord {
         count: usize::from(n),
         types,
         values,
         links,
+        // Both by name, as in `records::empty_record`: what the record does not have.
         strays: records::Strays {
             values: false,
             links: false,

@@ -31,6 +31,7 @@ use Rattle.weights.proofs.BalanceLaws.{columns-balance, parts-balance, rows-bala
 use Rattle.weights.proofs.NumberLaws.{in-mask, number-flat, number-high, number-low, number-parts}
 use Rattle.weights.proofs.OwnLaws.{column-least, column-most, row-least, row-most}
 use Rattle.weights.proofs.SumLaws.{sum-ext}
+use Rattle.worlds.specs.Lined.{column_at, whole_at}
 
 -- the first object has a limit of its own
 limit-cases : (P : ℕ → ℕ → Type 0) (first limit : ℕ) → P 0 first → ((o : ℕ) → P o limit) → (o : ℕ) → P o (cond (eqb o 0) first limit)
@@ -75,51 +76,51 @@ module _ (usable singles : ℕ) (targets lows highs sources : List ℕ) (x : Lin
       good : ℕ → Bool
       good t = bit t from && in_mask (get_or targets (t * 32 + s) 0) to
 
-  pub rows_at : (j : ℕ) → j < 16 → get_or x.columnslot j 0 < 32
-      → let r = rows_scale (own_of q) (get_or x.columnslot j 0) (get_or x.columnfrom j 0) (get_or x.columnto j 0) (get_or x.columnhigh j 0) (get_or sources (w.kind 0 * 32 + get_or x.columnslot j 0) 0) in
+  pub rows_at : (j : ℕ) → j < 16 → (column_at x j).slot < 32
+      → let r = rows_scale (own_of q) (column_at x j).slot (column_at x j).from (column_at x j).to (column_at x j).high (get_or sources (w.kind 0 * 32 + (column_at x j).slot) 0) in
       together targets lows highs x r.a w ≤ together targets lows highs x r.b w
   unfolding rows_scale
   rows_at j l k =
-      let s = get_or x.columnslot j 0 in
-      let from = get_or x.columnfrom j 0 in
-      let to = get_or x.columnto j 0 in
-      let high = get_or x.columnhigh j 0 in
+      let s = (column_at x j).slot in
+      let from = (column_at x j).from in
+      let to = (column_at x j).to in
+      let high = (column_at x j).high in
       let may = get_or sources (w.kind 0 * 32 + s) 0 in
       let first = row_least (own_of q) s in
       let last = min high (column_most (own_of q) s from may) in
       sums-le
-      (λ o. number_at targets lows highs x.wholeslot x.wholefrom x.wholeto (record { count = Low; mask = from; to = to; slot = s; limit = 0; first = first }) o (w.kind o))
+      (λ o. number_at targets lows highs x.wholes (record { count = Low to; mask = from; slot = s; limit = 0; first = first }) o (w.kind o))
       (λ o. cond (bit (w.kind o) from && in_mask (get_or targets (w.kind o * 32 + s) 0) to) (max (get_or lows (w.kind o * 32 + s) 0) (cond (eqb o 0) first 0)) 0)
-      (λ p. number_at targets lows highs x.wholeslot x.wholefrom x.wholeto (record { count = Flat; mask = to; to = 0; slot = s; limit = high; first = last }) p (w.kind p))
+      (λ p. number_at targets lows highs x.wholes (record { count = Flat; mask = to; slot = s; limit = high; first = last }) p (w.kind p))
       (λ p. cond (bit (w.kind p) to) (cond (eqb p 0) last high) 0)
       w.size
-      (λ o. number-low targets lows highs x.wholeslot x.wholefrom x.wholeto from to s 0 first (cond (eqb o 0) first 0) (w.kind o))
-      (λ p. number-flat targets lows highs x.wholeslot x.wholefrom x.wholeto to 0 s high last (cond (eqb p 0) last high) (w.kind p))
+      (λ o. number-low targets lows highs x.wholes from s 0 first (cond (eqb o 0) first 0) (w.kind o) to)
+      (λ p. number-flat targets lows highs x.wholes to s high last (cond (eqb p 0) last high) (w.kind p))
       (rows-sum s from to first (λ p. cond (eqb p 0) last high) k (row-least q w asked s)
       (limit-cases (λ (p m : ℕ). p < w.size → bit (w.kind p) to ≡ true → source_count w s from p ≤ m) last high
       (λ i e. le-min (allowed.columns.at j 0 l i e).most (column-most q w asked s from may (reached s k) allowed.few))
       (λ p i e. (allowed.columns.at j p l i e).most)))
 
-  pub columns-at : (j : ℕ) → j < 16 → get_or x.columnslot j 0 < 32
-      → let r = columns_scale (own_of q) (get_or x.columnslot j 0) (get_or x.columnfrom j 0) (get_or x.columnto j 0) (get_or x.columnlow j 0) (get_or sources (w.kind 0 * 32 + get_or x.columnslot j 0) 0) in
+  pub columns-at : (j : ℕ) → j < 16 → (column_at x j).slot < 32
+      → let r = columns_scale (own_of q) (column_at x j).slot (column_at x j).from (column_at x j).to (column_at x j).low (get_or sources (w.kind 0 * 32 + (column_at x j).slot) 0) in
       together targets lows highs x r.a w ≤ together targets lows highs x r.b w
   unfolding columns_scale
   columns-at j l k =
-      let s = get_or x.columnslot j 0 in
-      let from = get_or x.columnfrom j 0 in
-      let to = get_or x.columnto j 0 in
-      let low = get_or x.columnlow j 0 in
+      let s = (column_at x j).slot in
+      let from = (column_at x j).from in
+      let to = (column_at x j).to in
+      let low = (column_at x j).low in
       let may = get_or sources (w.kind 0 * 32 + s) 0 in
       let first = max low (column_least (own_of q) s from may) in
       let last = row_most (own_of q) s in
       sums-le
-      (λ p. number_at targets lows highs x.wholeslot x.wholefrom x.wholeto (record { count = Flat; mask = to; to = 0; slot = s; limit = low; first = first }) p (w.kind p))
+      (λ p. number_at targets lows highs x.wholes (record { count = Flat; mask = to; slot = s; limit = low; first = first }) p (w.kind p))
       (λ p. cond (bit (w.kind p) to) (cond (eqb p 0) first low) 0)
-      (λ o. number_at targets lows highs x.wholeslot x.wholefrom x.wholeto (record { count = High; mask = from; to = 0; slot = s; limit = 255; first = last }) o (w.kind o))
+      (λ o. number_at targets lows highs x.wholes (record { count = High; mask = from; slot = s; limit = 255; first = last }) o (w.kind o))
       (λ o. cond (bit (w.kind o) from) (min (get_or highs (w.kind o * 32 + s) 0) (cond (eqb o 0) last 255)) 0)
       w.size
-      (λ p. number-flat targets lows highs x.wholeslot x.wholefrom x.wholeto to 0 s low first (cond (eqb p 0) first low) (w.kind p))
-      (λ o. number-high targets lows highs x.wholeslot x.wholefrom x.wholeto from 0 s 255 last (cond (eqb o 0) last 255) (w.kind o))
+      (λ p. number-flat targets lows highs x.wholes to s low first (cond (eqb p 0) first low) (w.kind p))
+      (λ o. number-high targets lows highs x.wholes from s 255 last (cond (eqb o 0) last 255) (w.kind o))
       (columns-balance w s (λ t. bit t from) (λ t. bit t to) (λ p. cond (eqb p 0) first low) (λ o. min (get_or highs (w.kind o * 32 + s) 0) (cond (eqb o 0) last 255))
       (limit-cases (λ (p m : ℕ). p < w.size → bit (w.kind p) to ≡ true → m ≤ source_count w s from p) first low
       (λ i e. max-le (allowed.columns.at j 0 l i e).least (column-least q w asked s from may (reached s k)))
@@ -139,13 +140,13 @@ module _ (usable singles : ℕ) (targets lows highs sources : List ℕ) (x : Lin
       let first = row_least (own_of q) s in
       let last = min (row_most (own_of q) back) (column_most (own_of q) s from may) in
       sums-le
-      (λ o. number_at targets lows highs x.wholeslot x.wholefrom x.wholeto (record { count = Low; mask = from; to = to; slot = s; limit = 0; first = first }) o (w.kind o))
+      (λ o. number_at targets lows highs x.wholes (record { count = Low to; mask = from; slot = s; limit = 0; first = first }) o (w.kind o))
       (λ o. cond (bit (w.kind o) from && in_mask (get_or targets (w.kind o * 32 + s) 0) to) (max (get_or lows (w.kind o * 32 + s) 0) (cond (eqb o 0) first 0)) 0)
-      (λ p. number_at targets lows highs x.wholeslot x.wholefrom x.wholeto (record { count = High; mask = to; to = 0; slot = back; limit = 255; first = last }) p (w.kind p))
+      (λ p. number_at targets lows highs x.wholes (record { count = High; mask = to; slot = back; limit = 255; first = last }) p (w.kind p))
       (λ p. cond (bit (w.kind p) to) (min (get_or highs (w.kind p * 32 + back) 0) (cond (eqb p 0) last 255)) 0)
       w.size
-      (λ o. number-low targets lows highs x.wholeslot x.wholefrom x.wholeto from to s 0 first (cond (eqb o 0) first 0) (w.kind o))
-      (λ p. number-high targets lows highs x.wholeslot x.wholefrom x.wholeto to 0 back 255 last (cond (eqb p 0) last 255) (w.kind p))
+      (λ o. number-low targets lows highs x.wholes from s 0 first (cond (eqb o 0) first 0) (w.kind o) to)
+      (λ p. number-high targets lows highs x.wholes to back 255 last (cond (eqb p 0) last 255) (w.kind p))
       (rows-sum s from to first (λ p. min (get_or highs (w.kind p * 32 + back) 0) (cond (eqb p 0) last 255)) l (row-least q w asked s)
       (limit-cases (λ (p m : ℕ). p < w.size → bit (w.kind p) to ≡ true → source_count w s from p ≤ min (get_or highs (w.kind p * 32 + back) 0) m) last 255
       (λ i e. le-min (le_trans (turn 0 i e) (allowed.rows.limited back 0 k i).most)
@@ -163,12 +164,12 @@ module _ (usable singles : ℕ) (targets lows highs sources : List ℕ) (x : Lin
 
   -- by one line: where it counts, all links in its slot go to parts
   line-parts : (slotted : Slotted x) (r o limit j : ℕ) → o < w.size → j < 16 → limit ≤ target_count w r o
-      → whole_row targets lows x.wholeslot x.wholefrom x.wholeto r limit (w.kind o) j ≤ parts o
+      → whole_row targets lows x.wholes r limit (w.kind o) j ≤ parts o
   unfolding whole_row line_number whole_of
   line-parts slotted r o limit j k l f =
-      let s = get_or x.wholeslot j 0 in
-      let from = get_or x.wholefrom j 0 in
-      let to = get_or x.wholeto j 0 in
+      let s = (whole_at x j).slot in
+      let from = (whole_at x j).from in
+      let to = (whole_at x j).to in
       let target = get_or targets (w.kind o * 32 + s) 0 in
       let low = get_or lows (w.kind o * 32 + s) 0 in
       where-least (bit (w.kind o) from && in_mask target to) (cond (eqb r s) (max low limit) low) (parts o) (λ e.
@@ -183,38 +184,38 @@ module _ (usable singles : ℕ) (targets lows highs sources : List ℕ) (x : Lin
       links s low m false e = m
 
   all-parts : (slotted : Slotted x) (r o limit n : ℕ) → o < w.size → n ≤ 16 → limit ≤ target_count w r o
-      → whole_low targets lows x.wholeslot x.wholefrom x.wholeto r limit (w.kind o) n ≤ parts o
+      → whole_low targets lows x.wholes r limit (w.kind o) n ≤ parts o
   unfolding whole_low
   all-parts slotted r o limit zero k l f = zero-le
   all-parts slotted r o limit (suc n) k l f = max-le (all-parts slotted r o limit n k (omega arith) f) (line-parts slotted r o limit n k l f)
 
-  parts-of : (to : ℕ) → ((j t : ℕ) → j < 16 → bit t (get_or x.wholeto j 0) ≡ true → bit t to ≡ true) → (o p : ℕ) → whole_of x w p o ≡ true → bit (w.kind p) to ≡ true
+  parts-of : (to : ℕ) → ((j t : ℕ) → j < 16 → bit t (whole_at x j).to ≡ true → bit t to ≡ true) → (o p : ℕ) → whole_of x w p o ≡ true → bit (w.kind p) to ≡ true
   unfolding whole_of
   parts-of to joined o p e =
       let a = any_at (whole_by x w p o) 16 e in
       let j = a.0 in
-      joined j (w.kind p) a.1 (and_left (bit (w.kind p) (get_or x.wholeto j 0)) (w.link (get_or x.wholeslot j 0) o p)
-      (and_right (bit (w.kind o) (get_or x.wholefrom j 0)) (bit (w.kind p) (get_or x.wholeto j 0) && w.link (get_or x.wholeslot j 0) o p) a.2))
+      joined j (w.kind p) a.1 (and_left (bit (w.kind p) (whole_at x j).to) (w.link (whole_at x j).slot o p)
+      (and_right (bit (w.kind o) (whole_at x j).from) (bit (w.kind p) (whole_at x j).to && w.link (whole_at x j).slot o p) a.2))
 
   same-limit : (b : Bool) → ◌≡◌ {A = ℕ} (cond b 1 1) 1
   same-limit true = refl
   same-limit false = refl
 
   -- of wholes whose first has at least `first` targets in slot r
-  parts-at : (r first from to : ℕ) → first ≤ target_count w r 0 → Slotted x → ((j t : ℕ) → j < 16 → bit t (get_or x.wholeto j 0) ≡ true → bit t to ≡ true)
+  parts-at : (r first from to : ℕ) → first ≤ target_count w r 0 → Slotted x → ((j t : ℕ) → j < 16 → bit t (whole_at x j).to ≡ true → bit t to ≡ true)
       → let z = parts_scale r first from to in
       together targets lows highs x z.a w ≤ together targets lows highs x z.b w
   unfolding parts_scale
   parts-at r first from to f slotted joined =
-      let least : ℕ → ℕ = λ o. whole_low targets lows x.wholeslot x.wholefrom x.wholeto r (cond (eqb o 0) first 0) (w.kind o) 16 in
+      let least : ℕ → ℕ = λ o. whole_low targets lows x.wholes r (cond (eqb o 0) first 0) (w.kind o) 16 in
       sums-le
-      (λ o. number_at targets lows highs x.wholeslot x.wholefrom x.wholeto (record { count = Parts; mask = from; to = 0; slot = r; limit = 0; first = first }) o (w.kind o))
+      (λ o. number_at targets lows highs x.wholes (record { count = Parts; mask = from; slot = r; limit = 0; first = first }) o (w.kind o))
       (λ o. cond (bit (w.kind o) from) (least o) 0)
-      (λ p. number_at targets lows highs x.wholeslot x.wholefrom x.wholeto (record { count = Flat; mask = to; to = 0; slot = r; limit = 1; first = 1 }) p (w.kind p))
+      (λ p. number_at targets lows highs x.wholes (record { count = Flat; mask = to; slot = r; limit = 1; first = 1 }) p (w.kind p))
       (λ p. cond (bit (w.kind p) to) 1 0)
       w.size
-      (λ o. number-parts targets lows highs x.wholeslot x.wholefrom x.wholeto from 0 r 0 first (cond (eqb o 0) first 0) (w.kind o))
-      (λ p. number-flat targets lows highs x.wholeslot x.wholefrom x.wholeto to 0 r 1 1 (cond (eqb p 0) 1 1) (w.kind p)
+      (λ o. number-parts targets lows highs x.wholes from r 0 first (cond (eqb o 0) first 0) (w.kind o))
+      (λ p. number-flat targets lows highs x.wholes to r 1 1 (cond (eqb p 0) 1 1) (w.kind p)
       ∙ ap (λ (m : ℕ). cond (bit (w.kind p) to) m 0) (same-limit (eqb p 0)))
       (parts-balance w.size (whole_of x w) (λ o. cond (bit (w.kind o) from) (least o) 0) (λ p. bit (w.kind p) to)
       (λ o k. where-least (bit (w.kind o) from) (least o) (parts o) (λ e. all-parts slotted r o (cond (eqb o 0) first 0) 16 k (omega arith)
@@ -222,7 +223,7 @@ module _ (usable singles : ℕ) (targets lows highs sources : List ℕ) (x : Lin
       (λ p k. allowed.wholes.at p k)
       (λ o p k l e. parts-of to joined o p e))
 
-  pub whole-at : (from to : ℕ) → Slotted x → ((j t : ℕ) → j < 16 → bit t (get_or x.wholeto j 0) ≡ true → bit t to ≡ true)
+  pub whole-at : (from to : ℕ) → Slotted x → ((j t : ℕ) → j < 16 → bit t (whole_at x j).to ≡ true → bit t to ≡ true)
       → let r = whole_scale (own_of q) from to in
       together targets lows highs x r.a w ≤ together targets lows highs x r.b w
   unfolding whole_scale
@@ -230,5 +231,5 @@ module _ (usable singles : ℕ) (targets lows highs sources : List ℕ) (x : Lin
     where
       go : (b : Bool) → ltb 0 q.seeds ≡ b → let r = whole_scale (then_some b (own_in q)) from to in
           together targets lows highs x r.a w ≤ together targets lows highs x r.b w
-      go true e = parts-at q.row q.low from to (asked.row (ltb-true 0 q.seeds e)).least slotted joined
+      go true e = parts-at q.row.slot q.row.low from to (asked.row (ltb-true 0 q.seeds e)).least slotted joined
       go false e = parts-at 0 0 from to zero-le slotted joined

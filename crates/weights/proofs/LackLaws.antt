@@ -26,6 +26,7 @@ use Rattle.weights.specs.Sums.{sum}
 use Rattle.weights.specs.Weigh.{Begins, Gained, Gains, Lacks}
 use Rattle.weights.proofs.NumberLaws.{limit-else}
 use Rattle.weights.proofs.SumLaws.{extra-balance, sum-ext, sum_more}
+use Rattle.worlds.specs.declared.Whole.{Whole}
 
 -- ---- a sum, as a loop counts
 
@@ -36,15 +37,12 @@ sum-begin f = refl
 pub sum-next : (f : ℕ → ℕ) (o : ℕ) {n m r : ℕ} → n ≡ sum f o → m ≡ f o → r ≡ m → n + r ≡ sum f (o + 1)
 sum-next f o e g h = let a = sum_more f o in omega arith
 
-pub sum_done : (f : ℕ → ℕ) (k o : ℕ) {n : ℕ} → o ≤ k → k ≤ o → n ≡ sum f o → n ≡ sum f k
-sum_done f k o l h e = let q : o ≡ k = omega arith in e ∙ ap (sum f) q
-
-module _ (targets lows highs slots froms tos : List ℕ) (w : Weight) (types : List ℕ) where
-  pub total-next : (o : ℕ) {n l i m r : ℕ} → n ≡ sum (λ p. number_at targets lows highs slots froms tos w p (get_or types p 0)) o → l ≡ limit_at w o → i ≡ o
-      → m ≡ number_by targets lows highs slots froms tos w l (get_or types i 0) → r ≡ m
-      → n + r ≡ sum (λ p. number_at targets lows highs slots froms tos w p (get_or types p 0)) (o + 1)
+module _ (targets lows highs : List ℕ) (wholes : List Whole) (w : Weight) (types : List ℕ) where
+  pub total-next : (o : ℕ) {n l i m r : ℕ} → n ≡ sum (λ p. number_at targets lows highs wholes w p (get_or types p 0)) o → l ≡ limit_at w o → i ≡ o
+      → m ≡ number_by targets lows highs wholes w l (get_or types i 0) → r ≡ m
+      → n + r ≡ sum (λ p. number_at targets lows highs wholes w p (get_or types p 0)) (o + 1)
   total-next o e f g h k =
-      sum-next (λ p. number_at targets lows highs slots froms tos w p (get_or types p 0)) o e (h ∙ ap₂ (λ (x y : ℕ). number_by targets lows highs slots froms tos w x (get_or types y 0)) f g) k
+      sum-next (λ p. number_at targets lows highs wholes w p (get_or types p 0)) o e (h ∙ ap₂ (λ (x y : ℕ). number_by targets lows highs wholes w x (get_or types y 0)) f g) k
 
 -- ---- gains
 
@@ -78,9 +76,6 @@ module _ (a b : ℕ → ℕ) (free : ℕ) where
         (λ k. let n = g.new in omega arith);
   })
 
-  pub gains-done : (t : ℕ) {r : Gain} → t ≤ 24 → 24 ≤ t → Gains a b free t r → Gains a b free 24 r
-  gains-done t {r} l h g = let q : t ≡ 24 = omega arith in subst (λ (n : ℕ). Gains a b free n r) q g
-
 -- ---- how many times
 
 pub times_more : (most c y z d : ℕ) → z ≡ y + most * c → d ≡ most → z + d ≡ y + most * (c + 1)
@@ -112,12 +107,12 @@ module _ (a b : ℕ → ℕ → ℕ) (a' b' : ℕ → ℕ) (later : (o t : ℕ) 
           let z = times (extras gain.g k w) h in absurd (omega arith)
 
 -- of the numbers by types
-pub lacks-by : (targets lows highs slots froms tos : List ℕ) (x : Scale) (types : List ℕ) (k free : ℕ) (gain : Gain) (m n c : ℕ) → 0 < k
-    → m ≡ sum (λ o. number_at targets lows highs slots froms tos x.a o (get_or types o 0)) k → n ≡ sum (λ o. number_at targets lows highs slots froms tos x.b o (get_or types o 0)) k
-    → Gains (number_by targets lows highs slots froms tos x.a x.a.limit) (number_by targets lows highs slots froms tos x.b x.b.limit) free 24 gain
+pub lacks-by : (targets lows highs : List ℕ) (wholes : List Whole) (x : Scale) (types : List ℕ) (k free : ℕ) (gain : Gain) (m n c : ℕ) → 0 < k
+    → m ≡ sum (λ o. number_at targets lows highs wholes x.a o (get_or types o 0)) k → n ≡ sum (λ o. number_at targets lows highs wholes x.b o (get_or types o 0)) k
+    → Gains (number_by targets lows highs wholes x.a x.a.limit) (number_by targets lows highs wholes x.b x.b.limit) free 24 gain
     → 0 < c → ((e : ℕ) → e < c → n + gain.most * e < m)
-    → Lacks (number_at targets lows highs slots froms tos x.a) (number_at targets lows highs slots froms tos x.b) types k free (Some (record { g = gain.g; c = c }))
-lacks-by targets lows highs slots froms tos x = lacks-of (number_at targets lows highs slots froms tos x.a) (number_at targets lows highs slots froms tos x.b)
-    (number_by targets lows highs slots froms tos x.a x.a.limit) (number_by targets lows highs slots froms tos x.b x.b.limit)
-    (λ o t l. ap (λ (y : ℕ). number_by targets lows highs slots froms tos x.a y t) (limit-else x.a o l))
-    (λ o t l. ap (λ (y : ℕ). number_by targets lows highs slots froms tos x.b y t) (limit-else x.b o l))
+    → Lacks (number_at targets lows highs wholes x.a) (number_at targets lows highs wholes x.b) types k free (Some (record { g = gain.g; c = c }))
+lacks-by targets lows highs wholes x = lacks-of (number_at targets lows highs wholes x.a) (number_at targets lows highs wholes x.b)
+    (number_by targets lows highs wholes x.a x.a.limit) (number_by targets lows highs wholes x.b x.b.limit)
+    (λ o t l. ap (λ (y : ℕ). number_by targets lows highs wholes x.a y t) (limit-else x.a o l))
+    (λ o t l. ap (λ (y : ℕ). number_by targets lows highs wholes x.b y t) (limit-else x.b o l))

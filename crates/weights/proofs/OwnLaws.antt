@@ -3,6 +3,7 @@
 use Prim.Native.Nat.{◌<◌, ◌≤◌, zero-le, ℕ}
 use Rattle.std.specs.Prelude.{IfSome, None, Option, Some}
 use Rattle.std.specs.Bool.{then_some}
+use Rattle.std.specs.Option.{MatchOption}
 use native.Mathlib.Nat.{le_trans}
 use native.Mathlib.Omega.{arith}
 use mathlib.Core.Bool.{Bool, ◌&&◌, cond, false, true}
@@ -27,11 +28,16 @@ cond-most : (b : Bool) (n x y : ℕ) → (b ≡ true → n ≤ x) → n ≤ y �
 cond-most true n x y f g = f refl
 cond-most false n x y f g = g
 
+-- what a function says of nothing asked and of each limits asked, it says of an Option of them
+pub own-by : {P : Own → Type 0} (g : Option Own → ℕ) (o : Option Own) {r : ℕ} → MatchOption o (r ≡ g None) P → ((a : Own) → P a → r ≡ g (Some a)) → r ≡ g o
+own-by g None e f = e
+own-by g (Some a) e f = f a e
+
 -- what is asked is asked in a role slot
-pub own-small : (q : Query) → q.row < 32 → IfSome (own_of q) (λ a. a.row < 32)
+pub own-small : (q : Query) → q.row.slot < 32 → IfSome (own_of q) (λ a. a.row.slot < 32)
 own-small q l = go (ltb 0 q.seeds)
   where
-    go : (b : Bool) → IfSome (then_some b (own_in q)) (λ a. a.row < 32)
+    go : (b : Bool) → IfSome (then_some b (own_in q)) (λ a. a.row.slot < 32)
     go true = l
     go false = tt
 
@@ -46,16 +52,16 @@ module _ (q : Query) (w : World) (asked : Satisfies q w) where
 
   pub row-least : (s : ℕ) → row_least (own_of q) s ≤ tally (λ p. w.link s 0 p) w.size
   row-least s = own-cases (λ (o : Option Own). row_least o s ≤ tally (λ p. w.link s 0 p) w.size)
-      (λ i. unfold row_least in where-least (eqb q.row s) q.low (tally (λ p. w.link s 0 p) w.size) (λ e.
-      subst (λ (r : ℕ). q.low ≤ tally (λ p. w.link r 0 p) w.size) (eqb-true q.row s e) (asked.row i).least))
+      (λ i. unfold row_least in where-least (eqb q.row.slot s) q.row.low (tally (λ p. w.link s 0 p) w.size) (λ e.
+      subst (λ (r : ℕ). q.row.low ≤ tally (λ p. w.link r 0 p) w.size) (eqb-true q.row.slot s e) (asked.row i).least))
       (unfold row_least in zero-le)
 
   pub row-most : (s : ℕ) → w.size ≤ 8 → tally (λ p. w.link s 0 p) w.size ≤ row_most (own_of q) s
   row-most s few =
       let l = tally-le (λ p. w.link s 0 p) w.size in
       own-cases (λ (o : Option Own). tally (λ p. w.link s 0 p) w.size ≤ row_most o s)
-      (λ i. unfold row_most in cond-most (eqb q.row s) (tally (λ p. w.link s 0 p) w.size) q.high 255
-      (λ e. subst (λ (r : ℕ). tally (λ p. w.link r 0 p) w.size ≤ q.high) (eqb-true q.row s e) (asked.row i).most)
+      (λ i. unfold row_most in cond-most (eqb q.row.slot s) (tally (λ p. w.link s 0 p) w.size) q.row.high 255
+      (λ e. subst (λ (r : ℕ). tally (λ p. w.link r 0 p) w.size ≤ q.row.high) (eqb-true q.row.slot s e) (asked.row i).most)
       (omega arith))
       (unfold row_most in omega arith)
 
@@ -65,31 +71,31 @@ module _ (q : Query) (w : World) (asked : Satisfies q w) where
     sources o = bit (w.kind o) from && w.link s o 0
 
     -- the query's own slot is s
-    there : eqb q.column s ≡ true → (o : ℕ) → w.link q.column o 0 ≡ w.link s o 0
-    there e o = ap (λ (r : ℕ). w.link r o 0) (eqb-true q.column s e)
+    there : eqb q.column.slot s ≡ true → (o : ℕ) → w.link q.column.slot o 0 ≡ w.link s o 0
+    there e o = ap (λ (r : ℕ). w.link r o 0) (eqb-true q.column.slot s e)
 
     pub column-least : column_least (own_of q) s from may ≤ tally sources w.size
     column-least = own-cases (λ (o : Option Own). column_least o s from may ≤ tally sources w.size)
-        (λ i. unfold column_least in where-least (eqb q.column s && in_mask (bit_and q.from may) from) q.least (tally sources w.size) (λ e.
-        let t = and_left (eqb q.column s) (in_mask (bit_and q.from may) from) e in
-        let k = and_right (eqb q.column s) (in_mask (bit_and q.from may) from) e in
+        (λ i. unfold column_least in where-least (eqb q.column.slot s && in_mask (bit_and q.column.from may) from) q.column.least (tally sources w.size) (λ e.
+        let t = and_left (eqb q.column.slot s) (in_mask (bit_and q.column.from may) from) e in
+        let k = and_right (eqb q.column.slot s) (in_mask (bit_and q.column.from may) from) e in
         le_trans (asked.column i).least (tally-mono (source_asked q w) sources w.size (λ o l h.
-        let link = sym (there t o) ∙ and_right (bit (w.kind o) q.from) (w.link q.column o 0) h in
+        let link = sym (there t o) ∙ and_right (bit (w.kind o) q.column.from) (w.link q.column.slot o 0) h in
         and_both (bit (w.kind o) from) (w.link s o 0)
-        (in_meet q.from may from k (w.kind o) (and_left (bit (w.kind o) q.from) (w.link q.column o 0) h) (reach o l link)) link))))
+        (in_meet q.column.from may from k (w.kind o) (and_left (bit (w.kind o) q.column.from) (w.link q.column.slot o 0) h) (reach o l link)) link))))
         (unfold column_least in zero-le)
 
     pub column-most : w.size ≤ 8 → tally sources w.size ≤ column_most (own_of q) s from may
     column-most few =
         let n = tally-le sources w.size in
         own-cases (λ (o : Option Own). tally sources w.size ≤ column_most o s from may)
-        (λ i. unfold column_most in cond-most (eqb q.column s && in_mask (bit_and from may) q.from) (tally sources w.size) q.most 255 (λ e.
-        let t = and_left (eqb q.column s) (in_mask (bit_and from may) q.from) e in
-        let k = and_right (eqb q.column s) (in_mask (bit_and from may) q.from) e in
+        (λ i. unfold column_most in cond-most (eqb q.column.slot s && in_mask (bit_and from may) q.column.from) (tally sources w.size) q.column.most 255 (λ e.
+        let t = and_left (eqb q.column.slot s) (in_mask (bit_and from may) q.column.from) e in
+        let k = and_right (eqb q.column.slot s) (in_mask (bit_and from may) q.column.from) e in
         le_trans (tally-mono sources (source_asked q w) w.size (λ o l h.
         let link = and_right (bit (w.kind o) from) (w.link s o 0) h in
-        and_both (bit (w.kind o) q.from) (w.link q.column o 0)
-        (in_meet from may q.from k (w.kind o) (and_left (bit (w.kind o) from) (w.link s o 0) h) (reach o l link)) (there t o ∙ link)))
+        and_both (bit (w.kind o) q.column.from) (w.link q.column.slot o 0)
+        (in_meet from may q.column.from k (w.kind o) (and_left (bit (w.kind o) from) (w.link s o 0) h) (reach o l link)) (there t o ∙ link)))
         (asked.column i).most)
         (omega arith))
         (unfold column_most in omega arith)

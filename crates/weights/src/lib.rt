@@ -5,13 +5,14 @@
 ghost use Rattle.std.specs.Prelude.{IfSome, ◌≡◌, true, ℕ, ◌<◌, ◌≤◌, ◌+◌, ◌*◌, get_or};
 ghost use Rattle.laws.specs.Bits.{bit};
 ghost use Rattle.worlds.specs.Asked.{Sane};
-ghost use Rattle.weights.specs.Numbers.{in_mask, limit_at, line_number, number_at, number_by, whole_low, whole_row};
+ghost use Rattle.worlds.specs.Lined.{zero_whole};
+ghost use Rattle.weights.specs.Numbers.{in_mask, limit_at, number_at, number_by, whole_low, whole_row};
 ghost use Rattle.weights.specs.Scales.{Fair, column_least, column_most, columns_scale, mirror_scale, row_least, row_most, rows_scale, whole_scale};
 ghost use Rattle.weights.specs.Sums.{sum};
 ghost use Rattle.weights.specs.Weigh.{Gained, Gains, Lacks, Short};
 
 use laws::Mask;
-use worlds::{Query, Tables, Types};
+use worlds::{Column, ColumnLimits, Mirror, Query, RowLimits, Tables, Types, Whole};
 
 // At least c of the further objects, and not none, have types of the mask g.
 #[derive(Clone, Copy)]
@@ -20,8 +21,7 @@ pub struct Shortage {
     pub c: u8,
 }
 
-// What is counted, by one of the lines: what asks for links, against what has room for them. Each way reads other columns of the lines, so
-// that a function for each would be no shorter than the arms of `scale_of`.
+// What is counted, by one of the lines: what asks for links, against what has room for them.
 #[derive(Clone, Copy)]
 pub enum Way {
     // Rows of a column's sources against the column, and the column against these.
@@ -38,7 +38,7 @@ pub enum Way {
 #[derive(Clone, Copy)]
 enum Count {
     // If all targets in the slot are of `to`, the lower limit there, or `limit` where that is larger.
-    Low,
+    Low { to: u32 },
     // The upper limit in the slot, or `limit` where that is smaller.
     High,
     // `limit`.
@@ -47,12 +47,12 @@ enum Count {
     Parts,
 }
 
-// A number for each type of the mask; the others have 0. For the first object `first` stands for `limit`.
+// A number for each type of the mask; the others have 0. For the first object `first` stands for `limit`. That the slot is below 32 is no
+// part of it: the definitions (specs/Scales) make weights of numbers alone, and each would have to bring the proof.
 #[derive(Clone, Copy)]
 struct Weight {
     count: Count,
     mask: u32,
-    to: u32,
     slot: u8,
     limit: u8,
     first: u8,
@@ -65,17 +65,11 @@ struct Scale {
     b: Weight,
 }
 
-// What is asked of the first object besides the tables: how many targets it has in the slot `row`, and how many sources of the types
-// `from` in the slot `column`.
+// What is asked of the first object besides the tables.
 #[derive(Clone, Copy)]
 struct Own {
-    row: u8,
-    low: u8,
-    high: u8,
-    column: u8,
-    from: u32,
-    least: u8,
-    most: u8,
+    row: RowLimits,
+    column: ColumnLimits,
 }
 
 // Types for which one number is above another, and by how much at most.
@@ -87,58 +81,42 @@ struct Gain {
 
 // ---- numbers
 
-// The number of type t by a line with the types `from` and `to`, where its targets and its lower limit are given.
-fn line_number(from: u32, to: u32, target: u32, low: u8, own: bool, limit: u8, t: u8) -> u8
-    requires { t < 24 }
-    ensures { result ≡ line_number from to target low own limit t }
-{
-    let counts = from.has(u32::from(t)) & target.is_inside(to);
-    type_tables::pick(counts, type_tables::pick(own, low.max(limit), low), 0)
-}
-
 // How many links to parts an object of type t has at least by line j.
 fn whole_row(tables: &Tables, slot: u8, limit: u8, t: u8, j: usize) -> u8
     requires { (t < 24) × (j < 16) }
-    ensures { result ≡ whole_row tables.now.targets tables.now.lows tables.now.lines.wholeslot tables.now.lines.wholefrom tables.now.lines.wholeto slot limit t j }
+    ensures { result ≡ whole_row tables.now.targets tables.now.lows tables.now.lines.wholes slot limit t j }
 {
-    let s = tables.lines.wholeslot[j];
-    let x = laws::place(t, s);
+    let whole = tables.lines.wholes[j];
+    let x = laws::place(t, whole.slot);
     let low = tables.lows[x];
-    line_number(
-        tables.lines.wholefrom[j],
-        tables.lines.wholeto[j],
-        tables.targets[x],
-        low,
-        slot == s,
-        limit,
-        t,
+    let counts = whole.from.has(u32::from(t)) & tables.targets[x].is_inside(whole.to);
+    type_tables::pick(
+        counts,
+        type_tables::pick(slot == whole.slot, low.max(limit), low),
+        0,
     )
 }
 
 // The largest of these.
 fn whole_low(tables: &Tables, slot: u8, limit: u8, t: u8) -> u8
     requires { t < 24 }
-    ensures { result ≡ whole_low tables.now.targets tables.now.lows tables.now.lines.wholeslot tables.now.lines.wholefrom tables.now.lines.wholeto slot limit t 16 }
+    ensures { result ≡ whole_low tables.now.targets tables.now.lows tables.now.lines.wholes slot limit t 16 }
 {
-    let mut n: u8 = 0;
-    for j in 0..16 {
-        n = n.max(whole_row(tables, slot, limit, t, j));
-    }
-    n
+    (0..16).fold(0, |n: u8, j| n.max(whole_row(tables, slot, limit, t, j)))
 }
 
 // The number of type t.
 fn number_of(tables: &Tables, w: Weight, limit: u8, t: u8) -> u8
     requires { (t < 24) × (w.slot < 32) }
-    ensures { result ≡ number_by tables.now.targets tables.now.lows tables.now.highs tables.now.lines.wholeslot tables.now.lines.wholefrom tables.now.lines.wholeto w limit t }
+    ensures { result ≡ number_by tables.now.targets tables.now.lows tables.now.highs tables.now.lines.wholes w limit t }
 {
     if !w.mask.has(u32::from(t)) {
         return 0;
     }
     let x = laws::place(t, w.slot);
     match w.count {
-        Count::Low => type_tables::pick(
-            tables.targets[x].is_inside(w.to),
+        Count::Low { to } => type_tables::pick(
+            tables.targets[x].is_inside(to),
             tables.lows[x].max(limit),
             0,
         ),
@@ -155,10 +133,11 @@ fn limit_at(w: Weight, o: u8) -> u8
     type_tables::pick(o == 0, w.first, w.limit)
 }
 
-// The numbers of the first k objects together.
+// The numbers of the first k objects together. The objects come as `types` and `k`, here and below: a struct of the two would be made for
+// each call of `weigh`, to be taken apart here. A loop, whose invariant bounds the sum that the next number is added to.
 fn total(tables: &Tables, w: Weight, types: Types, k: u8) -> u16
     requires { (k ≤ 8) × (w.slot < 32) }
-    ensures { (result ≡ sum (λ o. number_at tables.now.targets tables.now.lows tables.now.highs tables.now.lines.wholeslot tables.now.lines.wholefrom tables.now.lines.wholeto w o (get_or types.at o 0)) k) × (result ≤ 2040) }
+    ensures { (result ≡ sum (λ o. number_at tables.now.targets tables.now.lows tables.now.highs tables.now.lines.wholes w o (get_or types.at o 0)) k) × (result ≤ 2040) }
 {
     let mut n: u16 = 0;
     for o in 0..k {
@@ -187,7 +166,7 @@ fn added(gain: Gain, t: u8, x: u8, y: u8) -> Gain
 // The types of the mask `free` for which b's number is above a's, and by how much at most.
 fn gains(tables: &Tables, x: Scale, free: u32) -> Gain
     requires { (x.a.slot < 32) × (x.b.slot < 32) }
-    ensures { Gains (number_by tables.now.targets tables.now.lows tables.now.highs tables.now.lines.wholeslot tables.now.lines.wholefrom tables.now.lines.wholeto x.a x.a.limit) (number_by tables.now.targets tables.now.lows tables.now.highs tables.now.lines.wholeslot tables.now.lines.wholefrom tables.now.lines.wholeto x.b x.b.limit) free 24 result }
+    ensures { Gains (number_by tables.now.targets tables.now.lows tables.now.highs tables.now.lines.wholes x.a x.a.limit) (number_by tables.now.targets tables.now.lows tables.now.highs tables.now.lines.wholes x.b x.b.limit) free 24 result }
 {
     let a = x.a;
     let b = x.b;
@@ -220,7 +199,7 @@ fn times(x: u16, y: u16, most: u8) -> u8
 // What is lacking where the numbers a of all objects are together not above the numbers b.
 fn lacking(tables: &Tables, x: Scale, types: Types, k: u8, free: u32) -> Option<Shortage>
     requires { (0 < k) × (k ≤ 8) × (x.a.slot < 32) × (x.b.slot < 32) }
-    ensures { Lacks (number_at tables.now.targets tables.now.lows tables.now.highs tables.now.lines.wholeslot tables.now.lines.wholefrom tables.now.lines.wholeto x.a) (number_at tables.now.targets tables.now.lows tables.now.highs tables.now.lines.wholeslot tables.now.lines.wholefrom tables.now.lines.wholeto x.b) types.at k free result }
+    ensures { Lacks (number_at tables.now.targets tables.now.lows tables.now.highs tables.now.lines.wholes x.a) (number_at tables.now.targets tables.now.lows tables.now.highs tables.now.lines.wholes x.b) types.at k free result }
 {
     let a = x.a;
     let b = x.b;
@@ -248,117 +227,112 @@ fn lacking(tables: &Tables, x: Scale, types: Types, k: u8, free: u32) -> Option<
 fn row_least(own: Option<Own>, s: u8) -> u8
     ensures { result ≡ row_least own s }
 {
-    match own {
-        Some(a) => type_tables::pick(a.row == s, a.low, 0),
-        None => 0,
-    }
+    own.map_or(0, |a| type_tables::pick(a.row.slot == s, a.row.low, 0))
 }
 
 // How many it has at most; 255, above every number of links, where nothing limits it.
 fn row_most(own: Option<Own>, s: u8) -> u8
     ensures { result ≡ row_most own s }
 {
-    match own {
-        Some(a) => type_tables::pick(a.row == s, a.high, 255),
-        None => 255,
-    }
+    own.map_or(255, |a| type_tables::pick(a.row.slot == s, a.row.high, 255))
 }
 
 // How many sources of the types `from` the first object has in slot s at least; only types of the mask `may` can have links to it.
 fn column_least(own: Option<Own>, s: u8, from: u32, may: u32) -> u8
     ensures { result ≡ column_least own s from may }
 {
-    match own {
-        Some(a) => {
-            type_tables::pick((a.column == s) & (a.from & may).is_inside(from), a.least, 0)
-        }
-        None => 0,
-    }
+    own.map_or(
+        0,
+        |a| type_tables::pick(
+            (a.column.slot == s) & (a.column.from & may).is_inside(from),
+            a.column.least,
+            0,
+        ),
+    )
 }
 
 // How many it has at most.
 fn column_most(own: Option<Own>, s: u8, from: u32, may: u32) -> u8
     ensures { result ≡ column_most own s from may }
 {
-    match own {
-        Some(a) => {
-            type_tables::pick(
-                (a.column == s) & (from & may).is_inside(a.from),
-                a.most,
-                255,
-            )
-        }
-        None => 255,
+    own.map_or(
+        255,
+        |a| type_tables::pick(
+            (a.column.slot == s) & (from & may).is_inside(a.column.from),
+            a.column.most,
+            255,
+        ),
+    )
+}
+
+// Rows of a column's sources against the column.
+fn rows_scale(own: Option<Own>, column: Column, may: u32) -> Scale
+    ensures { result ≡ rows_scale own column.slot column.from column.to column.high may }
+{
+    Scale {
+        a: Weight {
+            count: Count::Low { to: column.to },
+            mask: column.from,
+            slot: column.slot,
+            limit: 0,
+            first: row_least(own, column.slot),
+        },
+        b: Weight {
+            count: Count::Flat,
+            mask: column.to,
+            slot: column.slot,
+            limit: column.high,
+            first: column
+                .high
+                .min(column_most(own, column.slot, column.from, may)),
+        },
     }
 }
 
-// Rows of sources `from` against columns of targets `to` with at most `high` sources.
-fn rows_scale(own: Option<Own>, s: u8, from: u32, to: u32, high: u8, may: u32) -> Scale
-    ensures { result ≡ rows_scale own s from to high may }
+// A column against the rows of its sources.
+fn columns_scale(own: Option<Own>, column: Column, may: u32) -> Scale
+    ensures { result ≡ columns_scale own column.slot column.from column.to column.low may }
 {
-    let a = Weight {
-        count: Count::Low,
-        mask: from,
-        to,
-        slot: s,
-        limit: 0,
-        first: row_least(own, s),
-    };
-    let b = Weight {
-        count: Count::Flat,
-        mask: to,
-        to: 0,
-        slot: s,
-        limit: high,
-        first: high.min(column_most(own, s, from, may)),
-    };
-    Scale { a, b }
+    Scale {
+        a: Weight {
+            count: Count::Flat,
+            mask: column.to,
+            slot: column.slot,
+            limit: column.low,
+            first: column
+                .low
+                .max(column_least(own, column.slot, column.from, may)),
+        },
+        b: Weight {
+            count: Count::High,
+            mask: column.from,
+            slot: column.slot,
+            limit: 255,
+            first: row_most(own, column.slot),
+        },
+    }
 }
 
-// Columns of targets `to` with at least `low` sources against rows of sources `from`.
-fn columns_scale(own: Option<Own>, s: u8, from: u32, to: u32, low: u8, may: u32) -> Scale
-    ensures { result ≡ columns_scale own s from to low may }
+// Rows of a mirror's sources against the rows back.
+fn mirror_scale(own: Option<Own>, mirror: Mirror, may: u32) -> Scale
+    ensures { result ≡ mirror_scale own mirror.right mirror.left mirror.from mirror.to may }
 {
-    let a = Weight {
-        count: Count::Flat,
-        mask: to,
-        to: 0,
-        slot: s,
-        limit: low,
-        first: low.max(column_least(own, s, from, may)),
-    };
-    let b = Weight {
-        count: Count::High,
-        mask: from,
-        to: 0,
-        slot: s,
-        limit: 255,
-        first: row_most(own, s),
-    };
-    Scale { a, b }
-}
-
-// Rows of sources `from` against the rows back of targets `to`.
-fn mirror_scale(own: Option<Own>, s: u8, back: u8, from: u32, to: u32, may: u32) -> Scale
-    ensures { result ≡ mirror_scale own s back from to may }
-{
-    let a = Weight {
-        count: Count::Low,
-        mask: from,
-        to,
-        slot: s,
-        limit: 0,
-        first: row_least(own, s),
-    };
-    let b = Weight {
-        count: Count::High,
-        mask: to,
-        to: 0,
-        slot: back,
-        limit: 255,
-        first: row_most(own, back).min(column_most(own, s, from, may)),
-    };
-    Scale { a, b }
+    Scale {
+        a: Weight {
+            count: Count::Low { to: mirror.to },
+            mask: mirror.from,
+            slot: mirror.right,
+            limit: 0,
+            first: row_least(own, mirror.right),
+        },
+        b: Weight {
+            count: Count::High,
+            mask: mirror.to,
+            slot: mirror.left,
+            limit: 255,
+            first: row_most(own, mirror.left).min(column_most(own, mirror.right, mirror.from, may)),
+        },
+    }
 }
 
 // Rows of wholes, of the types `from`, against parts, of the types `to`.
@@ -366,95 +340,72 @@ fn whole_scale(own: Option<Own>, from: u32, to: u32) -> Scale
     ensures { result ≡ whole_scale own from to }
 {
     let (slot, first) = match own {
-        Some(a) => (a.row, a.low),
+        Some(a) => (a.row.slot, a.row.low),
         None => (0, 0),
     };
-    let a = Weight {
-        count: Count::Parts,
-        mask: from,
-        to: 0,
-        slot,
-        limit: 0,
-        first,
-    };
-    let b = Weight {
-        count: Count::Flat,
-        mask: to,
-        to: 0,
-        slot,
-        limit: 1,
-        first: 1,
-    };
-    Scale { a, b }
+    Scale {
+        a: Weight {
+            count: Count::Parts,
+            mask: from,
+            slot,
+            limit: 0,
+            first,
+        },
+        b: Weight {
+            count: Count::Flat,
+            mask: to,
+            slot,
+            limit: 1,
+            first: 1,
+        },
+    }
 }
 
-// The types of all the masks.
-fn joined(masks: &[u32; 16]) -> u32
-    ensures { (j t : ℕ) → j < 16 → bit t (get_or masks.now j 0) ≡ true → bit t result ≡ true }
+// The types of all wholes, and of all parts: both by one walk over the lines.
+fn joined(wholes: &[Whole; 16]) -> (u32, u32)
+    ensures { (j t : ℕ) → j < 16 → bit t (get_or wholes.now j zero_whole).to ≡ true → bit t result.1 ≡ true }
 {
-    let mut m: u32 = 0;
-    for mask in masks {
-        m |= *mask;
+    let mut from: u32 = 0;
+    let mut to: u32 = 0;
+    for whole in wholes {
+        from |= whole.from;
+        to |= whole.to;
     }
-    m
+    (from, to)
+}
+
+// The types of objects that may have links in the slot to an object of type t.
+fn sources_of(tables: &Tables, t: u8, slot: u8) -> u32
+    requires { (t < 24) × (slot < 32) }
+    ensures { result ≡ get_or tables.now.sources (t * 32 + slot) 0 }
+{
+    tables.sources[laws::place(t, slot)]
 }
 
 // The pair of one way, by line j, where the first object has type t.
 fn scale_of(tables: &Tables, own: Option<Own>, t: u8, way: Way, j: usize) -> Scale
-    requires { IfSome own (λ a. a.row < 32) × (t < 24) × (j < 16) }
+    requires { IfSome own (λ a. a.row.slot < 32) × (t < 24) × (j < 16) }
     ensures { Fair tables.now.sources tables.now.lines own t result }
 {
-    let lines = &tables.lines;
+    let column = tables.lines.columns[j];
+    let mirror = tables.lines.mirrors[j];
     match way {
-        Way::Rows => {
-            let s = lines.columnslot[j];
-            let may = tables.sources[laws::place(t, s)];
-            rows_scale(
-                own,
-                s,
-                lines.columnfrom[j],
-                lines.columnto[j],
-                lines.columnhigh[j],
-                may,
-            )
-        }
-        Way::Columns => {
-            let s = lines.columnslot[j];
-            let may = tables.sources[laws::place(t, s)];
-            columns_scale(
-                own,
-                s,
-                lines.columnfrom[j],
-                lines.columnto[j],
-                lines.columnlow[j],
-                may,
-            )
-        }
-        Way::There => {
-            let s = lines.mirrorright[j];
-            let may = tables.sources[laws::place(t, s)];
-            mirror_scale(
-                own,
-                s,
-                lines.mirrorleft[j],
-                lines.mirrorfrom[j],
-                lines.mirrorto[j],
-                may,
-            )
-        }
+        Way::Rows => rows_scale(own, column, sources_of(tables, t, column.slot)),
+        Way::Columns => columns_scale(own, column, sources_of(tables, t, column.slot)),
+        Way::There => mirror_scale(own, mirror, sources_of(tables, t, mirror.right)),
         Way::Back => {
-            let s = lines.mirrorleft[j];
-            let may = tables.sources[laws::place(t, s)];
-            mirror_scale(
-                own,
-                s,
-                lines.mirrorright[j],
-                lines.mirrorto[j],
-                lines.mirrorfrom[j],
-                may,
-            )
+            let back = Mirror {
+                right: mirror.left,
+                left: mirror.right,
+                from: mirror.to,
+                to: mirror.from,
+            };
+            mirror_scale(own, back, sources_of(tables, t, back.right))
         }
-        Way::Wholes => whole_scale(own, joined(&lines.wholefrom), joined(&lines.wholeto)),
+        Way::Wholes => {
+            let (from, to) = joined(&tables.lines.wholes);
+            whole_scale(own, from, to)
+        }
     }
 }
 
@@ -476,12 +427,7 @@ pub fn weigh(
     }
     let own = (0 < q.seeds).then_some(Own {
         row: q.row,
-        low: q.low,
-        high: q.high,
         column: q.column,
-        from: q.from,
-        least: q.least,
-        most: q.most,
     });
     let x = scale_of(tables, own, types.at[0], way, j % 16);
     lacking(tables, x, types, k, free)

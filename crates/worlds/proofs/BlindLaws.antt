@@ -42,8 +42,8 @@ blind-asked q sane w i j pi pj hi hj a =
       avoids = λ o h l. a.avoids (swap i j o) (swap-from i j q.seeds pi pj o h) (r.below o l);
       must = λ o s p ho hs hp e. let h = sane.must o s p ho hs hp e in ap₂ (w.link s) (seed o h.0) (seed p h.1) ∙ a.must o s p ho hs hp e;
       shut = λ o s p ho hs hp e. let h = sane.shut o s p ho hs hp e in ap₂ (w.link s) (seed o h.0) (seed p h.1) ∙ a.shut o s p ho hs hp e;
-      row = λ h. rw (row-tally r q.row 0, seed 0 h) (a.row h);
-      column = λ h. rw (column-tally r q.from q.column 0, seed 0 h) (a.column h);
+      row = λ h. rw (row-tally r q.row.slot 0, seed 0 h) (a.row h);
+      column = λ h. rw (column-tally r q.column.from q.column.slot 0, seed 0 h) (a.column h);
     }
   where
     seed : (o : ℕ) → o < q.seeds → swap i j o ≡ o

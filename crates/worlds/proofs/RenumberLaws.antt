@@ -19,6 +19,7 @@ use Rattle.growing.specs.World.{World, exchanged}
 use Rattle.worlds.specs.declared.Lines.{Lines}
 use Rattle.worlds.specs.Kept.{ColumnsKept, MirrorsKept, RowsKept, SinglesKept, WholesKept, whole_by, whole_of}
 use Rattle.worlds.specs.Renumbered.{Renumbered}
+use Rattle.worlds.specs.Lined.{column_at, mirror_at, whole_at}
 
 -- ---- numberings
 
@@ -67,7 +68,7 @@ module _ {w v : World} {at : ℕ → ℕ} (r : Renumbered w v at) where
       ∙ r.counted (λ o. eqb (w.kind o) t)
 
   whole_same : (x : Lines) (p o j : ℕ) → whole_by x v p o j ≡ whole_by x w (at p) (at o) j
-  whole_same x p o j = rw (r.kind o, r.kind p, r.link (get_or x.wholeslot j 0) o p)
+  whole_same x p o j = rw (r.kind o, r.kind p, r.link (whole_at x j).slot o p)
 
   -- how many wholes it has
   pub whole-tally : (x : Lines) (p : ℕ) → tally (whole_of x v p) v.size ≡ tally (whole_of x w (at p)) w.size
@@ -103,17 +104,17 @@ module _ {w v : World} {at : ℕ → ℕ} (r : Renumbered w v at) where
   pub columns-renumbered : (x : Lines) → ColumnsKept x w → ColumnsKept x v
   columns-renumbered x h = record {
     at = λ j p a b e.
-        rw (column-tally (get_or x.columnfrom j 0) (get_or x.columnslot j 0) p)
-        (h.at j (at p) a (below_at p b) (ap (λ (y : ℕ). bit y (get_or x.columnto j 0)) (sym (r.kind p)) ∙ e));
+        rw (column-tally (column_at x j).from (column_at x j).slot p)
+        (h.at j (at p) a (below_at p b) (ap (λ (y : ℕ). bit y (column_at x j).to) (sym (r.kind p)) ∙ e));
   }
 
   pub mirrors-renumbered : (x : Lines) → MirrorsKept x w → MirrorsKept x v
   mirrors-renumbered x h = record {
     at = λ j o p a b c e f.
-        r.link (get_or x.mirrorright j 0) o p
-        ∙ h.at j (at o) (at p) a (below_at o b) (below_at p c) (ap (λ (y : ℕ). bit y (get_or x.mirrorfrom j 0)) (sym (r.kind o)) ∙ e)
-        (ap (λ (y : ℕ). bit y (get_or x.mirrorto j 0)) (sym (r.kind p)) ∙ f)
-        ∙ sym (r.link (get_or x.mirrorleft j 0) p o);
+        r.link (mirror_at x j).right o p
+        ∙ h.at j (at o) (at p) a (below_at o b) (below_at p c) (ap (λ (y : ℕ). bit y (mirror_at x j).from) (sym (r.kind o)) ∙ e)
+        (ap (λ (y : ℕ). bit y (mirror_at x j).to) (sym (r.kind p)) ∙ f)
+        ∙ sym (r.link (mirror_at x j).left p o);
   }
 
   pub wholes-renumbered : (x : Lines) → WholesKept x w → WholesKept x v

@@ -11,7 +11,7 @@ use Rattle.worlds.specs.Kept.{Allowed, Sheet, world_in}
 
 -- o counts as a source of the first seed
 abbrev pub source_asked : Query → World → ℕ → Bool
-source_asked q w o = bit (w.kind o) q.from && w.link q.column o 0
+source_asked q w o = bit (w.kind o) q.column.from && w.link q.column.slot o 0
 
 pub record Satisfies (q : Query) (w : World) : Type 0 where
   -- the seeds and their types, and the types that no other object has
@@ -22,14 +22,14 @@ pub record Satisfies (q : Query) (w : World) : Type 0 where
   pub must : (o s p : ℕ) → o < 8 → s < 32 → p < 8 → net_of q.must (o * 32 + s) p ≡ true → w.link s o p ≡ true
   pub shut : (o s p : ℕ) → o < 8 → s < 32 → p < 8 → net_of q.shut (o * 32 + s) p ≡ true → w.link s o p ≡ false
   -- how many targets and how many sources the first seed has
-  pub row : 0 < q.seeds → InLimits q.low q.high (target_count w q.row 0)
-  pub column : 0 < q.seeds → InLimits q.least q.most (tally (source_asked q w) w.size)
+  pub row : 0 < q.seeds → InLimits q.row.low q.row.high (target_count w q.row.slot 0)
+  pub column : 0 < q.seeds → InLimits q.column.least q.column.most (tally (source_asked q w) w.size)
 
 -- a query speaks of links between seeds only, and of role slots
 pub record Sane (q : Query) : Type 0 where
   pub few : q.seeds ≤ 8
-  pub row : q.row < 32
-  pub column : q.column < 32
+  pub row : q.row.slot < 32
+  pub column : q.column.slot < 32
   pub must : (o s p : ℕ) → o < 8 → s < 32 → p < 8 → net_of q.must (o * 32 + s) p ≡ true → (o < q.seeds) × (p < q.seeds)
   pub shut : (o s p : ℕ) → o < 8 → s < 32 → p < 8 → net_of q.shut (o * 32 + s) p ≡ true → (o < q.seeds) × (p < q.seeds)
 

@@ -3,13 +3,14 @@
 use Rattle.std.specs.Prelude.{◌*◌, ◌+◌, ◌<◌, ℕ, List, ◌≡◌, get_or}
 use Rattle.laws.specs.Bits.{bit}
 use Rattle.worlds.specs.declared.Lines.{Lines}
+use Rattle.worlds.specs.Lined.{column_at, mirror_at, whole_at}
 
 -- the slots of lines are role slots
 pub record Slotted (x : Lines) : Type 0 where
-  pub column : (j : ℕ) → j < 16 → get_or x.columnslot j 0 < 32
-  pub right : (j : ℕ) → j < 16 → get_or x.mirrorright j 0 < 32
-  pub left : (j : ℕ) → j < 16 → get_or x.mirrorleft j 0 < 32
-  pub whole : (j : ℕ) → j < 16 → get_or x.wholeslot j 0 < 32
+  pub column : (j : ℕ) → j < 16 → (column_at x j).slot < 32
+  pub right : (j : ℕ) → j < 16 → (mirror_at x j).right < 32
+  pub left : (j : ℕ) → j < 16 → (mirror_at x j).left < 32
+  pub whole : (j : ℕ) → j < 16 → (whole_at x j).slot < 32
 
 -- types are numbers of types: a diagram has at most 24
 abbrev pub SmallTypes : List ℕ → Type 0

@@ -10,6 +10,7 @@ use Rattle.link_search.specs.Nets.{InLimits, net_of}
 use Rattle.worlds.specs.declared.Lines.{Lines}
 use Rattle.worlds.specs.declared.Others.{Others}
 use Rattle.worlds.specs.declared.Tables.{Tables}
+use Rattle.worlds.specs.Lined.{column_at, mirror_at, whole_at}
 
 -- the world of n objects whose types and rows of links stand in arrays, as in a record in memory
 unfoldable pub world_in : ℕ → List ℕ → List ℕ → World
@@ -35,21 +36,21 @@ pub record RowsKept (targets lows highs : List ℕ) (w : World) : Type 0 where
 
 -- o counts as a source of p by column j
 abbrev pub source_by : Lines → World → ℕ → ℕ → ℕ → Bool
-source_by x w j p o = bit (w.kind o) (get_or x.columnfrom j 0) && w.link (get_or x.columnslot j 0) o p
+source_by x w j p o = bit (w.kind o) (column_at x j).from && w.link (column_at x j).slot o p
 
 -- the number of sources of each target that is asked lies within the limits
 pub record ColumnsKept (x : Lines) (w : World) : Type 0 where
-  pub at : (j p : ℕ) → j < 16 → p < w.size → bit (w.kind p) (get_or x.columnto j 0) ≡ true
-      → InLimits (get_or x.columnlow j 0) (get_or x.columnhigh j 0) (tally (source_by x w j p) w.size)
+  pub at : (j p : ℕ) → j < 16 → p < w.size → bit (w.kind p) (column_at x j).to ≡ true
+      → InLimits (column_at x j).low (column_at x j).high (tally (source_by x w j p) w.size)
 
 -- a link stands exactly when the link back does
 pub record MirrorsKept (x : Lines) (w : World) : Type 0 where
-  pub at : (j o p : ℕ) → j < 16 → o < w.size → p < w.size → bit (w.kind o) (get_or x.mirrorfrom j 0) ≡ true → bit (w.kind p) (get_or x.mirrorto j 0) ≡ true
-      → w.link (get_or x.mirrorright j 0) o p ≡ w.link (get_or x.mirrorleft j 0) p o
+  pub at : (j o p : ℕ) → j < 16 → o < w.size → p < w.size → bit (w.kind o) (mirror_at x j).from ≡ true → bit (w.kind p) (mirror_at x j).to ≡ true
+      → w.link (mirror_at x j).right o p ≡ w.link (mirror_at x j).left p o
 
 -- o is a whole of p by association j, by some association
 abbrev pub whole_by : Lines → World → ℕ → ℕ → ℕ → Bool
-whole_by x w p o j = bit (w.kind o) (get_or x.wholefrom j 0) && (bit (w.kind p) (get_or x.wholeto j 0) && w.link (get_or x.wholeslot j 0) o p)
+whole_by x w p o j = bit (w.kind o) (whole_at x j).from && (bit (w.kind p) (whole_at x j).to && w.link (whole_at x j).slot o p)
 
 unfoldable pub whole_of : Lines → World → ℕ → ℕ → Bool
 whole_of x w p o = any (whole_by x w p o) 16

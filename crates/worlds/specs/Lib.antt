@@ -1,3 +1,4 @@
+pub mod Lined
 pub mod Coherent
 pub mod Kept
 pub mod Asked

@@ -12,6 +12,7 @@ use Rattle.views.specs.Views.{column_from, column_high, column_low, column_slot,
 use Rattle.worlds.specs.declared.Lines.{Lines}
 use Rattle.worlds.specs.Coherent.{Slotted}
 use Rattle.worlds.specs.Kept.{Sheet}
+use Rattle.worlds.specs.Lined.{column_at, mirror_at, whole_at}
 
 -- ---- types
 
@@ -54,18 +55,18 @@ pub record RowTables (old d : Diagram) (targets lows highs : List ℕ) : Type 0 
 -- ---- associations
 
 pub record LinesOf (old d : Diagram) (x : Lines) : Type 0 where
-  pub column-slot : (j : ℕ) → j < 16 → get_or x.columnslot j 0 ≡ column_slot old d j
-  pub column-from : (j t : ℕ) → j < 16 → t < length old.types → bit t (get_or x.columnfrom j 0) ≡ column_from old d j t
-  pub column-to : (j t : ℕ) → j < 16 → t < length old.types → bit t (get_or x.columnto j 0) ≡ column_to old d j t
-  pub column-low : (j : ℕ) → j < 16 → get_or x.columnlow j 0 ≡ column_low old d j
-  pub column-high : (j : ℕ) → j < 16 → get_or x.columnhigh j 0 ≡ column_high old d j
-  pub mirror-right : (j : ℕ) → j < 16 → get_or x.mirrorright j 0 ≡ mirror_right old d j
-  pub mirror-left : (j : ℕ) → j < 16 → get_or x.mirrorleft j 0 ≡ mirror_left old d j
-  pub mirror-from : (j t : ℕ) → j < 16 → t < length old.types → bit t (get_or x.mirrorfrom j 0) ≡ mirror_from old d j t
-  pub mirror-to : (j t : ℕ) → j < 16 → t < length old.types → bit t (get_or x.mirrorto j 0) ≡ mirror_to old d j t
-  pub whole-slot : (j : ℕ) → j < 16 → get_or x.wholeslot j 0 ≡ whole_slot old d j
-  pub whole-from : (j t : ℕ) → j < 16 → t < length old.types → bit t (get_or x.wholefrom j 0) ≡ whole_from old d j t
-  pub whole-to : (j t : ℕ) → j < 16 → t < length old.types → bit t (get_or x.wholeto j 0) ≡ whole_to old d j t
+  pub column-slot : (j : ℕ) → j < 16 → (column_at x j).slot ≡ column_slot old d j
+  pub column-from : (j t : ℕ) → j < 16 → t < length old.types → bit t (column_at x j).from ≡ column_from old d j t
+  pub column-to : (j t : ℕ) → j < 16 → t < length old.types → bit t (column_at x j).to ≡ column_to old d j t
+  pub column-low : (j : ℕ) → j < 16 → (column_at x j).low ≡ column_low old d j
+  pub column-high : (j : ℕ) → j < 16 → (column_at x j).high ≡ column_high old d j
+  pub mirror-right : (j : ℕ) → j < 16 → (mirror_at x j).right ≡ mirror_right old d j
+  pub mirror-left : (j : ℕ) → j < 16 → (mirror_at x j).left ≡ mirror_left old d j
+  pub mirror-from : (j t : ℕ) → j < 16 → t < length old.types → bit t (mirror_at x j).from ≡ mirror_from old d j t
+  pub mirror-to : (j t : ℕ) → j < 16 → t < length old.types → bit t (mirror_at x j).to ≡ mirror_to old d j t
+  pub whole-slot : (j : ℕ) → j < 16 → (whole_at x j).slot ≡ whole_slot old d j
+  pub whole-from : (j t : ℕ) → j < 16 → t < length old.types → bit t (whole_at x j).from ≡ whole_from old d j t
+  pub whole-to : (j t : ℕ) → j < 16 → t < length old.types → bit t (whole_at x j).to ≡ whole_to old d j t
 
 -- ---- the diagram's own, all together
 

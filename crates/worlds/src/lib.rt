@@ -1,11 +1,29 @@
 // What the search by types works on: a query, tables by types, and what it finds.
 #![tactic(auto)]
 
+ghost use Rattle.std.specs.Prelude.{◌≡◌, ◌*◌, ◌+◌, ◌<◌, get_or};
 ghost use Rattle.worlds.specs.Coherent.{Slotted, SmallTypes, SourceTable};
 
-// A question about the sites that one diagram allows. Its seeds are the first objects. It is built one demand after the other, so that what
-// makes it sane is asked where it is used. The limits of the first seed have numbers also where there is no seed or no limit: the search takes
-// the larger or the smaller of these and of the tables'.
+// The limits for the number of targets of one object in one role slot.
+#[derive(Clone, Copy)]
+pub struct RowLimits {
+    pub slot: u8,
+    pub low: u8,
+    pub high: u8,
+}
+
+// The limits for the number of its sources in one role slot, among objects of the types `from`.
+#[derive(Clone, Copy)]
+pub struct ColumnLimits {
+    pub slot: u8,
+    pub from: u32,
+    pub least: u8,
+    pub most: u8,
+}
+
+// A question about the sites that one diagram allows. Its seeds are the first objects. It is built one demand after the other, and is `Sane`
+// when it is whole: a struct around a whole one would be taken off at each read of a field (`q.seeds`, `q.row`), so that the contracts of
+// the search ask `Sane q`.
 #[derive(Clone, Copy)]
 pub struct Query {
     // How many objects are asked for, and of which types each may be, one bit for each type.
@@ -14,42 +32,52 @@ pub struct Query {
     // Links between seeds that must stand, and links that must not: for object o and role slot s at o * 32 + s, one bit for each target.
     pub must: [u8; 256],
     pub shut: [u8; 256],
-    // The limits for the number of targets of the first seed in one role slot.
-    pub row: u8,
-    pub low: u8,
-    pub high: u8,
-    // The limits for the number of its sources in one role slot, among objects of the types `from`.
-    pub column: u8,
-    pub from: u32,
-    pub least: u8,
-    pub most: u8,
+    // The limits of the first seed. They are no Options: limits that no number breaks ask nothing, so that one sentence of the definition
+    // of a solution holds of all queries.
+    pub row: RowLimits,
+    pub column: ColumnLimits,
     // Types that no other object has.
     pub never: u32,
 }
 
-// What a diagram asks by associations, in sets of types. Of association j, where it does not ask, the sets are empty and the slot is 0. Each
-// field is an array of its own, as the search reads one or two fields of all associations. That the slots are role slots is not said here:
-// it is known of the lines of the diagram whose sites are searched, and not asked of others.
+// Rule 7: how many sources a target has.
 #[derive(Clone, Copy)]
-pub struct Lines {
-    // Rule 7: how many sources a target has.
-    pub columnslot: [u8; 16],
-    pub columnfrom: [u32; 16],
-    pub columnto: [u32; 16],
-    pub columnlow: [u8; 16],
-    pub columnhigh: [u8; 16],
-    // Rule 8: a link stands exactly when the link back does.
-    pub mirrorright: [u8; 16],
-    pub mirrorleft: [u8; 16],
-    pub mirrorfrom: [u32; 16],
-    pub mirrorto: [u32; 16],
-    // Rule 9: an object is a part of one whole.
-    pub wholeslot: [u8; 16],
-    pub wholefrom: [u32; 16],
-    pub wholeto: [u32; 16],
+pub struct Column {
+    pub slot: u8,
+    pub from: u32,
+    pub to: u32,
+    pub low: u8,
+    pub high: u8,
 }
 
-// What the diagram whose sites are searched says of their objects, by types and role slots.
+// Rule 8: a link stands exactly when the link back does.
+#[derive(Clone, Copy)]
+pub struct Mirror {
+    pub right: u8,
+    pub left: u8,
+    pub from: u32,
+    pub to: u32,
+}
+
+// Rule 9: an object is a part of one whole.
+#[derive(Clone, Copy)]
+pub struct Whole {
+    pub slot: u8,
+    pub from: u32,
+    pub to: u32,
+}
+
+// What a diagram asks by associations, in sets of types. Of an association that does not ask, the sets are empty and the slot is 0. That the
+// slots are role slots is not said here: it is known of the lines of the diagram whose sites are searched, and not asked of others.
+#[derive(Clone, Copy)]
+pub struct Lines {
+    pub columns: [Column; 16],
+    pub mirrors: [Mirror; 16],
+    pub wholes: [Whole; 16],
+}
+
+// What the diagram whose sites are searched says of their objects, by types and role slots. The tables of rows are three fields, here and in
+// `Others`, and no struct of three: `relaxing` asks with the targets and the highs of a diagram and other lows.
 #[derive(Clone, Copy)]
 pub struct Tables {
     // For type t and role slot s at t * 32 + s: the types of the targets that an object may have and of the sources, and the limits for
@@ -87,6 +115,24 @@ pub struct Types {
     pub at: [u8; 8],
     // They are numbers of types, also past the objects.
     ghost small: { SmallTypes at },
+}
+
+impl Types {
+    // The type of object o.
+    pub fn of(&self, o: u8) -> u32
+        requires { o < 8 }
+        ensures { (result ≡ get_or self.now.at o 0) × (result < 24) }
+    {
+        u32::from(self.at[usize::from(o)])
+    }
+
+    // Where a table has row s of object o.
+    pub fn row(&self, o: u8, s: u8) -> usize
+        requires { (o < 8) × (s < 32) }
+        ensures { (result ≡ get_or self.now.at o 0 * 32 + s) × (result < 768) }
+    {
+        laws::place(self.at[usize::from(o)], s)
+    }
 }
 
 // A site that was found: the types of its objects, and their links as in a record.

@@ -36,7 +36,7 @@ returns-then-is_bad_part c =
     let a = c.args in
     let x = sheet_of a.tables.now in
     λ _. nowhere-by x a.q a.n a.types.at a.q.never (λ w. BitsKept a.q.must a.q.shut w × WholesKept a.tables.now.lines w)
-    (λ w s. (bits-kept x a.q a.n w s, s.allowed.wholes)) (c.is_bad_part.ensures c.if-is_bad_part.true a.q.shut)
+    (λ w s. (bits-kept x a.q a.n w s, s.allowed.wholes)) (c.is_bad_part.ensures c.if-is_bad_part.true)
 
 pub returns-then-is_bad_first_part : goal.returns-then-is_bad_first_part
 returns-then-is_bad_first_part c =
@@ -45,9 +45,9 @@ returns-then-is_bad_first_part c =
     -- there is a first seed
     let seeded : 0 < a.q.seeds = (let z : a.q.seeds ≡ 0 → ⊥ = c.if-q-eq0.false in omega arith) in
     λ _. nowhere-by x a.q a.n a.types.at a.q.never
-    (λ w. (RowsKept a.tables.now.targets a.tables.now.lows a.tables.now.highs w × InLimits a.q.low a.q.high (target_count w a.q.row 0)) × (MirrorsKept a.tables.now.lines w × WholesKept a.tables.now.lines w))
+    (λ w. (RowsKept a.tables.now.targets a.tables.now.lows a.tables.now.highs w × InLimits a.q.row.low a.q.row.high (target_count w a.q.row.slot 0)) × (MirrorsKept a.tables.now.lines w × WholesKept a.tables.now.lines w))
     (λ w s. ((s.allowed.rows, s.asked.row seeded), (s.allowed.mirrors, s.allowed.wholes)))
-    (c.is_bad_first_part.ensures c.if-is_bad_first_part.true a.tables.now.lows a.tables.now.highs a.q.high a.q.seeds seeded)
+    (c.is_bad_first_part.ensures c.if-is_bad_first_part.true a.tables.now.lows a.tables.now.highs a.q.seeds seeded)
 
 pub is_bad_first_back-requires : goal.is_bad_first_back-requires
 is_bad_first_back-requires c = c.requires.0.row
@@ -59,7 +59,7 @@ returns-then-is_bad_first_back c =
     -- there is a first seed
     let seeded : 0 < a.q.seeds = (let z : a.q.seeds ≡ 0 → ⊥ = c.if-q-eq0.false in omega arith) in
     λ _. nowhere-by x a.q a.n a.types.at a.q.never
-    (λ w. (RowsKept a.tables.now.targets a.tables.now.lows a.tables.now.highs w × InLimits a.q.low a.q.high (target_count w a.q.row 0)) × (SourcesKept a.tables.now.sources w × ColumnsKept a.tables.now.lines w × MirrorsKept a.tables.now.lines w))
+    (λ w. (RowsKept a.tables.now.targets a.tables.now.lows a.tables.now.highs w × InLimits a.q.row.low a.q.row.high (target_count w a.q.row.slot 0)) × (SourcesKept a.tables.now.sources w × ColumnsKept a.tables.now.lines w × MirrorsKept a.tables.now.lines w))
     (λ w s. ((s.allowed.rows, s.asked.row seeded), (sources-kept x a.q a.n a.tables.now.sources c.args.tables.now.turned w s, s.allowed.columns, s.allowed.mirrors)))
     (c.is_bad_first_back.ensures c.if-is_bad_first_back.true a.tables.now.lows a.tables.now.highs a.q.seeds seeded)
 
@@ -72,7 +72,7 @@ returns-then-is_bad_first_row c =
     let x = sheet_of a.tables.now in
     -- there is a first seed
     let seeded : 0 < a.q.seeds = (let z : a.q.seeds ≡ 0 → ⊥ = c.if-q-eq0.false in omega arith) in
-    λ _. nowhere-by x a.q a.n a.types.at a.q.never (λ w. RowsKept a.tables.now.targets a.tables.now.lows a.tables.now.highs w × InLimits a.q.low a.q.high (target_count w a.q.row 0))
+    λ _. nowhere-by x a.q a.n a.types.at a.q.never (λ w. RowsKept a.tables.now.targets a.tables.now.lows a.tables.now.highs w × InLimits a.q.row.low a.q.row.high (target_count w a.q.row.slot 0))
     (λ w s. (s.allowed.rows, s.asked.row seeded)) (c.is_bad_first_row.ensures c.if-is_bad_first_row.true a.tables.now.targets a.q.seeds seeded)
 
 pub is_bad_first_column-requires : goal.is_bad_first_column-requires
@@ -84,5 +84,5 @@ returns c =
     let x = sheet_of a.tables.now in
     -- there is a first seed
     let seeded : 0 < a.q.seeds = (let z : a.q.seeds ≡ 0 → ⊥ = c.if-q-eq0.false in omega arith) in
-    λ t. nowhere-by x a.q a.n a.types.at a.q.never (FirstColumn a.tables.now.targets a.tables.now.sources a.tables.now.lows a.tables.now.highs a.tables.now.lines a.q.column a.q.from a.q.least a.q.most)
+    λ t. nowhere-by x a.q a.n a.types.at a.q.never (FirstColumn a.tables.now.targets a.tables.now.sources a.tables.now.lows a.tables.now.highs a.tables.now.lines a.q.column.slot a.q.column.from a.q.column.least a.q.column.most)
     (first-column x a.q a.n a.tables.now.sources c.args.tables.now.turned seeded) (c.is_bad_first_column.ensures t a.q.seeds seeded)

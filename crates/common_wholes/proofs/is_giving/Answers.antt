@@ -19,6 +19,6 @@ returns c =
     let x = c.has.result in
     let y = c.has-2.result in
     let z = c.is_inside.result in
-    λ e. giving a.lines a.t a.j c.requires.1 (omega (arith, c.if-lines-j-eq0.false)) c.if-lines-j.false
+    λ e. giving a.lines.now a.t a.j c.requires.1 (omega (arith, c.if-lines-j-eq0.false)) c.if-lines-j.false
     (sym c.has.ensures ∙ and_left x y (and_left (x && y) z e)) (sym c.has-2.ensures ∙ and_right x y (and_left (x && y) z e))
     (c.is_inside.ensures (and_right (x && y) z e))

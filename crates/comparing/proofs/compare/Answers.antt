@@ -10,12 +10,12 @@ invariant_of-tables c = record {
 }
 
 pub least-requires : goal.least-requires
-least-requires c = (
-  ready c.args.old.stored c.args.new.stored c.args.old.held c.rows_by.ensures c.narrowed-targets.ensures c.lines_by.ensures
-      c.usable_types-usable.ensures c.single_types.ensures c.rows_by-2.ensures c.lines_by-2.ensures c.single_types-2.ensures
-      c.single_missing.ensures c.bad_types.ensures c.missing_links.ensures,
+least-requires c = let e = c.of.ensures in (
+  rw (e.0, e.1) (ready c.args.old.stored c.args.new.stored c.args.old.held c.rows_by.ensures c.narrowed-targets.ensures c.lines_by.ensures
+      (rw e.0 at c.usable_types-usable.ensures) c.single_types.ensures c.rows_by-2.ensures c.lines_by-2.ensures c.single_types-2.ensures
+      c.single_missing.ensures (rw (e.0, e.1) at c.bad_types.ensures) c.missing_links.ensures),
   few-objects c.args.bound c.min.result c.min.ensures,
 )
 
 pub returns : goal.returns
-returns c = compared c.args.old.held.wf c.min.ensures c.least.ensures
+returns c = compared c.args.old.held.wf c.min.ensures (rw (c.of.ensures.0, c.of.ensures.1) at c.least.ensures)

@@ -8,10 +8,5 @@ use Rattle.growth.proofs.find.Goals as goal
 pub returns-then-n-q : goal.returns-then-n-q
 returns-then-n-q c = answers-few _ _ _ _ _ c.if-n-q.true refl
 
-pub seed-requires : goal.seed-requires
-seed-requires c =
-    let p = c.requires in
-    (p.0, omega arith, c.if-n-q.false, p.1)
-
 pub returns : goal.returns
 returns c = answers-grown _ _ _ _ _ _ c.seed.ensures

@@ -1,8 +1,7 @@
 use Rattle.files.specs.DiagramLayout.{attribute_laid}
-use Rattle.files.specs.Content.{at_end}
-use Rattle.laws.specs.Connective.{both, either}
+use Rattle.files.specs.RecordLayout.{link_laid}
 use Rattle.layouts.proofs.attribute_laid.Goals as goal
 
 pub returns : goal.returns
-unfolding attribute_laid both either at_end
-returns c = cc
+unfolding attribute_laid link_laid
+returns c = c.is_name_between.ensures

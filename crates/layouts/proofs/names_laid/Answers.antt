@@ -1,15 +1,12 @@
-use Rattle.layouts.proofs.NamesLaws.{past-begin, past_next, starts-at, laid-not, laid_end}
-use Rattle.laws.proofs.LoopLaws.{each}
 use Rattle.layouts.proofs.names_laid.Goals as goal
-
-pub loop-i-init : goal.loop-i-init
-loop-i-init c = search (each, past-begin)
-
-pub returns-then-not-starts_name : goal.returns-then-not-starts_name
-returns-then-not-starts_name c = search (each, starts-at, laid-not)
-
-pub loop-i-preserved : goal.loop-i-preserved
-loop-i-preserved c = search (each, past_next, starts-at)
+use Rattle.laws.specs.Connective.{both}
+use Rattle.laws.proofs.RangeLaws.{all-range}
+use Rattle.files.specs.Content.{past_names, starts_name, at_end}
+use Rattle.layouts.specs.Names.{names_laid}
+use borrow.Author.Rules.{rules}
+use borrow.Author.Tests.{tests}
+use mathlib.Core.Path.{refl}
 
 pub returns : goal.returns
-returns c = search (each, laid_end)
+unfolding names_laid both at_end
+returns c = cc (all-range (λ i. starts_name (past_names i c.args.c.now)) c.args.n c.all.ensures.ran refl (λ x b q k. search (rules, tests)))

@@ -1,6 +1,18 @@
-use Rattle.masks.proofs.MaskRuleLaws.{row-test}
+use mathlib.Core.Path.{ap, ◌∙◌}
+use Rattle.rules.specs.Arrow.{within}
+use Rattle.laws.proofs.SearchLaws.{both-no, both_yes, is-no, is-yes}
+use Rattle.masks.specs.Masks.{limits_of, row_fits}
+use Rattle.masks.proofs.MaskRuleLaws.{inside-test}
 use borrow.Author.Rules.{rules}
 use Rattle.masks.proofs.row_fits.Goals as goal
 
-pub returns : goal.returns
-returns c = row-test c.args.targets c.args.to c.args.limits.low c.args.limits.up _ (search rules) (search rules) c.count8.ensures.0 c.admits.ensures
+pub returns-then-is_inside : goal.returns-then-is_inside
+unfolding row_fits
+returns-then-is_inside c =
+    both_yes (is-yes (c.is_inside.ensures ∙ inside-test 8 c.args.targets c.args.to (search rules) (search rules)) c.if-is_inside.true)
+    (c.admits.ensures ∙ ap (within (limits_of c.args.limits)) c.count8.ensures.0)
+
+pub returns-else-is_inside : goal.returns-else-is_inside
+unfolding row_fits
+returns-else-is_inside c =
+    c.if-is_inside.false ∙ both-no _ (is-no (c.is_inside.ensures ∙ inside-test 8 c.args.targets c.args.to (search rules) (search rules)) c.if-is_inside.false)

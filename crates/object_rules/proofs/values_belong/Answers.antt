@@ -3,4 +3,8 @@ use Rattle.object_rules.proofs.ValueLaws.{rule4-values}
 use Rattle.object_rules.proofs.values_belong.Goals as goal
 
 pub returns : goal.returns
-returns c = rule4-values c.args.v.now.diagram.now.stored c.args.v.now.diagram.now.held c.args.v.now.memory.now (codes-coded c.args.v.now.codes) c.args.v.now.tables.masks c.args.v.now.instances c.args.v.now.tables.slots c.args.v.now.slots c.values_fit.ensures
+returns c =
+    let v = c.args.v.now in
+    let of = c.of.ensures in
+    rule4-values v.diagram.now.stored v.diagram.now.held v.memory.now (codes-coded v.codes) v.tables.masks v.instances v.tables.slots v.slots
+    (rw (of.memory, of.attributes, of.tables) at c.values_fit.ensures)

@@ -4,4 +4,4 @@ use Rattle.laws.proofs.BitLaws.{bit-only}
 use Rattle.queries.proofs.only.Goals as goal
 
 pub returns : goal.returns
-returns c = λ j. bit-only c.args.t c.with.result c.with.ensures j
+returns c = λ j. bit-only c.args.t c.with.result (rw c.none.ensures at c.with.ensures) j

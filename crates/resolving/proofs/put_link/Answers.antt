@@ -1,8 +1,11 @@
+use borrow.Author.Rules.{rules}
+use lib.ListN.{get_or}
+use Rattle.resolving.proofs.LinkLaws.{mask-with}
 use Prim.Native.Nat.{◌<◌}
 use mathlib.Core.Bool.{false≢true}
 use borrow.Author.Tests.{lt-leb}
 use native.Mathlib.Omega.{arith}
-use mathlib.Core.Path.{◌≡◌}
+use mathlib.Core.Path.{◌≡◌, refl}
 use Rattle.fields.specs.Slot.{slot_of}
 use Rattle.files.specs.RecordLayout.{link_of}
 use Rattle.resolving.proofs.StoredLaws.{link-in, link-stray}
@@ -12,7 +15,7 @@ pub returns-then-k-s : goal.returns-then-k-s
 unfolding link_of
 returns-then-k-s c = λ h l.
     let slot : c.slot_of-s.result ≡ slot_of c.args.names.now c.args.k (link_of c.args.c.now).role = cc in
-    link-stray c.args.m _ c.args.k slot _ _ c.if-k-s.true c.with_stray_link.ensures
+    link-stray c.args.m _ c.args.k slot _ _ c.if-k-s.true refl
 
 pub returns-then-from-to : goal.returns-then-from-to
 unfolding link_of
@@ -27,4 +30,8 @@ unfolding link_of
 returns c = λ h l.
     let slot : c.slot_of-s.result ≡ slot_of c.args.names.now c.args.k (link_of c.args.c.now).role = cc in
     let to : c.byte-to.result ≡ (link_of c.args.c.now).to = cc in
-    link-in c.args.m _ c.args.k slot _ _ c.if-k-s.false c.byte-from.ensures to c.place-i.ensures c.with_target.ensures c.with_mask.ensures
+    let small : c.byte-to.result < 8 = omega (arith, to, l) in
+    let new : c.with.result < 256 = search rules in
+    let old : get_or c.args.m.links c.place-i.result 0 < 256 = search rules in
+    let mask = mask-with c.with.result (get_or c.args.m.links c.place-i.result 0) c.byte-to.result new old small c.with.ensures in
+    link-in c.args.m _ c.args.k slot _ _ c.if-k-s.false c.byte-from.ensures to c.place-i.ensures mask refl

@@ -1,5 +1,5 @@
 use native.Mathlib.Omega.{arith}
-use mathlib.Core.Path.{◌≡◌}
+use mathlib.Core.Path.{◌≡◌, refl}
 use Rattle.fields.specs.Slot.{slot_of}
 use Rattle.files.specs.RecordLayout.{value_of}
 use Rattle.resolving.proofs.StoredLaws.{value_in, value-stray}
@@ -9,7 +9,7 @@ pub returns-then-k-s : goal.returns-then-k-s
 unfolding value_of
 returns-then-k-s c = λ h.
     let slot : c.slot_of-s.result ≡ slot_of c.args.names.now c.args.k (value_of c.args.c.now).attribute = cc in
-    value-stray c.args.m _ c.args.k slot _ c.args.code c.if-k-s.true c.with_stray_value.ensures
+    value-stray c.args.m _ c.args.k slot _ c.args.code c.if-k-s.true refl
 
 pub returns-then-object-ge8 : goal.returns-then-object-ge8
 unfolding value_of
@@ -19,4 +19,4 @@ pub returns : goal.returns
 unfolding value_of
 returns c = λ h.
     let slot : c.slot_of-s.result ≡ slot_of c.args.names.now c.args.k (value_of c.args.c.now).attribute = cc in
-    value_in c.args.m _ c.args.k slot _ c.args.code c.if-k-s.false c.byte-object.ensures c.place.ensures c.with_value.ensures
+    value_in c.args.m _ c.args.k slot _ c.args.code c.if-k-s.false c.byte-object.ensures c.place.ensures refl

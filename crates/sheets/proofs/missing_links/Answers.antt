@@ -10,7 +10,7 @@ use Rattle.sheets.proofs.missing_links.Goals as goal
 pub returns : goal.returns
 returns c =
     let by = c.args.by.now in
-    let ends = c.of-ends in
+    let ends = c.of in
     let e = ends.result in
     let r = c.missing_of.result in
     missing-are by.old.now.stored by.new.now.stored by.new.now.held e.sets e.slots ends.ensures.sets ends.ensures.slots r

@@ -5,6 +5,5 @@ use Rattle.sheets.proofs.TypeSetLaws.{missing-is}
 use Rattle.sheets.proofs.single_missing.Goals as goal
 
 pub returns : goal.returns
-returns c = let found = c.images-found in
-    let chosen = c.singles_of-chosen in
-    c.has.ensures ∙ ap (λ (i : ℕ). bit i c.images_of.result) c.from.ensures ∙ missing-is c.args.by.now.old.now.stored c.args.by.now.new.now.stored found.result found.ensures chosen.result c.images_of.result chosen.ensures c.images_of.ensures
+returns c =
+    c.has.ensures ∙ ap (λ (i : ℕ). bit i c.singles_by.result) c.from.ensures ∙ missing-is c.args.by.now.old.now.stored c.args.by.now.new.now.stored c.singles_by.result c.singles_by.ensures

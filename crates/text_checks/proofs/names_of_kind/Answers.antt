@@ -9,14 +9,14 @@ loop-k-init c = search (rules, collected-begin)
 pub returns-then-names-most : goal.returns-then-names-most
 returns-then-names-most c = search (rules, collected-full)
 
-pub push_name-names-requires : goal.push_name-names-requires
-push_name-names-requires c = (search rules, search (rules, name-short))
+pub push-requires : goal.push-requires
+push-requires c = (search rules, search (rules, name-short))
 
 pub loop-k-preserved : goal.loop-k-preserved
 loop-k-preserved c =
     let i = c.loop-k.invariant in
     elim c.if-is_kind.branch [
-      | then-is_kind b ↦ rw b.names-is (omega (arith, i.0, c.if-names-most.false, b.push_name-names.ensures.0), collected-push _ _ _ _ i.1 c.is_kind.ensures b.if-is_kind.true b.name.ensures b.push_name-names.ensures.1)
+      | then-is_kind b ↦ rw b.names-is (omega (arith, i.0, c.if-names-most.false, b.push.ensures.0), collected-push _ _ _ _ i.1 c.is_kind.ensures b.if-is_kind.true b.name.ensures b.push.ensures.1)
       | else-is_kind b ↦ rw b.names-is (i.0, collected-pass _ _ _ _ i.1 c.is_kind.ensures b.if-is_kind.false)
     ]
 

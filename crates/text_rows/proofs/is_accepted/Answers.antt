@@ -12,7 +12,10 @@ loop-token-smaller c = rest-shorter (rw c.in-Some.is at c.next_token.ensures)
 pub loop-token-preserved : goal.loop-token-preserved
 loop-token-preserved c =
     let h = rw c.in-Some.is at c.next_token.ensures in
-    (h.state-small, c.loop-token.invariant.1 ∙ accepted-next h c.is_name_state.ensures c.if-is_name_state-token.false)
+    (c.in-Some.token.state.in_table, c.loop-token.invariant.1 ∙ accepted-next h c.is_name_state.ensures c.if-is_name_state-token.false)
 
 pub returns : goal.returns
-returns c = accepted-end _ c.loop-token.q (rw c.in_default.is at c.next_token.ensures) ∙ sym c.loop-token.invariant.1
+returns c = accepted-end _ c.loop-token.q.0 (rw c.in_default.is at c.next_token.ensures) ∙ sym c.loop-token.invariant.1
+
+pub invariant_of-q : goal.invariant_of-q
+invariant_of-q c = record { in_table = c.loop-token.invariant.0 }

@@ -4,12 +4,12 @@ use Rattle.text_rows.proofs.RowLaws.{rest-shorter}
 use Rattle.text_rows.proofs.row_end.Goals as goal
 
 pub loop-token-init : goal.loop-token-init
-loop-token-init c = (c.requires, (behind-self _, continues-self _ _))
+loop-token-init c = (behind-self _, continues-self _ _)
 
-pub returns-then-token-eq3 : goal.returns-then-token-eq3
-returns-then-token-eq3 c =
-    let i = c.loop-token.invariant.1 in
-    ends-some (rw c.in-Some.is at c.next_token.ensures) i.1 c.if-token-eq3.true i.0 _ refl
+pub returns-then-token : goal.returns-then-token
+returns-then-token c =
+    let i = c.loop-token.invariant in
+    ends-some (rw c.in-Some.is at c.next_token.ensures) i.1 c.if-token.true i.0 _ refl
 
 pub loop-token-smaller : goal.loop-token-smaller
 loop-token-smaller c = rest-shorter (rw c.in-Some.is at c.next_token.ensures)
@@ -17,8 +17,8 @@ loop-token-smaller c = rest-shorter (rw c.in-Some.is at c.next_token.ensures)
 pub loop-token-preserved : goal.loop-token-preserved
 loop-token-preserved c =
     let h = rw c.in-Some.is at c.next_token.ensures in
-    let i = c.loop-token.invariant.1 in
-    (h.state-small, (behind-after h i.0, continues-next h i.1 c.if-token-eq3.false))
+    let i = c.loop-token.invariant in
+    (behind-after h i.0, continues-next h i.1 c.if-token.false)
 
 pub returns : goal.returns
-returns c = ends-none _ _ _ _ c.loop-token.invariant.1.1 (rw c.in_default.is at c.next_token.ensures)
+returns c = ends-none _ _ _ _ c.loop-token.invariant.1 (rw c.in_default.is at c.next_token.ensures)

@@ -1,4 +1,5 @@
-use Rattle.std.proofs.Common.{arith, refl}
+use Rattle.std.proofs.Common.{◌≡◌, arith, refl, rules}
+use Rattle.text_rows.specs.Noted.{unpassed}
 use Rattle.text_rows.proofs.EndLaws.{behind-after, behind-is, behind-self, behind-start, continues-next, continues-self, ends-none, ends-some}
 use Rattle.text_rows.proofs.RowLaws.{rest-shorter}
 use Rattle.text_rows.proofs.ScanLaws.{scanned-begin, scanned-end, scanned-next, scanned-room, scanned-stop}
@@ -6,7 +7,8 @@ use Rattle.text_rows.proofs.scan_row.Goals as goal
 
 pub loop-token-init : goal.loop-token-init
 loop-token-init c =
-    record { low = omega arith; behind = behind-self _; continues = continues-self _ _; scanned = scanned-begin _ }
+    let none : c.default-states.result ≡ unpassed = search rules in
+    record { low = omega arith; behind = behind-self _; continues = continues-self _ _; scanned = rw none (scanned-begin _) }
 
 pub overflow_sub-at : goal.overflow_sub-at
 overflow_sub-at c = (behind-is _ _ (behind-start (rw c.in-Some.is at c.next_token.ensures) c.loop-token.invariant.behind)).0
@@ -22,8 +24,8 @@ invariant_of-result c =
     let h = rw c.in-Some.is at c.next_token.ensures in
     let i = c.loop-token.invariant in
     record {
-      scans = scanned-stop h i.behind i.scanned (rw (c.with_token.ensures, c.from-k.ensures)) c.if-token-eq3.true;
-      ends = ends-some h i.continues c.if-token-eq3.true i.behind _ refl;
+      scans = scanned-stop h i.behind i.scanned (rw (c.with_token.ensures, c.from-k.ensures)) c.if-token.true;
+      ends = ends-some h i.continues c.if-token.true i.behind _ refl;
     }
 
 pub loop-token-smaller : goal.loop-token-smaller
@@ -34,10 +36,10 @@ loop-token-preserved c =
     let h = rw c.in-Some.is at c.next_token.ensures in
     let i = c.loop-token.invariant in
     record {
-      low = h.state-small;
+      low = c.in-Some.token.state.in_table;
       behind = behind-after h i.behind;
-      continues = continues-next h i.continues c.if-token-eq3.false;
-      scanned = scanned-next h i.behind i.scanned (rw (c.with_token.ensures, c.from-k.ensures)) c.if-token-eq3.false;
+      continues = continues-next h i.continues c.if-token.false;
+      scanned = scanned-next h i.behind i.scanned (rw (c.with_token.ensures, c.from-k.ensures)) c.if-token.false;
     }
 
 pub invariant_of-result-2 : goal.invariant_of-result-2
@@ -48,3 +50,6 @@ invariant_of-result-2 c =
       scans = scanned-end _ _ none i.scanned;
       ends = ends-none _ _ _ _ i.continues none;
     }
+
+pub invariant_of-state : goal.invariant_of-state
+invariant_of-state c = record { in_table = c.loop-token.invariant.low }

@@ -18,14 +18,14 @@ returns-then-wanted-left c =
     let h = rw c.in-Some.is at c.next_token.ensures in
     let i = c.loop-token.invariant.1 in
     ap (take c.in-Some.token.front.size) (sym (behind-is _ _ (behind-start h i.0)).1)
-    ∙ word-here h b.a b.b b.c c.is_wanted-wanted.ensures c.loop-token.left c.if-wanted-left.true ∙ sym i.1
+    ∙ word-here h b.a.number b.b.number b.c.number c.is_wanted-wanted.ensures c.loop-token.left c.if-wanted-left.true ∙ sym i.1
 
-pub returns-then-token-eq3 : goal.returns-then-token-eq3
-returns-then-token-eq3 c =
+pub returns-then-token : goal.returns-then-token
+returns-then-token c =
     let b = c.args in
     let h = rw c.in-Some.is at c.next_token.ensures in
     let left = c.saturating_sub-left.ensures ∙ ap (λ (k : ℕ). c.loop-token.left - k) (c.from.ensures ∙ one-from _) in
-    word_none h b.a b.b b.c c.is_wanted-wanted.ensures c.loop-token.left c.if-wanted-left.false left c.if-token-eq3.true ∙ sym c.loop-token.invariant.1.1
+    word_none h b.a.number b.b.number b.c.number c.is_wanted-wanted.ensures c.loop-token.left c.if-wanted-left.false left c.if-token.true ∙ sym c.loop-token.invariant.1.1
 
 pub loop-token-smaller : goal.loop-token-smaller
 loop-token-smaller c = rest-shorter (rw c.in-Some.is at c.next_token.ensures)
@@ -36,11 +36,14 @@ loop-token-preserved c =
     let h = rw c.in-Some.is at c.next_token.ensures in
     let i = c.loop-token.invariant.1 in
     let left = c.saturating_sub-left.ensures ∙ ap (λ (k : ℕ). c.loop-token.left - k) (c.from.ensures ∙ one-from _) in (
-      h.state-small,
-      (behind-after h i.0, i.1 ∙ word_next h b.a b.b b.c c.is_wanted-wanted.ensures c.loop-token.left c.if-wanted-left.false left c.if-token-eq3.false),
+      c.in-Some.token.state.in_table,
+      (behind-after h i.0, i.1 ∙ word_next h b.a.number b.b.number b.c.number c.is_wanted-wanted.ensures c.loop-token.left c.if-wanted-left.false left c.if-token.false),
     )
 
 pub returns : goal.returns
 returns c =
     let b = c.args in
-    word_end _ c.loop-token.state (rw c.in_default.is at c.next_token.ensures) b.a b.b b.c c.loop-token.left ∙ sym c.loop-token.invariant.1.1
+    word_end _ c.loop-token.state.0 (rw c.in_default.is at c.next_token.ensures) b.a.number b.b.number b.c.number c.loop-token.left ∙ sym c.loop-token.invariant.1.1
+
+pub invariant_of-state : goal.invariant_of-state
+invariant_of-state c = record { in_table = c.loop-token.invariant.0 }

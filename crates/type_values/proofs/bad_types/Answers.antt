@@ -6,11 +6,11 @@ use Rattle.type_values.proofs.bad_types.Goals as goal
 
 pub returns : goal.returns
 returns c =
-    let by = c.args.by.now in
-    bad-types-are by.old.now.stored by.new.now.stored by.dues.now _ _ _ _ _ _ _ _ _ _ c.mask_of.result by.old.now.held by.new.now.held
+    let by = c.args.by.now.pair in
+    bad-types-are by.old.now.stored by.new.now.stored c.args.by.now.dues.now _ _ _ _ _ _ _ _ _ _ c.mask_of.result by.old.now.held by.new.now.held
     (record {
-      due-old = by.due;
-      due-new = c.due_values-news.ensures;
+      due-old = c.args.by.now.due;
+      due-new = c.due_values-new_dues.ensures;
       types-placed = c.type_places.ensures;
       forth = c.attribute_places.ensures;
       back-placed = c.attribute_places-2.ensures;

@@ -4,6 +4,6 @@ use Rattle.type_values.proofs.with_values.Goals as goal
 pub returns : goal.returns
 returns c =
     let a = c.args in
-    let by = a.by.now in
-    filled-made by.old.now.stored by.new.now.stored by.dues.now c.lacking_values-firsts.result a.types a.links c.all_values-values.result a.n c.from.result
-    by.old.now.held by.due c.lacking_values-firsts.ensures c.requires c.all_values-values.ensures c.from.ensures
+    let by = a.by.now.pair in
+    filled-made by.old.now.stored by.new.now.stored a.by.now.dues.now c.lacking_values-firsts.result a.site.types a.site.links c.all_values-values.result a.n c.from.result
+    by.old.now.held a.by.now.due c.lacking_values-firsts.ensures c.requires c.all_values-values.ensures c.from.ensures

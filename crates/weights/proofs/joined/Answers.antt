@@ -1,5 +1,5 @@
 use Rattle.weights.proofs.NumberLaws.{mask-more}
 use Rattle.weights.proofs.joined.Goals as goal
 
-pub loop-mask-preserved : goal.loop-mask-preserved
-loop-mask-preserved c = let l = c.loop-mask in mask-more c.args.masks.now l.mask-index l.m l.invariant
+pub loop-whole-preserved : goal.loop-whole-preserved
+loop-whole-preserved c = let l = c.loop-whole in mask-more c.args.wholes.now l.whole-index l.to l.invariant

@@ -3,7 +3,8 @@ use mathlib.Core.Bool.{true}
 use mathlib.Core.Path.{◌≡◌}
 use lib.ListN.{get_or}
 use Rattle.laws.specs.Bits.{bit}
+use Rattle.worlds.specs.Lined.{zero_whole}
 use Rattle.weights.proofs.joined.Given as goal
 
-abbrev pub invariant-loop-mask : goal.invariant-loop-mask
-invariant-loop-mask l = (i : ℕ) → i < l.mask-index → (t : ℕ) → bit t (get_or l.masks i 0) ≡ true → bit t l.m ≡ true
+abbrev pub invariant-loop-whole : goal.invariant-loop-whole
+invariant-loop-whole l = (i : ℕ) → i < l.whole-index → (t : ℕ) → bit t (get_or l.wholes i zero_whole).to ≡ true → bit t l.to ≡ true

@@ -14,4 +14,4 @@ pub returns-in-Back : goal.returns-in-Back
 returns-in-Back c = left-fair _ _ _ _ _ _ _ c.requires.2 c.args.tables.now.slotted (cc) c.mirror_scale-in-Back.ensures
 
 pub returns-in-Wholes : goal.returns-in-Wholes
-returns-in-Wholes c = whole-fair _ _ _ _ _ _ _ c.args.tables.now.slotted c.requires.0 c.joined-in-Wholes.ensures c.whole_scale.ensures
+returns-in-Wholes c = whole-fair _ _ _ _ _ _ _ c.args.tables.now.slotted c.requires.0 c.joined-from.ensures c.whole_scale.ensures

@@ -11,5 +11,5 @@ loop-o-init c = (
 pub loop-o-preserved : goal.loop-o-preserved
 loop-o-preserved c = let l = c.loop-o in (
   search rules,
-  total-next _ _ _ _ _ _ _ c.args.types.at l.o l.invariant.1 c.limit_at.ensures c.from.ensures c.number_of.ensures c.from-n.ensures,
+  total-next _ _ _ _ _ c.args.types.at l.o l.invariant.1 c.limit_at.ensures c.from.ensures c.number_of.ensures c.from-n.ensures,
 )

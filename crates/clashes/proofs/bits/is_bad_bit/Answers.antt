@@ -1,12 +1,11 @@
--- `bits::is_bad_bit` meets its contract.
--- Assumes nothing.
-use Prim.Native.Nat.{◌%◌, ◌+◌}
-use native.Mathlib.Omega.{arith}
-use Rattle.clashes.proofs.BitsLaws.{bad-row}
+use mathlib.Core.Path.{refl}
+use borrow.Author.Rules.{rules}
+use borrow.Author.Tests.{tests}
+use Rattle.clashes.specs.Refuted.{BitsKept, Refuted, TargetsKept}
+use Rattle.clashes.proofs.AnyLaws.{any-index}
 use Rattle.clashes.proofs.bits.is_bad_bit.Goals as goal
 
-pub returns-then-is_bad_row : goal.returns-then-is_bad_row
-returns-then-is_bad_row c =
+pub returns : goal.returns
+returns c =
     let a = c.args in
-    λ _. bad-row a.targets.now a.q.now.must a.q.now.shut a.types.now.at a.q.now.seeds c.loop-i.i (c.rows_at.result + c.loop-i.i % 32) c.requires
-    (omega (arith, c.from-end.ensures, c.loop-i-test.true)) (omega (arith, c.rows_at.ensures.0)) (c.is_bad_row.ensures c.if-is_bad_row.true)
+    λ t. (any-index (λ _. Refuted (λ w. BitsKept a.q.now.must a.q.now.shut w × TargetsKept a.targets.now w) a.types.now.at a.q.now.seeds) a.q.now.seeds c.any.ensures.ran refl (λ x q k. search (rules, tests)) (λ x q k. search (rules, tests)) t).2

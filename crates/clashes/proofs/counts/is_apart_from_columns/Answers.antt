@@ -1,17 +1,13 @@
--- `counts::is_apart_from_columns` meets its contract.
--- Assumes nothing.
-use mathlib.Core.Path.{◌∙◌, sym}
-use lib.Dec.{eqb}
-use lib.ListN.{get_or}
-use borrow.Author.Tests.{eqb-true}
-use Rattle.laws.proofs.ConnectiveLaws.{and_left, and_right}
-use Rattle.clashes.proofs.ClashLaws.{never-column}
+use mathlib.Core.Path.{refl}
+use borrow.Author.Rules.{rules}
+use borrow.Author.Tests.{tests}
+use Rattle.clashes.specs.Clashes.{Never}
+use Rattle.clashes.specs.Asked.{SourcesAsked}
+use Rattle.worlds.specs.Kept.{ColumnsKept}
+use Rattle.clashes.proofs.AnyLaws.{any-index}
 use Rattle.clashes.proofs.counts.is_apart_from_columns.Goals as goal
 
-pub returns-then-is_apart : goal.returns-then-is_apart
-returns-then-is_apart c =
+pub returns : goal.returns
+returns c =
     let a = c.args in
-    let e = eqb (get_or a.lines.now.columnslot c.loop-j.j 0) a.asked.slot in
-    λ _. never-column a.asked.first a.asked.here a.asked.slot a.asked.mask a.asked.least a.asked.most a.lines.now c.loop-j.j c.loop-j-test.true
-    (eqb-true (get_or a.lines.now.columnslot c.loop-j.j 0) a.asked.slot (and_left e c.has.result c.if-lines-j.true))
-    (sym c.has.ensures ∙ and_right e c.has.result c.if-lines-j.true) (c.is_apart.ensures c.if-is_apart.true)
+    λ t. (any-index (λ _. Never (λ w. SourcesAsked a.asked w × ColumnsKept a.lines.now w)) 16 c.any.ensures.ran refl (λ x q k. search (rules, tests)) (λ x q k. search (rules, tests)) t).2

@@ -1,22 +1,19 @@
--- `parts::is_bad_first_part` meets its contract: one composition after the other.
--- Assumes nothing.
-use Prim.Native.Nat.{◌+◌}
 use mathlib.Core.Path.{refl}
-use native.Mathlib.Omega.{arith}
-use Rattle.laws.proofs.ConnectiveLaws.{true-false}
+use borrow.Author.Rules.{rules}
+use borrow.Author.Tests.{tests}
+use lib.ListN.{get_or}
 use Rattle.worlds.specs.Kept.{MirrorsKept, WholesKept}
+use Rattle.clashes.specs.Clashes.{FirstTargets, Never}
+use Rattle.clashes.proofs.AnyLaws.{any-index}
 use Rattle.clashes.proofs.FirstTargetsLaws.{targets-refuted}
 use Rattle.clashes.proofs.parts.is_bad_first_part.Goals as goal
 
-pub returns-then-low-lt2 : goal.returns-then-low-lt2
-returns-then-low-lt2 c = λ e. absurd (true-false e refl)
-
-pub returns-then-is_back_to_wholes : goal.returns-then-is_back_to_wholes
-returns-then-is_back_to_wholes c =
+pub returns-then-row-ge2 : goal.returns-then-row-ge2
+returns-then-row-ge2 c =
     let a = c.args in
-    λ _ lows highs high seeds some. targets-refuted a.tables.now.targets lows highs a.types.now.at c.type_of-first.result a.row a.low high (c.rows_at.result + c.from.result) seeds
-    c.requires c.type_of-first.ensures.0 (omega (arith, c.rows_at.ensures.0, c.from.ensures)) some (λ w. MirrorsKept a.tables.now.lines w × WholesKept a.tables.now.lines w)
-    (c.is_back_to_wholes.ensures c.if-is_back_to_wholes.true a.low high (omega (arith, c.if-low-lt2.false)))
-
-pub returns : goal.returns
-returns c = λ e. absurd (true-false e refl)
+    let lines = a.tables.now.lines in
+    let first = c.of-first.result in
+    let mask = get_or a.tables.now.targets c.row.result 0 in
+    λ t lows highs seeds some. targets-refuted a.tables.now.targets lows highs a.types.now.at first a.row.slot a.row.low a.row.high c.row.result seeds
+    c.requires c.of-first.ensures.0 c.row.ensures.0 some (λ w. MirrorsKept lines w × WholesKept lines w)
+    (any-index (λ _. Never (λ w. FirstTargets first a.row.slot mask a.row.low a.row.high w × (MirrorsKept lines w × WholesKept lines w))) 16 c.any.ensures.ran refl (λ x q k. search (rules, tests)) (λ x q k. search (rules, tests)) t).2

@@ -19,17 +19,17 @@ pub returns-in_err-best : goal.returns-in_err-best
 returns-in_err-best c =
     let a = c.args in
     rw c.from_residual.ensures (sharp-trans _ _ _ _ c.loop-p.invariant
-    (column-sharp a.s a.tables.now.sources _ _ a.asked.slot a.asked.mask a.to a.asked.low a.asked.high c.loop-p.p c.loop-p-test.true
-    (ap (λ (y : ℕ). bit y a.to) (sym c.type_of.ensures.0) ∙ sym c.has.ensures ∙ c.if-has.true) c.in_err-best.ensures))
+    (column-sharp a.s a.tables.now.sources _ _ a.asked.slot a.asked.from a.to a.asked.least a.asked.most c.loop-p.p c.loop-p-test.true
+    (ap (λ (y : ℕ). bit y a.to) (sym c.of.ensures.0) ∙ sym c.has.ensures ∙ c.if-has.true) c.in_err-best.ensures))
 
 pub loop-p-preserved : goal.loop-p-preserved
 loop-p-preserved c =
     let a = c.args in
-    let Sharp : ℕ → Type 0 = λ v. Sharpens (λ w. SourcesKept a.tables.now.sources w × SourcesWithin a.asked.slot a.asked.mask a.to a.asked.low a.asked.high w) a.s (Some a.best) (Some v) in
+    let Sharp : ℕ → Type 0 = λ v. Sharpens (λ w. SourcesKept a.tables.now.sources w × SourcesWithin a.asked.slot a.asked.from a.to a.asked.least a.asked.most w) a.s (Some a.best) (Some v) in
     elim c.if-has.branch [
       | then-has+in_ok-best w ↦ subst Sharp (sym w.best-is) (sharp-trans _ _ _ _ c.loop-p.invariant
-          (column-sharp a.s a.tables.now.sources _ _ a.asked.slot a.asked.mask a.to a.asked.low a.asked.high c.loop-p.p c.loop-p-test.true
-          (ap (λ (y : ℕ). bit y a.to) (sym c.type_of.ensures.0) ∙ sym c.has.ensures ∙ w.if-has.true) w.in_ok-best.ensures))
+          (column-sharp a.s a.tables.now.sources _ _ a.asked.slot a.asked.from a.to a.asked.least a.asked.most c.loop-p.p c.loop-p-test.true
+          (ap (λ (y : ℕ). bit y a.to) (sym c.of.ensures.0) ∙ sym c.has.ensures ∙ w.if-has.true) w.in_ok-best.ensures))
       | else-has w ↦ subst Sharp (sym w.best-is) c.loop-p.invariant
     ]
 

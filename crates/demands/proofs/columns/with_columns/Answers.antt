@@ -8,7 +8,7 @@ use Rattle.clashes.specs.Sources.{SourcesKept}
 use Rattle.demands.proofs.NeedLaws.{sharp-same, sharp-trans}
 use Rattle.demands.proofs.ColumnLaws.{columns-sharp}
 use Rattle.demands.proofs.columns.with_columns.Goals as goal
-use Rattle.demands.proofs.columns.with_columns.Goals.{then-low-gt0+in_ok-best, else-low-gt0}
+use Rattle.demands.proofs.columns.with_columns.Goals.{then-column-gt0+in_ok-best, else-column-gt0}
 
 pub loop-j-init : goal.loop-j-init
 loop-j-init c = sharp-same _ _
@@ -22,10 +22,10 @@ pub loop-j-preserved : goal.loop-j-preserved
 loop-j-preserved c =
     let a = c.args in
     let Sharp : ℕ → Type 0 = λ v. Sharpens (λ w. SourcesKept a.tables.now.sources w × ColumnsKept a.tables.now.lines w) a.s (Some a.best) (Some v) in
-    elim c.if-low-gt0.branch [
-      | then-low-gt0+in_ok-best w ↦ subst Sharp (sym w.best-is) (sharp-trans _ _ _ _ c.loop-j.invariant
+    elim c.if-column-gt0.branch [
+      | then-column-gt0+in_ok-best w ↦ subst Sharp (sym w.best-is) (sharp-trans _ _ _ _ c.loop-j.invariant
           (columns-sharp a.s a.tables.now.sources _ _ a.tables.now.lines c.loop-j.j c.loop-j-test.true w.in_ok-best.ensures))
-      | else-low-gt0 w ↦ subst Sharp (sym w.best-is) c.loop-j.invariant
+      | else-column-gt0 w ↦ subst Sharp (sym w.best-is) c.loop-j.invariant
     ]
 
 pub returns : goal.returns

@@ -11,4 +11,4 @@ pub returns-in-Some : goal.returns-in-Some
 returns-in-Some c =
     let a = c.args in
     whole-sharp a.tables.now.lines a.s (Some a.best) c.with_limits.result a.p c.in-Some.mask c.requires
-    (subst (λ (z : ℕ). Common a.tables.now.lines z c.in-Some.mask) c.type_of.ensures.0 c.in-Some.ensures) c.with_limits.ensures
+    (subst (λ (z : ℕ). Common a.tables.now.lines z c.in-Some.mask) c.of.ensures.0 c.in-Some.ensures) c.with_limits.ensures

@@ -18,8 +18,8 @@ pub returns-in_err-best : goal.returns-in_err-best
 returns-in_err-best c =
     let a = c.args in
     rw c.from_residual.ensures (sharp-trans _ _ _ _ c.loop-i.invariant
-    (row-sharp a.tables.now.targets a.tables.now.lows a.tables.now.highs a.shut.now a.s a.o c.loop-i.i c.rows_at-x.result (c.from-y.result * 32 + c.loop-i.i) c.requires c.loop-i-test.true c.rows_at-x.ensures.0
-    (omega (arith, c.from-y.ensures)) _ _ c.in_err-best.ensures))
+    (row-sharp a.tables.now.targets a.tables.now.lows a.tables.now.highs a.shut.now a.s a.o c.loop-i.i c.row-x.result c.place.result c.requires c.loop-i-test.true c.row-x.ensures.0
+    c.place.ensures _ _ c.in_err-best.ensures))
 
 pub loop-i-preserved : goal.loop-i-preserved
 loop-i-preserved c =
@@ -27,8 +27,8 @@ loop-i-preserved c =
     let Sharp : ℕ → Type 0 = λ v. Sharpens (RowsOpen a.tables.now.targets a.tables.now.lows a.tables.now.highs a.shut.now) a.s (Some a.best) (Some v) in
     elim c.if-low-gt0.branch [
       | then-low-gt0+in_ok-best w ↦ subst Sharp (sym w.best-is) (sharp-trans _ _ _ _ c.loop-i.invariant
-          (row-sharp a.tables.now.targets a.tables.now.lows a.tables.now.highs a.shut.now a.s a.o c.loop-i.i c.rows_at-x.result (c.from-y.result * 32 + c.loop-i.i) c.requires c.loop-i-test.true c.rows_at-x.ensures.0
-          (omega (arith, c.from-y.ensures)) _ _ w.in_ok-best.ensures))
+          (row-sharp a.tables.now.targets a.tables.now.lows a.tables.now.highs a.shut.now a.s a.o c.loop-i.i c.row-x.result w.place.result c.requires c.loop-i-test.true c.row-x.ensures.0
+          w.place.ensures _ _ w.in_ok-best.ensures))
       | else-low-gt0 w ↦ subst Sharp (sym w.best-is) c.loop-i.invariant
     ]
 

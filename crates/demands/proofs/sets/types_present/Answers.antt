@@ -1,23 +1,16 @@
 -- `sets::types_present` meets its contract: one object after the other.
 -- Assumes nothing.
-use mathlib.Core.Bool.{◌||◌}
-use lib.Dec.{eqb}
 use Prim.Native.Nat.{ℕ}
-use mathlib.Core.Path.{◌≡◌, ap, ◌∙◌}
-use native.Mathlib.Omega.{arith}
+use mathlib.Core.Path.{◌≡◌, refl}
+use borrow.Author.Rules.{rules}
+use borrow.Author.Tests.{tests}
 use Rattle.laws.specs.Bits.{bit}
+use Rattle.laws.proofs.RangeLaws.{fold-range}
 use Rattle.demands.specs.Wishes.{present}
 use Rattle.demands.proofs.SetLaws.{present-begin, present-more}
 use Rattle.demands.proofs.sets.types_present.Goals as goal
 
-pub loop-o-init : goal.loop-o-init
-loop-o-init c = present-begin c.args.types.now.at
-
-pub loop-o-preserved : goal.loop-o-preserved
-loop-o-preserved c =
-    let a = c.args in present-more a.types.now.at c.loop-o.o c.loop-o.mask c.with-mask.result c.loop-o.invariant
-    (λ t. c.with-mask.ensures t ∙ ap (λ (y : ℕ). bit t c.loop-o.mask || eqb t y) c.type_of.ensures.0)
-
 pub returns : goal.returns
 returns c =
-    λ t. c.loop-o.invariant t ∙ ap (λ (i : ℕ). present c.args.types.now.at i t) (let e : c.loop-o.o ≡ c.args.k = omega arith in e)
+    let types = c.args.types.now.at in
+    fold-range (λ i m. (t : ℕ) → bit t m ≡ present types i t) c.args.k (λ i m r q l p k. (search (rules, tests), present-more types i m r p (λ t. search (rules, tests)))) c.fold.ensures.ran refl (present-begin types)

@@ -1,6 +1,6 @@
 use Rattle.known_records.proofs.KnownLaws.{value_none, value-untyped, value-typed}
 use native.Mathlib.Omega.{arith}
-use mathlib.Core.Path.{refl}
+use mathlib.Core.Path.{refl, ◌∙◌}
 use Prim.Native.Nat.{◌<◌}
 use Rattle.known_records.proofs.Indexed.value_known.Goals as goal
 
@@ -14,4 +14,4 @@ pub returns : goal.returns
 returns c =
     let w = c.from-t in
     let l : w.result < c.args.self.now.diagram.now.stored.values.count = omega (arith, c.if-values-t.false) in
-    value-typed _ _ _ _ c.if-v-eq0.false w.ensures l refl
+    c.is_known.ensures ∙ value-typed _ _ _ _ c.if-v-eq0.false w.ensures l refl

@@ -9,5 +9,5 @@ use Rattle.leaves.proofs.rows.all_covered.Goals as goal
 pub returns : goal.returns
 unfolding all_covered
 returns c =
-    let a = c.args in
-    all-range (λ i. covered (get_or a.must.now i 0) (get_or a.may.now i 0)) _ c.all.ensures.ran refl (λ x b q k. search (rules, tests))
+    let a = c.args.bounds.now in
+    all-range (λ i. covered (get_or a.must i 0) (get_or a.may i 0)) _ c.all.ensures.ran refl (λ x b q k. search (rules, tests))

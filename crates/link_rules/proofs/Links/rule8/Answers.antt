@@ -3,11 +3,12 @@ use borrow.Author.Tests.{tests}
 use mathlib.Core.Path.{refl}
 use Rattle.laws.proofs.RangeLaws.{all-range}
 use Rattle.link_rules.proofs.JudgedLaws.{says8}
-use Rattle.link_rules.specs.LinksIn.{rule8_at_in, rule8_in}
+use Rattle.link_rules.specs.Judged.{by_tables}
+use Rattle.link_rules.specs.LinksIn.{rule8_in, rule8_at_in}
 use Rattle.link_rules.proofs.Links.rule8.Goals as goal
 
 pub returns : goal.returns
 unfolding rule8_in
 returns c =
-    let a = c.args in
-    says8 _ _ _ _ _ (all-range (rule8_at_in a.self.now.associations.now a.self.now.links.now a.self.now.tables.now.masks a.self.now.tables.now.slots a.self.now.count) _ c.all.ensures.ran refl (λ x b q k. search (rules, tests)))
+    let v = c.args.self.now in
+    says8 v (all-range (by_tables rule8_at_in v) _ c.all.ensures.ran refl (λ x b q k. search (rules, tests)))

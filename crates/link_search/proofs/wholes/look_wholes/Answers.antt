@@ -1,23 +1,33 @@
--- `look_wholes` meets its contract: target by target.
+-- `look_wholes` meets its contract: a part of two wholes, or none.
 -- Assumes nothing.
-use Prim.Native.Nat.{ℕ, ◌≤◌}
-use native.Mathlib.Omega.{arith}
-use borrow.Author.Count.{below_more}
+use Prim.Native.Nat.{ℕ}
+use mathlib.Core.Bool.{Bool}
+use mathlib.Core.List.{List}
+use mathlib.Core.Path.{◌∙◌, sym, refl}
+use borrow.Author.Rules.{rules}
+use borrow.Author.Tests.{tests, ltb-true, ltb-false}
+use lib.Dec.{ltb}
 use Rattle.laws.specs.Bounded.{tally}
+use Rattle.laws.proofs.BoundedLaws.{any_at, any-no}
+use Rattle.laws.proofs.RangeLaws.{any-range}
 use Rattle.link_search.specs.Nets.{net_of}
 use Rattle.link_search.specs.Families.{whole}
+use Rattle.link_search.specs.declared.asked.Whole.{Whole}
 use Rattle.link_search.proofs.WholeLaws.{wholes-dead}
 use Rattle.link_search.proofs.wholes.look_wholes.Goals as goal
 
-pub returns-then-count_wholes-gt1 : goal.returns-then-count_wholes-gt1
-returns-then-count_wholes-gt1 c =
-    let a = c.args in
-    λ may w b ok. wholes-dead a.wholes.now.slot a.wholes.now.from a.wholes.now.to a.must.now may c.requires w b c.loop-p.p c.count_wholes.result c.loop-p-test.true
-    c.count_wholes.ensures (omega (arith, c.if-count_wholes-gt1.true)) ok
+abbrev twice : List Whole → List ℕ → ℕ → Bool
+twice wholes must p = ltb 1 (tally (whole wholes (net_of must) p) 8)
 
-pub loop-p-preserved : goal.loop-p-preserved
-loop-p-preserved c =
-    let a = c.args in below_more (λ (q : ℕ). tally (whole a.wholes.now.slot a.wholes.now.from a.wholes.now.to (net_of a.must.now) q) 8 ≤ 1) c.loop-p.p c.loop-p.invariant (omega (arith, c.count_wholes.ensures, c.if-count_wholes-gt1.false))
+pub returns-then-any : goal.returns-then-any
+returns-then-any c =
+    let a = c.args in
+    let e = any-range (twice a.wholes.now a.must.now) 8 c.any.ensures.ran refl (λ p b f k. search (rules, tests)) in
+    let v = any_at (twice a.wholes.now a.must.now) 8 (sym e ∙ c.if-any.true) in
+    λ may w b. wholes-dead a.wholes.now a.must.now may w b v.0 v.1 (ltb-true 1 (tally (whole a.wholes.now (net_of a.must.now) v.0) 8) v.2)
 
 pub returns : goal.returns
-returns c = record { at = λ p l. c.loop-p.invariant p (omega (arith, c.loop-p-test.false)) }
+returns c =
+    let a = c.args in
+    let e = any-range (twice a.wholes.now a.must.now) 8 c.any.ensures.ran refl (λ p b f k. search (rules, tests)) in
+    record { at = λ p l. ltb-false 1 (tally (whole a.wholes.now (net_of a.must.now) p) 8) (any-no (twice a.wholes.now a.must.now) 8 (sym e ∙ c.if-any.false) p l) }

@@ -9,4 +9,4 @@ pub returns : goal.returns
 unfolding columns_fit
 returns c =
     let a = c.args in
-    all-range (column_at_fits a.self.now.links.now a.self.now.slot a.self.now.from a.self.now.to (limits_of a.limits.low a.limits.up) a.self.now.count) _ c.all.ensures.ran refl (λ x b q k. search (rules, tests))
+    all-range (column_at_fits a.self.now.links.now a.self.now.slot a.self.now.from a.self.now.to (limits_of a.limits) a.self.now.count) _ c.all.ensures.ran refl (λ x b q k. search (rules, tests))

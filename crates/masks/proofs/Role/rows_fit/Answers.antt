@@ -9,4 +9,4 @@ pub returns : goal.returns
 unfolding rows_fit
 returns c =
     let a = c.args in
-    all-range (row_at_fits a.self.now.links.now a.self.now.slot a.self.now.from a.self.now.to (limits_of a.limits.low a.limits.up) a.self.now.count) _ c.all.ensures.ran refl (λ x b q k. search (rules, tests))
+    all-range (row_at_fits a.self.now.links.now a.self.now.slot a.self.now.from a.self.now.to (limits_of a.limits) a.self.now.count) _ c.all.ensures.ran refl (λ x b q k. search (rules, tests))

@@ -8,4 +8,4 @@ use Rattle.permits.proofs.Permits.is_permitted.Goals as goal
 pub returns : goal.returns
 returns c =
     let a = c.args in
-    any-range (permits_at a.self.now.associations.now.arrows a.self.now.associations.now.types a.self.now.tables.now.masks a.self.now.tables.now.slots a.s a.o a.p) _ c.any.ensures.ran refl (λ x b q k. search (rules, tests))
+    any-range (permits_at a.self.now.associations.now.arrows a.self.now.associations.now.types a.self.now.tables.now.masks a.self.now.tables.now.slots a.link.slot a.link.from a.link.to) _ c.any.ensures.ran refl (λ x b q k. search (rules, tests))

@@ -1,16 +1,17 @@
-use mathlib.Core.Path.{◌∙◌}
-use Rattle.sheets.proofs.LineLaws.{lines-begin, lines-done, lines_next}
 use borrow.Author.Rules.{rules}
+use borrow.Author.Tests.{tests}
+use mathlib.Core.Path.{◌≡◌}
+use Rattle.worlds.specs.Lined.{zero_column, zero_mirror, zero_whole}
+use Rattle.sheets.specs.LinesBy.{column_by, mirror_by, whole_by}
+use Rattle.sheets.proofs.MadeLaws.{each-made}
 use Rattle.sheets.proofs.lines.lines_of.Goals as goal
 
-pub loop-j-init : goal.loop-j-init
-loop-j-init c = let a = c.args in c.no_lines-x.ensures ∙ lines-begin a.ends.now.sets a.ends.now.slots a.ends.now.asked.now.arrows a.ends.now.asked.now.forms a.ends.now.asked.now.lows a.ends.now.asked.now.ups
-
-pub loop-j-preserved : goal.loop-j-preserved
-loop-j-preserved c = let a = c.args in
-    let l = c.loop-j in lines_next a.ends.now.sets a.ends.now.slots a.ends.now.asked.now.arrows a.ends.now.asked.now.forms a.ends.now.asked.now.lows a.ends.now.asked.now.ups l.j l.invariant c.with_column-x.ensures c.with_mirror-x.ensures c.with_whole-x.ensures
-
 pub returns : goal.returns
-returns c = let a = c.args in
-    let l = c.loop-j in
-    lines-done a.ends.now.sets a.ends.now.slots a.ends.now.asked.now.arrows a.ends.now.asked.now.forms a.ends.now.asked.now.lows a.ends.now.asked.now.ups a.n l.j l.auto.j-end (search rules) l.invariant
+returns c =
+    let e = c.args.ends.now in
+    let a = e.asked.now in
+    record {
+      column = each-made zero_column (λ j x. x ≡ column_by e.sets e.slots a.arrows a.lows a.ups a.count j) (λ x b q k. search (rules, tests)) c.from_fn.ensures.items;
+      mirror = each-made zero_mirror (λ j x. x ≡ mirror_by e.sets e.slots a.arrows a.count j) (λ x b q k. search (rules, tests)) c.from_fn-2.ensures.items;
+      whole = each-made zero_whole (λ j x. x ≡ whole_by e.sets e.slots a.forms a.count j) (λ x b q k. search (rules, tests)) c.from_fn-3.ensures.items;
+    }

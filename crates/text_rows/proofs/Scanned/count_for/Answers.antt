@@ -8,6 +8,6 @@ use Rattle.text_rows.proofs.Scanned.count_for.Goals as goal
 pub returns : goal.returns
 returns c =
     let r = c.args.self.now in
-    let q = c.args.q in
-    let e : (get_or r.states c.from.result unpassed).count ≡ length (words_for q q q (row_at r.rest.now)) = rw c.from.ensures (r.scans.count-is q c.requires) in
+    let q = c.args.q.number in
+    let e : (get_or r.states c.from.result unpassed).count ≡ length (words_for q q q (row_at r.rest.now)) = rw c.from.ensures (r.scans.count-is q c.args.q.in_table) in
     (e, rw e (count-bound q q q r.rest.now))

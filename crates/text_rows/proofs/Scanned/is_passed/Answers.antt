@@ -5,6 +5,4 @@ use Rattle.text_rows.proofs.Scanned.is_passed.Goals as goal
 
 pub returns : goal.returns
 unfolding passes
-returns c =
-    let r = c.args.self.now in
-    c.is_some.ensures ∙ rw c.from.ensures (passed-is _ (r.scans.class-is c.args.q c.requires) (r.scans.class-small c.args.q c.requires))
+returns c = c.is_some.ensures ∙ passed-is _ c.class_for.ensures.0 c.class_for.ensures.1

@@ -8,4 +8,4 @@ use Rattle.type_values.proofs.Translation.asks_slots.Goals as goal
 pub returns : goal.returns
 returns c =
     let y = c.args.self.now in
-    all-range (slot_asked_in y.olds.now y.news.now y.back c.args.t c.args.u y.m) _ c.all.ensures.ran refl (λ x b q k. search (rules, tests))
+    all-range (slot_asked_in y.old_dues.now y.new_dues.now y.back c.args.t c.args.u y.m) _ c.all.ensures.ran refl (λ x b q k. search (rules, tests))

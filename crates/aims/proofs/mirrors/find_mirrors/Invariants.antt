@@ -1,8 +1,0 @@
-use Prim.Native.Nat.{◌<◌, ℕ}
-use Rattle.aims.specs.Mirrors.{MirrorKept}
-use Rattle.queries.proofs.BreakLaws.{Throughout}
-use Rattle.worlds.specs.Kept.{sheet_of}
-use Rattle.aims.proofs.mirrors.find_mirrors.Given as goal
-
-abbrev pub invariant-loop-j : goal.invariant-loop-j
-invariant-loop-j l = (k : ℕ) → k < l.j → Throughout (sheet_of l.tables) (MirrorKept l.others k) l.n

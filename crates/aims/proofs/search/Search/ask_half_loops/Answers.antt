@@ -1,0 +1,19 @@
+-- `ask_half_loops` meets its contract: what the query asks for is what is to be avoided.
+-- Assumes nothing.
+use Rattle.queries.proofs.FitLaws.{fit-half-loop, sane-of}
+use Rattle.queries.proofs.PartLaws.{half-loop-said}
+use Rattle.queries.specs.Forms.{barred, linked}
+use Rattle.worlds.specs.declared.Query.{Query}
+use mathlib.Core.Path.{◌∙◌, ap}
+use Rattle.aims.proofs.search.Search.ask_half_loops.Goals as goal
+
+pub ask-requires : goal.ask-requires
+ask-requires c =
+    let s = c.args in
+    let p = c.requires in sane-of (c.with_bar.ensures ∙ ap (λ (y : Query). barred y s.u 0 0) c.with_link.ensures ∙ ap (λ (y : Query). barred (linked y s.s 0 0) s.u 0 0) c.with_seeds-q.ensures) (fit-half-loop s.s s.u s.a p.0 p.1)
+
+pub returns : goal.returns
+returns c =
+    let s = c.args in
+    let p = c.requires in
+    half-loop-said _ _ _ _ _ _ _ p.0 p.1 _ (c.with_bar.ensures ∙ ap (λ (y : Query). barred y s.u 0 0) c.with_link.ensures ∙ ap (λ (y : Query). barred (linked y s.s 0 0) s.u 0 0) c.with_seeds-q.ensures) c.ask.ensures

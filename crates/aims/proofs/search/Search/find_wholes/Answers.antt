@@ -1,0 +1,21 @@
+-- `find_wholes` meets its contract: composition by composition.
+-- Assumes nothing.
+use Prim.Native.Nat.{ℕ}
+use Rattle.aims.proofs.ChainLaws.{as_by, each_by}
+use Rattle.aims.proofs.WholeLaws.{pairs-at, wholes-of}
+use Rattle.aims.specs.Finds.{Finds}
+use Rattle.aims.specs.Wholes.{PairsApart}
+use Rattle.queries.proofs.FoundLaws.{found-range}
+use borrow.Author.Rules.{rules}
+use borrow.Author.Tests.{tests}
+use mathlib.Core.Path.{refl}
+use native.Mathlib.Omega.{arith}
+use Rattle.aims.proofs.search.Search.find_wholes.Goals as goal
+
+pub returns : goal.returns
+returns c =
+    let s = c.args.self.now in
+    let o = c.args.others.now in
+    let K = λ (k : ℕ). PairsApart o k in
+    as_by s _ _ _ (λ w h e k _ l. pairs-at o k l w e) (λ w h e. wholes-of o w (λ k l. e k (omega arith) l))
+    (each_by s K 0 16 _ (found-range (λ k y. Finds s (K k) y) 0 16 _ c.find_map.ensures.runs refl (λ x y q k. search (rules, tests))))

@@ -1,6 +1,0 @@
-use mathlib.Core.Path.{sym}
-use lib.Seq.{length-take-le}
-use Rattle.cases.proofs.run_compile.Goals as goal
-
-pub slice_bounds-read_diagram-end-2 : goal.slice_bounds-read_diagram-end-2
-slice_bounds-read_diagram-end-2 c = sym (length-take-le _ _ c.decode-n.ensures)

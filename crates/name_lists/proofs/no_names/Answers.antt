@@ -1,7 +1,0 @@
-use Rattle.name_lists.proofs.NamesLaws.{names-none}
-use mathlib.Core.Path.{refl}
-use borrow.Author.Rules.{rules}
-use Rattle.name_lists.proofs.no_names.Goals as goal
-
-pub returns : goal.returns
-returns c = (search rules, names-none _ refl)

@@ -1,0 +1,11 @@
+use borrow.Author.Rules.{rules}
+use borrow.Author.Tests.{tests}
+use mathlib.Core.Path.{refl}
+use Rattle.laws.proofs.RangeLaws.{all-range}
+use Rattle.object_rules.specs.TypesIn.{single_at}
+use Rattle.object_rules.proofs.types.Objects.are_single.Goals as goal
+
+pub returns : goal.returns
+returns c =
+    let v = c.args.self.now in
+    all-range (single_at v.types.now.kinds v.memory.now.types v.memory.now.count) _ c.all.ensures.ran refl (λ x b q k. search (rules, tests))

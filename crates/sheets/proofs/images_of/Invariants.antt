@@ -1,6 +1,0 @@
-use Rattle.laws.specs.Bits.{Marks, bit}
-use Rattle.sheets.specs.NamedIn.{is_image}
-use Rattle.sheets.proofs.images_of.Given as goal
-
-abbrev pub invariant-loop-i : goal.invariant-loop-i
-invariant-loop-i l = Marks (is_image l.images (λ i. bit i l.chosen) l.i) l.k l.mask

@@ -1,6 +1,0 @@
-use Rattle.laws.specs.Connective.{both}
-use Rattle.sheets.proofs.is_shown.Goals as goal
-
-pub returns : goal.returns
-unfolding both
-returns c = cc
