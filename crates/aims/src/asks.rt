@@ -8,7 +8,7 @@ ghost use Rattle.aims.specs.Finds.{Finds};
 use crate::search::Search;
 use worlds::{Query, Site};
 
-impl<'a> Search<'a> {
+impl Search<'_> {
     // A world that the query asks for. There is none where objects can have none of a seed's types.
     fn ask(&self, q: &Query) -> Option<Site>
         requires { Sane q.now }

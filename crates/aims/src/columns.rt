@@ -6,7 +6,7 @@ ghost use Rattle.aims.specs.Finds.{Finds};
 use crate::search::Search;
 use worlds::{Column, Lines, Site};
 
-impl<'a> Search<'a> {
+impl Search<'_> {
     // An object with fewer sources.
     fn find_few(&self, column: &Column) -> Option<Site>
         ensures { Finds self.now (LeastKept column.now.slot column.now.to column.now.from column.now.low) result }

@@ -7,8 +7,8 @@ ghost use Rattle.worlds.specs.Asked.{Breaks, world_built};
 ghost use Rattle.aims.specs.Finds.{Finds};
 ghost use Rattle.aims.specs.Lines.{LinesKept};
 
-// A search that finds nothing is followed by the next by `if let`, here and in the modules: of a closure for `or_else` that calls a method
-// the check infers no promise, and one written out for each closure says the method's again.
+// A search that finds nothing is followed by the next by `if let`, here and in the modules: `or_else` was tried, and what its closure
+// promises cannot be cited in the proof.
 
 mod asks;
 mod columns;
@@ -21,7 +21,7 @@ mod wholes;
 use crate::search::Search;
 use worlds::{Lines, Others, Site, Tables};
 
-impl<'a> Search<'a> {
+impl Search<'_> {
     // Any world, where a singleton class is missing.
     fn find_any(&self, missing: bool) -> Option<Site>
         ensures { Finds self.now (λ _. missing ≡ false) result }

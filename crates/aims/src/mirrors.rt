@@ -6,7 +6,7 @@ ghost use Rattle.aims.specs.Mirrors.{AllHalvesAvoided, MirrorKept};
 use crate::search::Search;
 use worlds::{Lines, Mirror, Site};
 
-impl<'a> Search<'a> {
+impl Search<'_> {
     // A link in slot s from an object of the types a to one of the types b without the link back in slot u.
     fn find_halves(&self, s: u8, u: u8, a: u32, b: u32) -> Option<Site>
         ensures { Finds self.now (AllHalvesAvoided s u a b) result }

@@ -25,7 +25,7 @@ fn slot_at(i: usize) -> u8
     (i % 32) as u8
 }
 
-impl<'a> Search<'a> {
+impl Search<'_> {
     // A link in slot s from an object of the types a to one of the types b.
     pub fn find_links(&self, s: u8, a: u32, b: u32) -> Option<Site>
         requires { s < 32 }
@@ -37,7 +37,8 @@ impl<'a> Search<'a> {
         self.ask_loops(s, queries::common(a, b))
     }
 
-    // A link that row i of the other diagram does not allow.
+    // A link that row i of the other diagram does not allow. The row comes as i and `others`, here and below: a struct of the two would be
+    // made for each of the 768 rows, and one number of it read.
     fn find_target(&self, i: usize, others: &Others) -> Option<Site>
         requires { i < 768 }
         ensures { Finds self.now (RowTargetsKept others.now.targets i) result }

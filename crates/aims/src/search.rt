@@ -3,9 +3,10 @@ ghost use Rattle.std.specs.Prelude.{◌≤◌};
 
 use worlds::Tables;
 
-// A search among the sites of n objects that a diagram's tables allow. Where a method asks `s < 32`, s is the slot of a row, or one that its
-// caller has compared with 32: the lines of another diagram have a slot of 32 or more where the searched diagram has none, which has no links.
-// It is no Option, since the lines that are searched, which have the same type, always have a slot and are read without a test.
+// A search among the sites of n objects that a diagram's tables allow. Where a method asks `s < 32`, s is the slot of a row, or one that
+// its caller has compared with 32: where the searched diagram has no slot, the lines of another one have the number of its slots, which no
+// row of an object has links in, and which is 32 where all are taken. It is no Option, since the lines that are searched, which have the
+// same type, always have a slot and are read without a test.
 #[derive(Clone, Copy)]
 pub struct Search<'a> {
     pub tables: &'a Tables,

@@ -8,7 +8,7 @@ use crate::search::Search;
 use laws::Mask;
 use worlds::Site;
 
-impl<'a> Search<'a> {
+impl Search<'_> {
     // A world with no object of type t, or two.
     fn find_single(&self, t: u32, others: u32) -> Option<Site>
         requires { t < 24 }

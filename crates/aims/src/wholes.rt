@@ -7,7 +7,7 @@ ghost use Rattle.aims.specs.Wholes.{AllPartsAvoided, PairApart, PairsApart};
 use crate::search::Search;
 use worlds::{Lines, Site, Whole};
 
-impl<'a> Search<'a> {
+impl Search<'_> {
     // An object of the types a that is a target of two, of the types b in slot s and of the types c in slot u. One of them may be itself.
     fn find_parts(&self, s: u8, u: u8, a: u32, b: u32, c: u32) -> Option<Site>
         requires { (s < 32) × (u < 32) }

@@ -4,7 +4,8 @@ use Prim.Native.Nat.{◌<◌, ◌≤◌, ℕ}
 use native.Mathlib.Omega.{arith}
 use mathlib.Core.List.{List}
 use mathlib.Core.Option.{some}
-use Rattle.std.specs.Prelude.{Option, None, Some, IfSome, IsSome}
+use Rattle.std.specs.Prelude.{Option, None, Some, IfSome, IsSome, Result, Ok, Err, IsErrAnd, ok_or}
+use Rattle.fields.specs.declared.Refusal.{Refusal}
 use Rattle.fields.specs.declared.Refusal.TheVariants.{Buffer, NoWitness}
 use Rattle.diagrams.specs.declared.ReadDiagram.{ReadDiagram}
 use mathlib.Core.Bool.{true}
@@ -21,17 +22,27 @@ use Rattle.steps.specs.Bench.{HandOut}
 use Rattle.steps.specs.Step.{handed_out, in_buffer, witnessing, writing}
 use Rattle.bench.specs.Calls.{Does}
 use Rattle.bench.specs.Parts.{ValidWitness, diagram_by, names_of}
-use Rattle.bench.specs.View.{bench_of, place_in}
+use Rattle.bench.specs.View.{asked_in, bench_of, place_in}
 use Rattle.bench.specs.declared.parts.Bench.{Bench}
 use Rattle.bench.specs.declared.parts.Witness.{Witness}
+use Rattle.bench.specs.declared.Reply.{Reply}
 use Rattle.bench.specs.declared.Reply.TheVariants.{Refused, Written}
 use Rattle.bench.proofs.CallLaws.{kept}
 
 -- the bench has a witness w
 module _ (b : Bench) where
-  pub hand-none : (s : List ℕ) → b.witness ≡ None → Does b (HandOut s) (record { bench = b; reply = Refused NoWitness }) s
+  -- what is asked for is not there
+  none-asked : (x : Option Witness) {y : Refusal} → ◌≡◌ {A = Result Witness Refusal} (Err y) (ok_or x NoWitness) → (x ≡ None) × (y ≡ NoWitness)
+  none-asked None e = (refl, cc)
+  none-asked (Some w) e = absurd cc
+
+  pub hand-none : (s : List ℕ) (r : Result Reply Refusal) {y : Refusal} → IsErrAnd r (λ z. z ≡ y) → ◌≡◌ {A = Result Witness Refusal} (Err y) (ok_or b.witness NoWitness)
+      → Does b (HandOut s) (asked_in b r) s
   unfolding writing handed_out witnessing bench_of
-  hand-none s e = kept b (HandOut s) (Refused NoWitness) s (rw e)
+  hand-none s (Ok x) h e = absurd h
+  hand-none s (Err z) h e =
+      let q = none-asked b.witness e in
+      rw (h ∙ q.1) (kept b (HandOut s) (Refused NoWitness) s (rw q.0))
 
   module _ (w : Witness) (e : b.witness ≡ Some w) where
     -- by the names of the diagram in its place
@@ -48,10 +59,6 @@ module _ (b : Bench) where
     pub hand-short : (s : List ℕ) → length s < 60000 → Does b (HandOut s) (record { bench = b; reply = Refused Buffer }) s
     unfolding writing handed_out witnessing in_buffer
     hand-short s l = kept b (HandOut s) (Refused Buffer) s (rw (one-witness, lt-leb 60000 (length s) l))
-
-    -- its place is full
-    pub hand-ready : {x : Option ReadDiagram} → x ≡ place_in b w.place → IsSome x
-    hand-ready is = subst (λ (y : Option ReadDiagram). IsSome y) (sym is) valid.ready
 
     module _ {x : Option ReadDiagram} (d : ReadDiagram) (is : x ≡ place_in b w.place) (full : x ≡ Some d) where
       here : place_in b w.place ≡ Some d

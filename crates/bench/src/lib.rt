@@ -23,7 +23,7 @@ pub enum Reply {
     // 0 is no rule, as the reply to judge has it.
     Rule(u8),
     Records(u8),
-    // The number of entries is none, as the reply to evaluate has it.
+    // The number of entries stands for none, as the reply to evaluate has it.
     FirstFalse(u8),
     NoDifference,
     Difference(u8),
@@ -44,8 +44,8 @@ pub struct CompileReply {
     pub list: [u8; 320],
 }
 
-// What compile gives besides: 64 entries of five bytes, all zero where it was refused. The list is there in each case, as the caller's
-// interface has it.
+// What compile gives: the bench, the reply, and beside it 64 entries of five bytes, all zero where it was refused, as the definition has it
+// (`DoesWith`).
 #[derive(Clone, Copy)]
 pub struct Listed {
     pub bench: Bench,
@@ -65,8 +65,8 @@ pub fn fresh() -> Bench
     }
 }
 
-// A bench has the places 0 and 1. A place stays the number that the call gives: what a call means is said of the number, and two functions
-// take it apart, each in one test.
+// A bench has the places 0 and 1. A place stays the number that the call gives: what a call means is said of the number, and three
+// functions take it apart, each in one test.
 fn check_place(p: u8) -> Result<(), Refusal>
     ensures { Placed p result }
 {
@@ -77,6 +77,7 @@ fn check_place(p: u8) -> Result<(), Refusal>
 }
 
 // What place p holds.
+#[tactic(auto, unfolding(crate::specs::Parts::pick))]
 fn place_of(b: &Bench, p: u8) -> Option<ReadDiagram>
     ensures { result ≡ place_in b.now p }
 {
@@ -121,16 +122,14 @@ fn cleared(place: u8) -> Result<Option<ReadDiagram>, Refusal>
 fn told(r: Result<Reply, Refusal>) -> Reply
     ensures { result ≡ reply_by r }
 {
-    match r {
-        Ok(reply) => reply,
-        Err(refusal) => Reply::Refused(refusal),
-    }
+    r.unwrap_or_else(Reply::Refused)
 }
 
-// ---- calls on a bench in its place, each behind what it gives where it is not refused
+// ---- calls on a bench that stays where it stands; before each, what it gives where it is not refused
 
 impl Bench {
     // The place is what was read, or empty, and the witness is dropped; or the refusal, and the bench as it came.
+    #[tactic(auto, unfolding(crate::specs::View::settled_in))]
     fn set(&mut self, place: u8, r: Result<Option<ReadDiagram>, Refusal>) -> Reply
         ensures { left_by self.exit.now result ≡ placed_in self.entry.now place r }
     {
@@ -243,9 +242,7 @@ impl Bench {
     fn handed_out(&self, out: &mut [u8]) -> Result<Reply, Refusal>
         ensures { Does self.now (HandOut out.old) (asked_in self.now result) out.new }
     {
-        let Some(w) = self.witness else {
-            return Err(Refusal::NoWitness);
-        };
+        let w = self.witness.ok_or(Refusal::NoWitness)?;
         if out.len() < 60000 {
             return Err(Refusal::Buffer);
         }
@@ -269,7 +266,8 @@ impl Bench {
     }
 }
 
-// ---- the same on a bench that is handed on: each call is the one above, and the bench that it leaves goes with the reply
+// ---- the same on a bench that is handed on, for programs that keep one by value (`cases`): each call is the one above, and the bench that
+// it leaves goes with the reply
 
 impl Bench {
     // By `run_load`.

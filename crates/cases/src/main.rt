@@ -11,7 +11,8 @@ ghost use Rattle.std.specs.Prelude.{◌<◌, ◌≤◌, length};
 
 use fields::Refusal;
 
-// Where the replies go.
+// Where the replies go, piece by piece with the kit's `io`: `print!` asks for a handle in every function and gives a Result that no one
+// would read here.
 const STDOUT: i32 = 1;
 
 // How many bytes stand before the first b, or all. `rows` has the same with `!=`: one line each.
@@ -91,7 +92,8 @@ impl<'a> Case<'a> {
         io::write_all(STDOUT, b": ");
     }
 
-    // The same with a number behind it, on a line. `as u64` loses nothing of a usize here and in the modules, and no From turns one into it.
+    // The same with a number behind it, on a line. `as u64` loses nothing of a usize here and in the modules, and no From turns one into
+    // it.
     fn say(&self, what: &[u8], reply: usize) {
         self.print_name(what);
         io::print_decimal(STDOUT, reply as u64);
@@ -170,11 +172,8 @@ fn run(line: &[u8], space: &mut [u8], other: &mut [u8], replies: &mut [u8]) {
 
 // All lines.
 fn run_all(text: &[u8], space: &mut [u8], other: &mut [u8], replies: &mut [u8]) {
-    let mut rest = text;
-    while 0 < rest.len() {
-        let k = before(rest, b'\n');
-        run(laws::front(rest, k), space, other, replies);
-        rest = laws::past(laws::past(rest, k), 1);
+    for line in text.split(|b| *b == b'\n') {
+        run(line, space, other, replies);
     }
 }
 

@@ -140,7 +140,7 @@ fn check_field(s: Progress<'_>, tag: u8, c: &[u8]) -> Result<(), Refusal>
 
 // ---- a file
 
-// What is left behind a field.
+// The progress behind one field more.
 fn count_field<'a>(s: Progress<'a>, tag: u8, c: &'a [u8]) -> Progress<'a>
     requires { (s.objects ≤ 8) × ((s.values ≤ 256) × (s.links ≤ 2048)) }
     ensures { result ≡ counted s.entry tag c.entry }
@@ -186,6 +186,7 @@ fn check_end(s: Progress<'_>) -> Result<(), Refusal>
 pub fn check_record(file: &[u8]) -> Result<(), Refusal>
     ensures { refusal_number result ≡ refusal_of (read_record file.now) }
 {
+    // No field so far. Written out: the borrow checker does not cover this loop where it begins with a derived `Default`.
     let mut s = Progress {
         last: 0,
         count: 0,

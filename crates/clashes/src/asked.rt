@@ -3,7 +3,8 @@ ghost use Rattle.std.specs.Prelude.{◌<◌};
 
 use worlds::ColumnLimits;
 
-// Limits that are asked of the sources of the first object, which has the type `first`. Only types of the mask `here` have links to it there.
+// Limits that are asked of the sources of the first object, which has the type `first`. Only types of the mask `here` have links to it
+// there.
 #[derive(Clone, Copy)]
 pub(crate) struct Asked {
     pub first: u8,

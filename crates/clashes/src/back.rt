@@ -11,15 +11,13 @@ use crate::asked::Asked;
 use laws::Mask;
 use worlds::{ColumnLimits, RowLimits, Tables, Types};
 
-// The targets of the first object in the slot `row`: it has the type `first`, they have types of the mask, and `low` to `high` of them are
-// asked for. The links in `slot` from types of the mask `there` are the links back.
+// The targets of the first object in a row: it has the type `first`, they have types of the mask. The links in `slot` from types of the
+// mask `there` are the links back.
 #[derive(Clone, Copy)]
 struct Back {
     first: u8,
-    row: u8,
+    row: RowLimits,
     mask: u32,
-    low: u8,
-    high: u8,
     slot: u8,
     there: u32,
     ghost known: { first < 24 },
@@ -29,7 +27,7 @@ struct Back {
 // Whether column j excludes them.
 fn is_apart_from_column(tables: &Tables, back: Back, j: usize) -> bool
     requires { j < 16 }
-    ensures { result ≡ true → Never (λ w. FirstTargets back.first back.row back.mask back.low back.high w × SourcesKept tables.now.sources w × ColumnsKept tables.now.lines w × LinkedBack back.slot back.there back.row w) }
+    ensures { result ≡ true → Never (λ w. FirstTargets back.first back.row.slot back.mask back.row.low back.row.high w × SourcesKept tables.now.sources w × ColumnsKept tables.now.lines w × LinkedBack back.slot back.there back.row.slot w) }
 {
     let column = tables.lines.columns[j];
     let asked = Asked {
@@ -43,12 +41,12 @@ fn is_apart_from_column(tables: &Tables, back: Back, j: usize) -> bool
         },
     };
     (column.slot == back.slot) & column.to.has(u32::from(back.first))
-        && crate::counts::is_apart_back(asked, back.there, back.mask, back.low, back.high)
+        && crate::counts::is_apart_back(asked, back.there, back.mask, back.row.low, back.row.high)
 }
 
 // Whether a column does.
 fn is_apart_from_columns(tables: &Tables, back: Back) -> bool
-    ensures { result ≡ true → Never (λ w. FirstTargets back.first back.row back.mask back.low back.high w × SourcesKept tables.now.sources w × ColumnsKept tables.now.lines w × LinkedBack back.slot back.there back.row w) }
+    ensures { result ≡ true → Never (λ w. FirstTargets back.first back.row.slot back.mask back.row.low back.row.high w × SourcesKept tables.now.sources w × ColumnsKept tables.now.lines w × LinkedBack back.slot back.there back.row.slot w) }
 {
     (0..16).any(|j| is_apart_from_column(tables, back, j))
 }
@@ -61,19 +59,15 @@ fn is_apart_by_mirror(tables: &Tables, first: u8, mask: u32, row: RowLimits, j: 
     let mirror = tables.lines.mirrors[j];
     let right = Back {
         first,
-        row: row.slot,
+        row,
         mask,
-        low: row.low,
-        high: row.high,
         slot: mirror.right,
         there: mirror.from,
     };
     let left = Back {
         first,
-        row: row.slot,
+        row,
         mask,
-        low: row.low,
-        high: row.high,
         slot: mirror.left,
         there: mirror.to,
     };

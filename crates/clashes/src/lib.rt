@@ -17,23 +17,24 @@ mod mirrors;
 mod parts;
 mod wholes;
 
-// Whether the query contradicts the tables, where its seeds have the given types. Each test is an `if` of its own, here and in
+// Whether the query contradicts the tables, where its seeds have the given types. The tables, the query and the types come one by one: each
+// test reads a few of their fields, and its promise is of these alone. Each test is an `if` of its own, here and in
 // `counts::is_bad_first_column`: of one chain with `||` the check knows the value by branches within branches, which a proof takes apart
 // test by test.
-pub fn is_implied(tables: &Tables, q: Query, types: Types, n: u8) -> bool
-    requires { Sane q × (n ≤ 8) }
-    ensures { result ≡ true → Nowhere (Solution (sheet_of tables.now) q n) types.at q.seeds q.never n }
+pub fn is_implied(tables: &Tables, q: &Query, types: Types, n: u8) -> bool
+    requires { Sane q.now × (n ≤ 8) }
+    ensures { result ≡ true → Nowhere (Solution (sheet_of tables.now) q.now n) types.at q.now.seeds q.now.never n }
 {
     if q.seeds == 0 {
         return false;
     }
-    if bits::is_bad_bit(&tables.targets, &q, &types) {
+    if bits::is_bad_bit(&tables.targets, q, &types) {
         return true;
     }
-    if mirrors::is_bad_turn(tables, &q, &types) {
+    if mirrors::is_bad_turn(tables, q, &types) {
         return true;
     }
-    if wholes::is_bad_part(tables, &q, &types) {
+    if wholes::is_bad_part(tables, q, &types) {
         return true;
     }
     if parts::is_bad_first_part(tables, &types, q.row) {

@@ -18,7 +18,8 @@ fn is_whole_by(tables: &Tables, must: &[u8; 256], types: &Types, p: u8, o: u8, j
         & records::is_linked(must, o, whole.slot, p)
 }
 
-// Whether a link from o to p that must stand makes o a whole of p. Apart from `link_search`, whose wholes are told by other objects' sets.
+// Whether a link from o to p that must stand makes o a whole of p. Apart from `link_search`, whose wholes have sets of objects: here they
+// have sets of types.
 fn is_whole(tables: &Tables, must: &[u8; 256], types: &Types, p: u8, o: u8) -> bool
     requires { (p < 8) × (o < 8) }
     ensures { result ≡ must_whole tables.now.lines must.now types.now.at p o }

@@ -10,12 +10,12 @@ use mathlib.Core.Option.{Option, none, some}
 use mathlib.Core.Path.{◌∙◌, ◌≡◌, refl, subst, sym}
 use lib.Dec.{eqb, leb, ltb}
 use lib.ListN.{drop, get_or, length}
-use borrow.Author.Tests.{eq-eqb, leb-true, ltb-true, ne_eqb}
+use borrow.Author.Tests.{leb-true, ltb-true, ne_eqb}
 use Rattle.laws.specs.Bounded.{all}
 use Rattle.laws.proofs.BoundedLaws.{all-at}
 use Rattle.laws.proofs.ConnectiveLaws.{and_left, and_right}
 use Rattle.steps.specs.Effect.{effect}
-use Rattle.coding.specs.CallBytes.{Operands, Shape, call, call_of, code_byte, codes, halt, length_at, next_by, next_of, no_call, operands_of, read_call, row_at}
+use Rattle.coding.specs.CallBytes.{Operands, Shape, call, call_of, code_byte, codes, halt, length_at, next_by, next_of, operands_of, read_call, row_at}
 use Rattle.std.specs.Prelude as rattle
 use Rattle.std.specs.Prelude.{None, Some}
 use Rattle.coding.specs.declared.Next.{Next}

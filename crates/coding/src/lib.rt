@@ -13,7 +13,8 @@ use bench::Reply;
 // ---- calls
 
 // The call at the front of a list of calls: its code, a byte, where a file stands and how long it is, how long a buffer is to lend,
-// and how many bytes the call takes. The code is the byte of the list, by which the format defines the operands and the call.
+// and how many bytes the call takes. The code is the byte of the list, by which the format defines the operands and the call. The file is
+// told by two numbers and no slice, as the definition `next_of` computes them.
 #[derive(Clone, Copy)]
 pub struct Next {
     pub code: u8,
@@ -57,20 +58,17 @@ const NONE: Row = Row {
     buffers: 0,
 };
 
-// By code. No call has the code 0, nor one past the table: NONE stands there, as in the definition, and the one test of the code is that in
-// `read_next`.
+// By code. NONE stands at 0 and past the table, as in the definition; `read_next` takes no such code for a call.
 const ROWS: [Row; 9] = [NONE, FILE, BYTE, FILE, BYTE, FILE, BYTE, BUFFER, FILE];
 
 fn row_at(code: u8) -> Row
     ensures { IsRow (row_at code) result }
 {
-    if 9 <= code {
-        return NONE;
-    }
-    ROWS[usize::from(code)]
+    ROWS.get(usize::from(code)).copied().unwrap_or(NONE)
 }
 
-// A number of four bytes, high byte first.
+// A number of four bytes, high byte first. `as`, since the library has no conversion of u32 to usize that cannot fail.
+#[tactic(auto, unfolding(crate::specs::CallBytes::long_at))]
 fn long_at(s: &[u8], i: usize) -> usize
     requires { i < 1152921504606846976 }
     ensures { (result ≡ long_at s.now i) × (result < 4294967296) }
@@ -84,6 +82,7 @@ fn long_at(s: &[u8], i: usize) -> usize
 }
 
 // The same where there is such an operand, else 0.
+#[tactic(auto, unfolding(crate::specs::CallBytes::length_at))]
 fn length_at(s: &[u8], many: usize, i: usize) -> usize
     requires { i < 1152921504606846976 }
     ensures { (result ≡ length_at s.now many i) × (result < 4294967296) }

@@ -24,7 +24,8 @@ fn is_giving(lines: &Lines, t: u32, j: usize) -> bool
         & type_tables::is_inside(lines.columns[j].from, lines.wholes[j].from)
 }
 
-// The types that the whole of an object of type t may have, where each has a whole.
+// The types that the whole of an object of type t may have, where each has a whole. A loop: of `filter`, `map` and `reduce` together no law
+// stands in `laws`.
 pub fn common_whole(lines: &Lines, t: u32) -> Option<u32>
     requires { t < 24 }
     ensures { IfSome result (Common lines.now t) }

@@ -15,8 +15,8 @@ use sheets::Rows;
 use type_tables::{Pair, PairDues};
 use worlds::{Others, Tables};
 
-// The least number of objects first: the first witness found has fewest.
-// A loop, since what it keeps, that there is none below n, is what the promise says of the one that is found.
+// The least number of objects first: the first witness found has fewest. A loop: its invariant, none below n, is `Sought`'s own word; of
+// `find_map` the same would be said of the closure first.
 fn least(by: &PairDues, tables: &Tables, others: &Others, most: u8) -> Option<MemoryRecord>
     requires { Ready (old_of by.now.pair) (new_of by.now.pair) tables.now others.now × (most ≤ 8) }
     ensures { Sought (old_of by.now.pair) (new_of by.now.pair) most result }

@@ -28,14 +28,13 @@ fn row(arrow: u8) -> &'static [(u8, u8)]
     match arrow {
         1 => &[(1, 0), (3, 0)],
         2 => &[(1, 1), (3, 1)],
-        3 => &[(1, 0), (1, 1), (5, 0)],
-        4 => &[(1, 0), (1, 1), (5, 0)],
+        3 | 4 => &[(1, 0), (1, 1), (5, 0)],
         _ => &[],
     }
 }
 
-// ---- entries. The list, the associations and the index of one go through four functions: a struct of them would borrow the list for changes,
-// and its contracts would say of that field what these say of `r`.
+// ---- entries. The list, the associations and the index of one go through four functions: a struct of them would borrow the list for
+// changes, and its contracts would say of that field what these say of `r`.
 
 // One entry more, of a kind with limits: without an upper one it is the next kind, and up is 0.
 fn push_limited(r: &mut Entries, kind: u8, association: u8, side: u8, low: u16, up: u16)

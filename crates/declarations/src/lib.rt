@@ -16,7 +16,8 @@ pub struct Declarations<'a> {
     pub tables: &'a Tables,
 }
 
-// An object and a slot go by themselves: they are two numbers, and a value's place has no other name than they.
+// An object and a slot are two parameters: `object_rules` has them from its loops, and a struct would be made there for each value and
+// taken apart in `is_declaring`.
 impl<'a> Declarations<'a> {
     // Those that a record in memory is judged by.
     pub fn of(values: &'a Values<'a>) -> Self

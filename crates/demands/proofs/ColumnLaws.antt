@@ -24,11 +24,11 @@ use Rattle.worlds.specs.Lined.{column_at}
 module _ (s : Start) (sources : List ℕ) (best r : Option ℕ) where
   -- x: where the table has the sources of object p in the slot
   pub sources-sharp : (slot mask low high p x : ℕ) → slot < 32 → p < s.k → x ≡ get_or s.types.at p 0 * 32 + slot
-      → ((q : World → ℕ → Bool) → Sharpens (λ w. Limited low high (bit_and mask (get_or sources x 0)) 0 (q w) w) s best r)
+      → Sharpens (λ w. (q : ℕ → Bool) × Limited low high (bit_and mask (get_or sources x 0)) 0 q w) s best r
       → Sharpens (λ w. SourcesKept sources w × InLimits low high (source_count w slot mask p)) s best r
   sources-sharp slot mask low high p x small given e f = record {
-    at = λ w a h. (f (λ v o. bit (v.kind o) mask && v.link slot o p)).at w a
-        (record { within = h.1; typed = λ o b t. typed w a h.0 o b t; apart = λ o b t. bit-zero o });
+    at = λ w a h. f.at w a
+        (λ o. bit (w.kind o) mask && w.link slot o p, record { within = h.1; typed = λ o b t. typed w a h.0 o b t; apart = λ o b t. bit-zero o });
   }
     where
       typed : (w : World) → Started s w → SourcesKept sources w → (o : ℕ) → o < w.size → bit (w.kind o) mask && w.link slot o p ≡ true

@@ -68,10 +68,10 @@ module _ (s : Start) where
         S : World → Type 0
         S v = Started s v × AtLeast p low (λ t. bit t mask) (λ o. bit o shut) v
 
-    module _ (p : World → ℕ → Bool) (best r : Option ℕ) where
-      pub limits-cross : high < low → Sharpens (λ w. Limited low high mask shut (p w) w) s best r
-      limits-cross h = record { at = λ w a l _. absurd (omega (arith, l.within.least, l.within.most)) }
+    module _ (best r : Option ℕ) where
+      pub limits-cross : high < low → Sharpens (λ w. (p : ℕ → Bool) × Limited low high mask shut p w) s best r
+      limits-cross h = record { at = λ w a l _. absurd (omega (arith, l.1.within.least, l.1.within.most)) }
 
       pub limits-need : (n : ℕ) → n ≡ candidates (λ t. bit t mask) (λ o. bit o shut) s.types.at s.k
-          → Sharpens (λ w. low - n ≤ extras (bit_and mask s.free) s.k w) s best r → Sharpens (λ w. Limited low high mask shut (p w) w) s best r
-      limits-need n e f = record { at = λ w a l. f.at w a (let z = limited-need w a (p w) l in omega arith) }
+          → Sharpens (λ w. low - n ≤ extras (bit_and mask s.free) s.k w) s best r → Sharpens (λ w. (p : ℕ → Bool) × Limited low high mask shut p w) s best r
+      limits-need n e f = record { at = λ w a l. f.at w a (let z = limited-need w a l.0 l.1 in omega arith) }

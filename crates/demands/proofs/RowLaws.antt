@@ -48,14 +48,14 @@ module _ (targets lows highs shut : List ℕ) (s : Start) (o i x y : ℕ) (given
 
   module _ (best r : Option ℕ) where
     pub row-sharp
-        : ((p : World → ℕ → Bool) → Sharpens (λ w. Limited (get_or lows x 0) (get_or highs x 0) (get_or targets x 0) (get_or shut y 0) (p w) w) s best r)
+        : Sharpens (λ w. (p : ℕ → Bool) × Limited (get_or lows x 0) (get_or highs x 0) (get_or targets x 0) (get_or shut y 0) p w) s best r
         → Sharpens (RowsOpen targets lows highs shut) s best r
-    row-sharp f = record { at = λ w a h. (f (λ v p. v.link i o p)).at w a (row-limited w a h _ _ (row_within w a h)) }
+    row-sharp f = record { at = λ w a h. f.at w a (w.link i o, row-limited w a h _ _ (row_within w a h)) }
 
     pub own-sharp : (low high lower upper : ℕ) → lower ≡ max (get_or lows x 0) low → upper ≡ min (get_or highs x 0) high
-        → ((p : World → ℕ → Bool) → Sharpens (λ w. Limited lower upper (get_or targets x 0) (get_or shut y 0) (p w) w) s best r)
+        → Sharpens (λ w. (p : ℕ → Bool) × Limited lower upper (get_or targets x 0) (get_or shut y 0) p w) s best r
         → Sharpens (λ w. RowsOpen targets lows highs shut w × InLimits low high (target_count w i o)) s best r
     own-sharp low high lower upper e g f = record {
-      at = λ w a h. (f (λ v p. v.link i o p)).at w a
-          (row-limited w a h.0 _ _ (within_both _ _ low high lower upper (target_count w i o) e g (row_within w a h.0) h.1));
+      at = λ w a h. f.at w a
+          (w.link i o, row-limited w a h.0 _ _ (within_both _ _ low high lower upper (target_count w i o) e g (row_within w a h.0) h.1));
     }

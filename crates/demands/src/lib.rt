@@ -17,8 +17,9 @@ mod sets;
 mod singles;
 mod weighing;
 
-// The types of the first k objects, how many more there can be, and the types that these can have. The tables and the query go beside it:
-// what a need sharpens is said of all worlds that start so (`Sharpens`), whichever tables allow them, and a query is `Sane` where it is read.
+// The types of the first k objects, how many more there can be, and the types that these can have. The tables and the query are handed on
+// apart: what a need sharpens is said of all worlds that start so (`Sharpens`), whichever tables allow them, and a query is `Sane` where it
+// is read.
 #[derive(Clone, Copy)]
 struct Start {
     types: Types,
@@ -29,10 +30,11 @@ struct Start {
 }
 
 // What the first k objects, whose types are given, demand of one more object in a world of n objects: a type of the mask. None: no world
-// that is looked for starts with these.
-pub fn demand(tables: &Tables, q: Query, types: Types, k: u8, forb: u32, n: u8) -> Option<u32>
-    requires { Sane q × (q.seeds ≤ k) × (k ≤ n) × (n ≤ 8) }
-    ensures { Demanded (Solution (sheet_of tables.now) q n) 24 types.at k forb n (is_none result) (ltb k n) (unwrap_or result 0) }
+// that is looked for starts with these. In the modules needs sharpen a wish one after the other by loops with `?`: of `try_fold` no law
+// stands in `laws`.
+pub fn demand(tables: &Tables, q: &Query, types: Types, k: u8, forb: u32, n: u8) -> Option<u32>
+    requires { Sane q.now × (q.now.seeds ≤ k) × (k ≤ n) × (n ≤ 8) }
+    ensures { Demanded (Solution (sheet_of tables.now) q.now n) 24 types.at k forb n (is_none result) (ltb k n) (unwrap_or result 0) }
 {
     let here = sets::types_present(&types, k);
     let free = sets::types_free(tables.usable, tables.singles, forb, here);

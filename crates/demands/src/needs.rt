@@ -1,7 +1,6 @@
 // A need of more objects, and how a wish is sharpened by it.
 ghost use Rattle.std.specs.Prelude.{◌≡◌, Bool, Some, ℕ, ◌<◌, ◌≤◌};
 ghost use Rattle.laws.specs.Bits.{bit};
-ghost use Rattle.growing.specs.World.{World};
 ghost use Rattle.growing.specs.Demand.{candidates, extras};
 ghost use Rattle.demands.specs.Wishes.{Limited, Sharpens};
 
@@ -43,7 +42,7 @@ pub(crate) fn with_limits(
     low: u8,
     high: u8,
 ) -> Option<u32>
-    ensures { (p : World → ℕ → Bool) → Sharpens (λ w. Limited low high mask shut (p w) w) s (Some best) result }
+    ensures { Sharpens (λ w. (p : ℕ → Bool) × Limited low high mask shut p w) s (Some best) result }
 {
     if low == 0 {
         return Some(best);
@@ -55,5 +54,6 @@ pub(crate) fn with_limits(
     if usize::from(low) <= n {
         return Some(best);
     }
+    // n is below `low` here, so that `as u8` keeps it.
     with_need(best, s, mask & s.free, low - n as u8)
 }

@@ -9,9 +9,9 @@ use crate::Start;
 use worlds::{Query, Tables};
 
 // How many targets it has in one slot, and how many sources in one.
-pub(crate) fn with_own(best: u32, s: Start, tables: &Tables, q: Query) -> Option<u32>
-    requires { Sane q × (q.seeds ≤ s.k) }
-    ensures { Sharpens (λ w. RowsOpen tables.now.targets tables.now.lows tables.now.highs q.shut w × SourcesKept tables.now.sources w × Satisfies q w) s (Some best) result }
+pub(crate) fn with_own(best: u32, s: Start, tables: &Tables, q: &Query) -> Option<u32>
+    requires { Sane q.now × (q.now.seeds ≤ s.k) }
+    ensures { Sharpens (λ w. RowsOpen tables.now.targets tables.now.lows tables.now.highs q.now.shut w × SourcesKept tables.now.sources w × Satisfies q.now w) s (Some best) result }
 {
     if q.seeds == 0 {
         return Some(best);

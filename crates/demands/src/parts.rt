@@ -11,10 +11,10 @@ fn with_whole(best: u32, s: Start, tables: &Tables, p: u8) -> Option<u32>
     requires { p < s.k }
     ensures { Sharpens (λ w. ColumnsKept tables.now.lines w × WholesKept tables.now.lines w) s (Some best) result }
 {
-    match common_wholes::common_whole(&tables.lines, s.types.of(p)) {
-        None => Some(best),
-        Some(mask) => crate::needs::with_limits(best, s, mask, 0, 1, 1),
-    }
+    common_wholes::common_whole(&tables.lines, s.types.of(p)).map_or(
+        Some(best),
+        |mask| crate::needs::with_limits(best, s, mask, 0, 1, 1),
+    )
 }
 
 // The wholes of all given objects.

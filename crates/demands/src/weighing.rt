@@ -18,7 +18,7 @@ fn askers(lines: &Lines, way: Way, j: usize) -> u32
         Way::Columns => lines.columns[j].to,
         Way::There => lines.mirrors[j].from,
         Way::Back => lines.mirrors[j].to,
-        Way::Wholes => 0xFFFFFF,
+        Way::Wholes => u32::MAX,
     }
 }
 
@@ -27,16 +27,16 @@ fn with_shortage(best: u32, s: Start, short: Option<Shortage>) -> Option<u32>
     requires { IfSome short (λ x. 0 < x.c) }
     ensures { Sharpens (λ w. IfSome short (λ x. x.c ≤ extras x.g s.k w)) s (Some best) result }
 {
-    match short {
-        Some(lack) => crate::needs::with_need(best, s, lack.g, lack.c),
-        None => Some(best),
-    }
+    short.map_or(
+        Some(best),
+        |lack| crate::needs::with_need(best, s, lack.g, lack.c),
+    )
 }
 
 // One way of counting, by each line of which a type of the mask `here` asks for links: by all where it has the types of the first objects.
-fn with_way(mut best: u32, s: Start, here: u32, tables: &Tables, q: Query, way: Way) -> Option<u32>
-    requires { Sane q × (q.seeds ≤ s.k) }
-    ensures { (usable singles : ℕ) → Sharpens (λ w. Allowed (sheet usable singles tables.now.targets tables.now.lows tables.now.highs tables.now.lines) w × Satisfies q w) s (Some best) result }
+fn with_way(mut best: u32, s: Start, here: u32, tables: &Tables, q: &Query, way: Way) -> Option<u32>
+    requires { Sane q.now × (q.now.seeds ≤ s.k) }
+    ensures { (usable singles : ℕ) → Sharpens (λ w. Allowed (sheet usable singles tables.now.targets tables.now.lows tables.now.highs tables.now.lines) w × Satisfies q.now w) s (Some best) result }
 {
     for j in 0..16 {
         if here & askers(&tables.lines, way, j) != 0 {
@@ -48,9 +48,15 @@ fn with_way(mut best: u32, s: Start, here: u32, tables: &Tables, q: Query, way: 
 }
 
 // All ways of counting.
-pub(crate) fn with_weights(best: u32, s: Start, here: u32, tables: &Tables, q: Query) -> Option<u32>
-    requires { Sane q × (q.seeds ≤ s.k) }
-    ensures { (usable singles : ℕ) → Sharpens (λ w. Allowed (sheet usable singles tables.now.targets tables.now.lows tables.now.highs tables.now.lines) w × Satisfies q w) s (Some best) result }
+pub(crate) fn with_weights(
+    best: u32,
+    s: Start,
+    here: u32,
+    tables: &Tables,
+    q: &Query,
+) -> Option<u32>
+    requires { Sane q.now × (q.now.seeds ≤ s.k) }
+    ensures { (usable singles : ℕ) → Sharpens (λ w. Allowed (sheet usable singles tables.now.targets tables.now.lows tables.now.highs tables.now.lines) w × Satisfies q.now w) s (Some best) result }
 {
     let rows = with_way(best, s, here, tables, q, Way::Rows)?;
     let columns = with_way(rows, s, here, tables, q, Way::Columns)?;

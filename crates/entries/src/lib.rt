@@ -41,7 +41,7 @@ impl Entry {
 impl Entries {
     ghost use Rattle.entries.specs.View.{entry_seen, no_entries, Appends};
 
-    // No entry: all zero.
+    // No entry: all zero. Written out once, as its definition is: `default-zeros` of `laws` is of numbers, and this list is of entries.
     pub fn none() -> Self
         ensures { result ≡ no_entries }
     {

@@ -15,7 +15,7 @@ use Rattle.rules.specs.Compile.{compile}
 use Rattle.rules.specs.Evaluate.{first_failing}
 use Rattle.memory_rules.specs.SiteIn.{site_in}
 use Rattle.memory_rules.proofs.JudgeInLaws.{evaluate-in}
-use Rattle.judging.proofs.FileLaws.{file-stands}
+use Rattle.judging.proofs.FileLaws.{file-coded, file-stands}
 use Rattle.std.specs.Prelude.{Result, Ok, Err, IsErrAnd}
 use Rattle.fields.specs.Refusal.{number_of}
 use Rattle.fields.specs.declared.Refusal.{Refusal}
@@ -28,3 +28,5 @@ file-evaluated {d} {file} {m} held is e f = record { refusal = e; first = λ r h
 pub file-refused : (d : Diagram) (file : List ℕ) (y : Refusal) (v : Result ℕ Refusal) → number_of y ≡ refusal_of (read_record file) → IsErrAnd v (λ z. z ≡ y) → Evaluates d file v
 file-refused d file y (Ok n) e h = absurd h
 file-refused d file y (Err z) e h = record { refusal = ap number_of h ∙ e; first = tt }
+
+pub ruleset file_laws = (file-evaluated, file-refused, file-coded)

@@ -117,3 +117,5 @@ unfolding first_failing
 failing-is d x e f =
     f ∙ first_not-ext (λ k. holds d x (entry_in e k)) (λ k. holds d x (entry_at (entries_in e) k)) e.number (λ k l. ap (holds d x) (sym (entry-at e k l)))
     ∙ ap (first_not (λ k. holds d x (entry_at (entries_in e) k))) (sym (number_is e))
+
+pub ruleset named = (compiled-named)

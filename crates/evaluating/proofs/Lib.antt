@@ -1,4 +1,3 @@
-pub mod EntryLaws
 pub mod SideLaws
 pub mod KnownLaws
 pub mod FileLaws

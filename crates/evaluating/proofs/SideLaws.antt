@@ -3,6 +3,7 @@
 use Prim.Native.Nat.{ℕ, ◌<◌}
 use mathlib.Core.Bool.{Bool}
 use mathlib.Core.Path.{◌≡◌, ap, ◌∙◌}
+use Rattle.std.proofs.lemmas.Bool.Decides.{nat_tests}
 use Rattle.files.specs.Diagram.{Diagram, Limits, association_at}
 use Rattle.records.specs.declared.MemoryRecord.{MemoryRecord}
 use Rattle.rules.specs.Arrow.{Side}
@@ -27,3 +28,5 @@ module _ {d : Diagram} {m : MemoryRecord} (v : Links) (j : JudgedBy d m v) (i : 
 
   pub whole_of : r ≡ by_tables one_whole_in v k → r ≡ one_whole d (site_in d m) (association_at d i)
   whole_of f = f ∙ ap (by_tables one_whole_in v) e ∙ one-whole-at j i l
+
+pub ruleset side_laws = (targets_of, sources-of, mirror-of, whole_of, nat_tests)

@@ -22,6 +22,7 @@ use tables::Roles;
 // ---- an entry, by its kind
 
 // Kinds and sides are numbers of the compiled record, as an entry has them.
+#[tactic(auto, using(crate::proofs::SideLaws::side_laws), unfolding(rules::specs::Evaluate::holds))]
 fn entry_holds(links: &Links, entry: Entry) -> bool
     requires { entry.association < links.now.associations.now.count }
     ensures { Says (λ d x. holds d x (entry_seen entry)) links.now result }
@@ -61,6 +62,7 @@ fn first_failing(links: &Links, e: &Entries) -> usize
 // ---- the compiled list
 
 // The index of the first compiled entry that does not hold, or their number, as the reply has it.
+#[tactic(auto, using(crate::proofs::KnownLaws::named))]
 pub fn first_false(d: ReadDiagram, m: MemoryRecord) -> usize
     requires { m.count ≤ 8 }
     ensures { result ≡ first_failing (diagram_of d.stored) (site_in (diagram_of d.stored) m) (compile (diagram_of d.stored)) }
@@ -72,6 +74,7 @@ pub fn first_false(d: ReadDiagram, m: MemoryRecord) -> usize
 // ---- a record file
 
 // How many compiled predicates there are, if all hold; else the index of the first that does not.
+#[tactic(auto, using(crate::proofs::FileLaws::file_laws))]
 pub fn evaluate(d: ReadDiagram, file: &[u8]) -> Result<usize, Refusal>
     ensures { Evaluates (diagram_of d.stored) file.now result }
 {

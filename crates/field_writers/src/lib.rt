@@ -1,11 +1,11 @@
 // Parts of a field, written into the unused rest of a buffer. Lengths fit the casts, as the contracts ask.
-// Each writer takes a part of the caller's slice and gives how many bytes it put, so that its promise is about one list: a struct of a buffer
-// and a place would have to promise besides what stands before the place. A name of at most 16 bytes has no type of its own: three readers
-// find names in files, texts and memory and test them there, and the struct would be built at each call. Nor has a content's length, which is a
-// sum of numbers of type usize, cast here once.
+// Each writer takes a part of the caller's slice, and those of a name give how many bytes they put, so that each promise is about one
+// list: a struct of a buffer and a place would have to promise besides what stands before the place. A name of at most 16 bytes has no
+// type of its own: the readers of files and texts test its length, `fields::slot_name` cuts it, and the struct would be built at each
+// call. Nor has a content's length, which is a sum of numbers of type usize, cast here once.
 #![tactic(auto)]
 
-ghost use Rattle.std.specs.Prelude.{◌≡◌, ◌+◌, ◌≤◌, ◌<◌, length};
+ghost use Rattle.std.specs.Prelude.{◌≡◌, [], ◌∷◌, ◌++◌, ◌+◌, ◌≤◌, ◌<◌, length};
 ghost use Rattle.files.specs.Content.{name_bytes};
 ghost use Rattle.field_writers.specs.Put.{Put, head};
 
@@ -25,4 +25,16 @@ pub fn put_name(out: &mut [u8], w: &[u8]) -> usize
 {
     out[0] = w.len() as u8;
     1 + laws::copy(w, &mut out[1..])
+}
+
+// A field up to a name and the byte behind it: n is the length of the content, whose first byte is `first`. An attribute's field and a
+// link's end there, a type's goes on.
+pub fn put_named(out: &mut [u8], tag: u8, n: usize, first: u8, w: &[u8], last: u8) -> usize
+    requires { (n < 65536) × ((length w.now ≤ 16) × (22 ≤ length out.old)) }
+    ensures { (result ≡ 6 + length w.now) × Put ((head tag n first ++ name_bytes w.now) ++ (last ∷ [])) out.old result out.new }
+{
+    put_head(out, tag, n, first);
+    let a = put_name(&mut out[4..], w);
+    out[4 + a] = last;
+    5 + a
 }

@@ -7,7 +7,7 @@ ghost use Rattle.files.specs.Refusal.{misplaced};
 ghost use Rattle.files.specs.Content.{name_in, past_name, starts_name, starts_constant};
 ghost use Rattle.fields.specs.Field.{ReadsField};
 ghost use Rattle.fields.specs.Refusal.{number_of};
-ghost use Rattle.fields.specs.Slot.{slot_name, slot_of, known_in, constant_name};
+ghost use Rattle.fields.specs.Slot.{slot_name, is_among, slot_of, known_in, constant_name};
 
 // ---- refusals
 
@@ -59,13 +59,14 @@ impl Refusal {
 // A whole field, and the rest behind it: parts of the file itself.
 #[derive(Clone, Copy)]
 pub struct Field<'a> {
+    // A number, here and in the crates above: a file may have any byte there, and `is_misplaced` refuses those that are no tags.
     pub tag: u8,
     pub content: &'a [u8],
     pub rest: &'a [u8],
 }
 
 // The field at the front of a file's unread rest; none where nothing is left. The three readers of files call it in a loop of their own: an
-// iterator of Results would leave them the same `?` at each field, and its contract would say again what is left of the file.
+// iterator's contract would say again what is left of the file, and two of them would keep the `?`.
 pub fn read_field(s: &[u8]) -> Result<Option<Field<'_>>, Refusal>
     ensures { ReadsField s.now result }
 {
@@ -105,7 +106,8 @@ pub fn name_byte(b: u8) -> bool
     b.is_ascii_alphanumeric() | (b == b'_')
 }
 
-// 1 to 16 such bytes.
+// 1 to 16 such bytes. Ranges are tested by two comparisons, here and in the crates above: `contains` promises by the library's order, the
+// definitions go by `leb`.
 pub fn valid_name(w: &[u8]) -> bool
     ensures { result ≡ valid_name w.now }
 {
@@ -158,9 +160,9 @@ pub fn starts_constant(c: &[u8]) -> bool
 
 // ---- names in a row of slots, each a length byte and room for 16 bytes
 
-// A row and how many of its slots are in use go side by side through the functions of all crates, with the bound on the number where one is
-// needed: the row is a field of a diagram's table, whose number is that of the table's other rows too, and a struct of the two would be built
-// at each call.
+// A row and how many of its slots are in use go side by side here and in the crates above, with the bound on the number where one is
+// needed: the row is a field of a diagram's table, whose number is that of the table's other rows too, and a struct of the two would be
+// built at each call.
 
 // The name in slot i.
 pub fn slot_name(names: &[u8], i: u8) -> &[u8]
@@ -180,16 +182,22 @@ pub fn is_named(names: &[u8], i: u8, w: &[u8]) -> bool
     same_name(slot_name(names, i), w)
 }
 
-// The first of the first k slots with the name w, or k: a record in memory, a table of slots and a field of a file store k for a
-// name that is not there.
+// One of the first n slots has the name w.
+pub fn is_among(names: &[u8], n: u8, w: &[u8]) -> bool
+    ensures { result ≡ is_among names.now n w.now }
+{
+    (0..n).any(|i| is_named(names, i, w))
+}
+
+// The first of the first k slots with the name w, or k: a record in memory and a table of slots store k for a name that is not there.
 pub fn slot_of(names: &[u8], k: u8, w: &[u8]) -> u8
     ensures { (result ≡ slot_of names.now k w.now) × (result ≤ k) }
 {
     (0..k).find(|i| is_named(names, *i, w)).unwrap_or(k)
 }
 
-// For each of n names its place among k others, or k; the entries behind are 0. A loop over n is as plain as `array::from_fn`, which would
-// look up all N.
+// For each of n names its place among k others, or k; the entries behind are 0. A loop over n: the closure of `array::from_fn` would have
+// to tell the n in use from the entries behind.
 pub fn places<const N: usize>(names: &[u8], n: u8, others: &[u8], k: u8) -> [u8; N]
     requires { n ≤ N }
     ensures { ((i : ℕ) → i < n → get_or result i 0 ≡ slot_of others.now k (slot_name names.now i)) × ((i : ℕ) → get_or result i 0 ≤ k) }

@@ -1,2 +1,3 @@
-// Growth by types, as definitions and laws about them: a search adds an object of one type after the other, and only where a count demands one.
+// Growth by types, as definitions and laws about them: a search adds an object of one type after the other, and only where a count demands
+// one.
 #![tactic(auto)]

@@ -14,8 +14,9 @@ use crate::wanted::Wanted;
 use laws::Mask;
 use worlds::{Query, Site, Tables, Types};
 
-// The types with t at place k. `grow` and `seed` cast to it: the library's conversions to a narrower number give a Result, and with it a path that
-// is never taken.
+// The types with t at place k. They come with k, how many are chosen, as `demands::demand` and the definition `Grown` take them: each step
+// makes both anew. `grow` and `seed` cast to t: the library's conversions to a narrower number give a Result, and with it a path that is
+// never taken.
 fn put(types: Types, k: u8, t: u8) -> Types
     requires { (k < 8) × (t < 24) }
     ensures { result.at ≡ set types.at k t }
@@ -25,25 +26,25 @@ fn put(types: Types, k: u8, t: u8) -> Types
     Types { at }
 }
 
-// `grow` and `seed` go by loops: a closure for `find_map` that calls them is in a cycle of calls, of which the check infers no promise, and the
-// one of `grow` changes f besides.
-impl<'a> Wanted<'a> {
+// `grow` and `seed` go by loops: a closure for `find_map` that calls them stands in a cycle of calls, for which the check infers no
+// promise; that of `grow` would change f besides.
+impl Wanted<'_> {
     // One whose first k objects have the given types, and the others none of the types forb.
     fn grow(&self, types: Types, k: u8, forb: u32) -> Option<Site>
         requires { (self.now.q.now.seeds ≤ k) × (k ≤ self.now.n) }
         ensures { Grown (wanted self.now) types.at k forb self.now.n (is_some result) (world_built self.now.n result) }
     {
-        let g = demands::demand(self.tables, *self.q, types, k, forb, self.n)?;
+        let g = demands::demand(self.tables, self.q, types, k, forb, self.n)?;
         if k == self.n {
             let tables = self.tables;
             return leaves::ends(
                 &tables.targets,
                 &tables.lows,
                 &tables.highs,
-                tables.lines,
+                &tables.lines,
                 tables.usable,
                 tables.singles,
-                *self.q,
+                self.q,
                 types,
                 self.n,
             );
@@ -60,7 +61,8 @@ impl<'a> Wanted<'a> {
         None
     }
 
-    // Whether the seeds alone cannot stand together.
+    // Whether the seeds alone cannot stand together. The tables one by one, as `leaves::ends` takes them: `relaxing` reads neither sources
+    // nor singletons.
     fn is_stuck(&self, types: Types) -> bool
         ensures { result ≡ true → Nowhere (wanted self.now) types.at self.now.q.now.seeds self.now.q.now.never self.now.n }
     {
@@ -70,7 +72,7 @@ impl<'a> Wanted<'a> {
             &tables.highs,
             &tables.lines,
             tables.usable,
-            *self.q,
+            self.q,
             types,
         )
     }
@@ -81,7 +83,7 @@ impl<'a> Wanted<'a> {
         ensures { Grown (wanted self.now) types.at k 0 self.now.n (is_some result) (world_built self.now.n result) }
     {
         if k == self.q.seeds {
-            if clashes::is_implied(self.tables, *self.q, types, self.n) || self.is_stuck(types) {
+            if clashes::is_implied(self.tables, self.q, types, self.n) || self.is_stuck(types) {
                 return None;
             }
             return self.grow(types, k, self.q.never);

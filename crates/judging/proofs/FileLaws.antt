@@ -49,3 +49,5 @@ module _ {d : StoredDiagram} {file : List ℕ} {m : MemoryRecord} (held : Held d
 pub file-refused : (d : Diagram) (file : List ℕ) (y : Refusal) (j : Result ℕ Refusal) → number_of y ≡ refusal_of (read_record file) → IsErrAnd j (λ z. z ≡ y) → Judges d file j
 file-refused d file y (Ok n) e h = absurd h
 file-refused d file y (Err z) e h = record { refusal = ap number_of h ∙ e; rule = tt }
+
+pub ruleset file_laws = (file-coded, file-judged, file-refused)

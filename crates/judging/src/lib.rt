@@ -15,8 +15,9 @@ use tables::{Roles, Values};
 
 // ---- all nine
 
-// The lowest that is broken, or 0, as the definition `lowest_in` has it: a number, and the reply's. An Option of a rule would be made into that
-// number again by each caller.
+// The lowest that is broken, or 0, as the definition `lowest_in` has it: a number, and the reply's. An Option of a rule would be made into
+// that number again by each caller.
+#[tactic(auto, unfolding(memory_rules::specs::JudgeIn::lowest_in, laws::specs::Connective::unless))]
 pub fn lowest_broken(d: ReadDiagram, m: MemoryRecord) -> u8
     requires { Coded (diagram_of d.stored) m }
     ensures { result ≡ lowest_in (diagram_of d.stored) m }
@@ -45,6 +46,7 @@ pub fn lowest_broken(d: ReadDiagram, m: MemoryRecord) -> u8
 // ---- a record file
 
 // 0, or the lowest rule broken.
+#[tactic(auto, using(crate::proofs::FileLaws::file_laws))]
 pub fn judge(d: ReadDiagram, file: &[u8]) -> Result<u8, Refusal>
     ensures { Judges (diagram_of d.stored) file.now result }
 {

@@ -8,8 +8,8 @@ ghost use Rattle.records.specs.WithinTest.{value_known, values_known, row_known,
 use diagrams::ReadDiagram;
 use records::MemoryRecord;
 
-// Each target in the mask is one of n objects: by one comparison, since `Mask::is_inside` would ask for the mask of n objects, which takes
-// the same shift.
+// Each target in the mask is one of n objects: by one comparison, since `Mask::is_inside` would ask for the mask of n objects, which
+// `masks`, a crate above, has as a table.
 fn row_known(n: usize, mask: u8) -> bool
     requires { n ≤ 8 }
     ensures { result ≡ row_known n mask }
@@ -26,21 +26,20 @@ struct Indexed<'a> {
 }
 
 // Objects and slots are usize here, as the counts that they run to, so that `o * 32 + s` stands where `laws::place` would take bytes.
-impl<'a> Indexed<'a> {
+impl Indexed<'_> {
     // No value, or one more than the code of a value of the diagram.
     fn value_known(&self, v: u8) -> bool
         ensures { result ≡ value_known (diagram_of self.now.diagram.now.stored) v }
     {
-        if v == 0 {
+        let Some(code) = v.checked_sub(1) else {
             return true;
-        }
+        };
         let values = &self.diagram.stored.values;
-        let k = v - 1;
-        let t = usize::from(k / 8);
+        let t = usize::from(code / 8);
         if values.count <= t {
             return false;
         }
-        fields::is_known(values.sizes[t], k % 8)
+        fields::is_known(values.sizes[t], code % 8)
     }
 
     // Each value of object o is known.

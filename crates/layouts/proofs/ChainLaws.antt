@@ -19,8 +19,3 @@ pub and-chain-5 : (a b c d e : Bool) → (((a && b) && c) && d) && e ≡ both a 
 unfolding both
 and-chain-5 true b c d e = and-chain-4 b c d e
 and-chain-5 false b c d e = refl
-
-pub both-chain : (a b c : Bool) → both a (both b c) ≡ both (both a b) c
-unfolding both
-both-chain true b c = refl
-both-chain false b c = refl

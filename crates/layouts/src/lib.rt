@@ -1,5 +1,5 @@
-// Refusal 3 for each tag: whether a content is on its layout. All reads are total, so that nothing is asked of the content, and no test waits
-// for another: they are joined by `&`.
+// Refusal 3 for each tag: whether a content is on its layout. All reads are total, so that nothing is asked of the content, and no test
+// waits for another: they are joined by `&`.
 #![tactic(auto)]
 
 ghost use Rattle.std.specs.Prelude.{◌≡◌, ◌∷◌, []};
@@ -61,8 +61,8 @@ fn is_name_between(c: &[u8]) -> bool
 
 // ---- diagram files
 
-// Each comment begins with the field's tag in the file. The readers and writers have the tags as these numbers, which are all that a
-// file has.
+// Each comment begins with the field's tag in the file. Tags are numbers, since a file may have any byte there: `fields::is_misplaced`
+// refuses those that are none.
 
 // 0x10: edition, 1.
 pub fn edition_laid(c: &[u8]) -> bool

@@ -17,7 +17,7 @@ use Rattle.std.specs.Bool.{then_some}
 use Rattle.std.specs.Prelude.{is_some}
 use Rattle.worlds.specs.declared.Site.{Site}
 use Rattle.worlds.specs.Asked.{Sane, Solution, world_built}
-use Rattle.link_search.specs.declared.asked.NetArrays.{NetArrays}
+use Rattle.link_search.specs.declared.asked.NetConstraints.{NetConstraints}
 use Rattle.leaves.specs.Fitting.{types_fit}
 use Rattle.leaves.specs.Arrays.{Mays, Prepared, all_covered}
 use Rattle.leaves.proofs.FittingLaws.{fit_at}
@@ -43,7 +43,7 @@ module _ (usable singles : ℕ) (targets lows highs : List ℕ) (x : Lines) (q :
   pub ended-must : (m : World) (may : List ℕ) → Mays targets types n q.shut may → all_covered q.must may ≡ false → Ended Wanted types n false false m
   ended-must m may a e = none-ended m (λ link s. true-false (world-covered usable singles targets lows highs x q types n link s may a) e)
 
-  pub ended-links : (may : List ℕ) (net : NetArrays) → Prepared targets lows highs x q types n may net
+  pub ended-links : (may : List ℕ) (net : NetConstraints) → Prepared targets lows highs x q types n may net
       → Sane q → n ≤ 8 → SmallTypes types → types_fit usable singles q types n ≡ true
       → all_covered q.must may ≡ true → (rows may' : List ℕ) (ok : Bool)
       → NetAnswer (Fits net) q.must may rows may' ok

@@ -19,18 +19,6 @@ use Rattle.link_search.specs.Nets.{net_of}
 use Rattle.leaves.specs.Fitting.{typed}
 use Rattle.leaves.specs.Arrays.{Mays, all_covered, covered, may_go, spot_of}
 
--- `a | b == b` tests that each bit of a is one of b
-pub inside-test : (n a b : ℕ) → a < 2 ^ n → b < 2 ^ n → eqb (bit_or a b) b ≡ all (λ k. imp (bit k a) (bit k b)) n
-unfolding imp
-inside-test n a b ha hb =
-    same_test _ _
-    (λ e. all_of _ n (λ k l. imp-of _ _ (λ h. sym (ap (bit k) (eqb-true _ _ e)) ∙ bit-or k a b ∙ or_left (bit k a) (bit k b) h)))
-    (λ e. eq-eqb _ _ (bits-eq n (bit_or a b) b (or_lt n a b ha hb) hb (λ k l. bit-or k a b ∙ keep (bit k a) (bit k b) (all-at _ n e k l))))
-  where
-    keep : (x y : Bool) → imp x y ≡ true → x || y ≡ y
-    keep true y e = sym e
-    keep false y e = refl
-
 -- row i may go to p
 pub record Open (targets types : List ℕ) (n : ℕ) (shut : List ℕ) (i p : ℕ) : Type 0 where
   pub row : i < n * 32

@@ -14,7 +14,7 @@ use Rattle.worlds.specs.declared.Lines.{Lines}
 use Rattle.worlds.specs.declared.Query.{Query}
 use Rattle.worlds.specs.Kept.{sheet}
 use Rattle.worlds.specs.Asked.{Sane, Solution}
-use Rattle.link_search.specs.declared.asked.NetArrays.{NetArrays}
+use Rattle.link_search.specs.declared.asked.NetConstraints.{NetConstraints}
 use Rattle.leaves.specs.Fitting.{types_fit}
 use Rattle.leaves.specs.Arrays.{Mays, Prepared, all_covered}
 use Rattle.leaves.proofs.FittingLaws.{fit_of}
@@ -76,7 +76,7 @@ module _ (usable singles : ℕ) (targets lows highs : List ℕ) (x : Lines) (q :
     pub world-between : Between q.must may (net_in link)
     world-between = record { least = must-stand; most = λ i p h l e _. may_of targets types n q.shut may m i p h (is_open i p h l e) }
 
-  module _ (sane : Sane q) (may : List ℕ) (net : NetArrays) (a : Prepared targets lows highs x q types n may net) where
+  module _ (sane : Sane q) (may : List ℕ) (net : NetConstraints) (a : Prepared targets lows highs x q types n may net) where
     pub net-fits : Fits net (net_in link)
     net-fits = record {
       rows = rows_of lows highs types n q net.rows a.rows sane.row link (net_in link) agree s.allowed.rows.limited s.asked.row;

@@ -18,7 +18,7 @@ use Rattle.worlds.specs.declared.Query.{Query}
 use Rattle.worlds.specs.Coherent.{SmallTypes}
 use Rattle.worlds.specs.Kept.{sheet}
 use Rattle.worlds.specs.Asked.{Sane, Solution}
-use Rattle.link_search.specs.declared.asked.NetArrays.{NetArrays}
+use Rattle.link_search.specs.declared.asked.NetConstraints.{NetConstraints}
 use Rattle.leaves.specs.Fitting.{typed}
 use Rattle.leaves.specs.Arrays.{Prepared, all_covered}
 use Rattle.leaves.proofs.FittingLaws.{Fit}
@@ -34,7 +34,7 @@ abbrev pub links_in : List ℕ → ℕ → ℕ → ℕ → Bool
 links_in rows s o p = ltb s 32 && (ltb o 8 && (ltb p 8 && net_of rows (o * 32 + s) p))
 
 module _ (usable singles : ℕ) (targets lows highs : List ℕ) (x : Lines) (q : Query) (types : List ℕ) (n : ℕ) (sane : Sane q) (few : n ≤ 8) (small : SmallTypes types)
-    (fit : Fit usable singles q types n) (may : List ℕ) (net : NetArrays) (a : Prepared targets lows highs x q types n may net)
+    (fit : Fit usable singles q types n) (may : List ℕ) (net : NetConstraints) (a : Prepared targets lows highs x q types n may net)
     (all-may : all_covered q.must may ≡ true) (rows : List ℕ) (b : Between q.must may (net_of rows))
     (f : Fits net (net_of rows)) where
   -- a link that stands

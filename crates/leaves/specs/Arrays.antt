@@ -5,7 +5,7 @@ use Rattle.laws.specs.Bits.{Marks, bit}
 use Rattle.laws.specs.Bounded.{all}
 use Rattle.laws.specs.Connective.{imp}
 use Rattle.link_search.specs.Families.{column_in, limits_at, mirror_in, whole_in}
-use Rattle.link_search.specs.declared.asked.NetArrays.{NetArrays}
+use Rattle.link_search.specs.declared.asked.NetConstraints.{NetConstraints}
 use Rattle.link_search.specs.declared.asked.Column.{Column}
 use Rattle.link_search.specs.declared.asked.Limits.{Limits}
 use Rattle.link_search.specs.declared.asked.Mirror.{Mirror}
@@ -106,7 +106,7 @@ WholesAsk x types n r = (j : ℕ) → j < 16 → WholeAsk x types n j (whole_in 
 
 -- ---- all that a search for links is asked
 
-pub record Prepared (targets lows highs : List ℕ) (x : Lines) (q : Query) (types : List ℕ) (n : ℕ) (may : List ℕ) (a : NetArrays) : Type 0 where
+pub record Prepared (targets lows highs : List ℕ) (x : Lines) (q : Query) (types : List ℕ) (n : ℕ) (may : List ℕ) (a : NetConstraints) : Type 0 where
   pub mays : Mays targets types n q.shut may
   pub rows : RowsAsk lows highs types n q a.rows
   pub columns : ColumnsAsk x q types n a.columns

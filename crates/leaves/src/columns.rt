@@ -9,7 +9,7 @@ use crate::objects::Objects;
 use laws::Mask;
 use link_search::{Column, Limits, Mirror, Whole};
 
-impl<'a> Objects<'a> {
+impl Objects<'_> {
     // A column with the same limits for all targets that it asks, one bit for each.
     fn column(&self, slot: u8, from: u32, asked: u8, limits: Limits) -> Column
         requires { slot < 32 }

@@ -6,7 +6,7 @@ ghost use Rattle.leaves.specs.Fitting.{count_of, single_fits, type_fits, typed, 
 
 use crate::objects::Objects;
 
-impl<'a> Objects<'a> {
+impl Objects<'_> {
     // Which of the objects have a type of the set.
     pub(crate) fn among(&self, set: u32) -> u8
         ensures { Marks (typed self.now.types.now.at set) self.now.n result }
@@ -31,10 +31,12 @@ impl<'a> Objects<'a> {
     }
 
     // How many of the objects have type t.
-    fn count_of(&self, t: u8) -> u32
+    fn count_of(&self, t: u8) -> usize
         ensures { result ≡ count_of self.now.types.now.at self.now.n t }
     {
-        laws::count8(laws::mask_of(self.n, |o| self.types.at[usize::from(o)] == t))
+        (0..self.n)
+            .filter(|o| self.types.at[usize::from(*o)] == t)
+            .count()
     }
 
     // If type t is a singleton, one object has it.

@@ -8,7 +8,7 @@ ghost use Rattle.worlds.specs.Coherent.{Slotted};
 ghost use Rattle.worlds.specs.Kept.{sheet};
 ghost use Rattle.worlds.specs.Asked.{Sane, Solution, world_built};
 
-use link_search::{Bounds, NetArrays};
+use link_search::{Bounds, NetConstraints};
 use objects::Objects;
 
 mod columns;
@@ -22,21 +22,21 @@ pub fn ends(
     targets: &[u32; 768],
     lows: &[u8; 768],
     highs: &[u8; 768],
-    lines: worlds::Lines,
+    lines: &worlds::Lines,
     usable: u32,
     singles: u32,
-    q: worlds::Query,
+    q: &worlds::Query,
     types: worlds::Types,
     n: u8,
 ) -> Option<worlds::Site>
-    requires { Slotted lines × Sane q × (n ≤ 8) }
-    ensures { Ended (Solution (sheet usable singles targets.now lows.now highs.now lines) q n) types.at n false (is_some result) (world_built n result) }
+    requires { Slotted lines.now × Sane q.now × (n ≤ 8) }
+    ensures { Ended (Solution (sheet usable singles targets.now lows.now highs.now lines.now) q.now n) types.at n false (is_some result) (world_built n result) }
 {
     let objects = Objects {
         types: &types,
         n,
-        lines: &lines,
-        q: &q,
+        lines,
+        q,
     };
     if !objects.types_fit(usable, singles) {
         return None;
@@ -48,7 +48,7 @@ pub fn ends(
     if !rows::all_covered(&bounds) {
         return None;
     }
-    let net = NetArrays {
+    let net = NetConstraints {
         rows: objects.rows(lows, highs),
         columns: objects.columns(),
         mirrors: objects.mirrors(),

@@ -7,7 +7,7 @@ use crate::objects::Objects;
 use laws::Mask;
 use link_search::{Bounds, Limits};
 
-impl<'a> Objects<'a> {
+impl Objects<'_> {
     // Where a table has row i.
     fn spot(&self, i: usize) -> usize
         requires { i < 256 }
@@ -70,7 +70,7 @@ impl<'a> Objects<'a> {
     }
 }
 
-// Each bit of a is one of b.
+// Each bit of a is one of b, as `covered` says it bit by bit; `Mask::is_inside` says it of the numbers.
 fn is_covered(a: u8, b: u8) -> bool
     ensures { result ≡ covered a b }
 {

@@ -1,7 +1,6 @@
 -- Wholes: masks of the first associations joined, and from the tables to the definitions, object by object.
 -- Assumes nothing.
 use Prim.Native.Nat.{ℕ, ◌*◌, ◌+◌, ◌<◌, ◌≤◌}
-use native.Mathlib.Nat.{le_antisymm}
 use mathlib.Core.Bool.{Bool, true, false, ◌&&◌, ◌||◌}
 use mathlib.Core.List.{List}
 use mathlib.Core.Path.{◌≡◌, refl, sym, ap, ap₂, ◌∙◌}
@@ -71,10 +70,6 @@ module _ (a : Associations) (links masks slots : List ℕ) (p n : ℕ) where
       go : (b x y : Bool) → (b && x) || (b && y) ≡ b && (x || y)
       go true x y = refl
       go false x y = refl
-
-  pub wholes-done : (k w : ℕ) → k ≤ a.count → a.count ≤ k → Marks (whole_among a links masks slots p k) n w → Marks (is_whole_in a links masks slots p) n w
-  unfolding is_whole_in
-  wholes-done k w l h f o = f o ∙ ap (λ (c : ℕ). ltb o n && whole_among a links masks slots p c o) (le_antisymm l h)
 
   -- at most one, by the bits set
   pub wholes-counted : (w : ℕ) {c : ℕ} → n ≤ 8 → Marks (is_whole_in a links masks slots p) n w → c ≡ tally (λ k. bit k w) 8 → leb c 1 ≡ rule9_at_in a links masks slots n p

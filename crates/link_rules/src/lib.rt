@@ -130,16 +130,12 @@ impl<'a> Links<'a> {
 
     // ---- rule 9, for each object
 
-    // The wholes that p has over all compositions. A loop: of a fold the closure would be this body, with a name for the mask so far.
+    // The wholes that p has over all compositions.
     fn whole_mask(&self, p: u8) -> u8
         requires { p < 8 }
         ensures { let v = self.now in Marks (is_whole_in v.associations.now v.links.now v.tables.now.masks v.tables.now.slots p) v.count result }
     {
-        let mut wholes: u8 = 0;
-        for i in 0..self.associations.count {
-            wholes |= self.association(i).wholes(p);
-        }
-        wholes
+        (0..self.associations.count).fold(0, |wholes, i| wholes | self.association(i).wholes(p))
     }
 
     // Object p has at most one whole.
@@ -159,8 +155,8 @@ impl<'a> Links<'a> {
 
     // ---- rules 6 to 9
 
-    // The lowest that is broken, or 0, as the definition `lowest_of_links` has it: a number, and the reply's. An Option of a rule would be made
-    // into that number again by each caller.
+    // The lowest that is broken, or 0, as the definition `lowest_of_links` has it: a number, and the reply's. An Option of a rule would be
+    // made into that number again by each caller.
     pub fn lowest_broken(&self) -> u8
         ensures { Says lowest_of_links self.now result }
     {
@@ -189,7 +185,7 @@ pub struct Association<'a> {
     ghost known: { index < links.associations.now.count },
 }
 
-impl<'a> Association<'a> {
+impl Association<'_> {
     ghost use Rattle.link_rules.specs.Judged.{by_tables};
 
     // The end that a side's links come from.
@@ -219,7 +215,7 @@ impl<'a> Association<'a> {
             .rows_fit(limits)
     }
 
-    // The same, with the limits of the end that the links go to.
+    // The same, with its own limits: those of the end that the links go to.
     #[tactic(auto, unfolding(crate::specs::LinksIn::own_targets_in))]
     fn own_targets_hold(&self, side: u8) -> bool
         ensures { result ≡ by_tables own_targets_in self.now.links (side_of side) self.now.index }
@@ -247,7 +243,7 @@ impl<'a> Association<'a> {
             .columns_fit(limits)
     }
 
-    // The same, with the limits of the end that the links come from.
+    // The same, with its own limits: those of the end that the links come from.
     #[tactic(auto, unfolding(crate::specs::LinksIn::own_sources_in))]
     fn own_sources_hold(&self, side: u8) -> bool
         ensures { result ≡ by_tables own_sources_in self.now.links (side_of side) self.now.index }
@@ -272,9 +268,9 @@ impl<'a> Association<'a> {
     pub fn mirror_holds(&self) -> bool
         ensures { result ≡ by_tables mirrored_in self.now.links self.now.index }
     {
-        let left = self.index * 2;
+        let left = self.source(0);
         self.links
-            .role(left, left + 1)
+            .role(left, self.target(0))
             .mirrors_fit(self.links.slot(left))
     }
 
@@ -296,9 +292,7 @@ impl<'a> Association<'a> {
         if self.links.associations.forms[self.index] != 1 {
             return 0;
         }
-        self.links
-            .role(self.index * 2, self.index * 2 + 1)
-            .wholes_by(p)
+        self.links.role(self.source(0), self.target(0)).wholes_by(p)
     }
 
     // Object p has at most one whole, if it is an instance of the right end.
@@ -307,7 +301,7 @@ impl<'a> Association<'a> {
         requires { p < 8 }
         ensures { result ≡ by_tables one_whole_at_in self.now.links self.now.index p }
     {
-        !self.links.instances(self.index * 2 + 1).has(p) || self.links.rule9_at(p)
+        !self.links.instances(self.target(0)).has(p) || self.links.rule9_at(p)
     }
 
     // Each instance of the right end has at most one whole over all compositions.

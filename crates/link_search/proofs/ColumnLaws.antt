@@ -1,17 +1,16 @@
 -- A column is a set of bits, one for each source: what is said of it as such is said of the net.
 -- Assumes nothing.
-use Prim.Native.Nat.{ℕ, ◌+◌, ◌*◌, ◌/◌, ◌%◌, ◌≤◌, ◌<◌}
+use Prim.Native.Nat.{ℕ, ◌+◌, ◌*◌, ◌≤◌, ◌<◌}
 use mathlib.Core.Path.{◌≡◌, sym, ap, subst, ◌∙◌}
 use mathlib.Core.Bool.{Bool, true, ◌&&◌}
 use mathlib.Core.List.{List}
 use native.Mathlib.Nat.{le_refl}
 use native.Mathlib.Omega.{arith}
 use Rattle.laws.specs.Bits.{bit, Marks}
-use Rattle.laws.specs.Bounded.{tally}
 use Rattle.laws.proofs.ConnectiveLaws.{and_left, and_right, and_both}
 use Rattle.laws.proofs.CountLaws.{tally-le}
 use Rattle.laws.proofs.MaskLaws.{tally-masked, marks-at}
-use Rattle.link_search.specs.Nets.{Net, net_of}
+use Rattle.link_search.specs.Nets.{net_of}
 use Rattle.link_search.specs.Families.{source, Within, limits_at}
 use Rattle.link_search.specs.declared.asked.Column.{Column}
 use Rattle.std.specs.Prelude.{Option, None, Some, Result, Ok, Err}

@@ -1,6 +1,6 @@
 -- Looks at one part after the other.
 -- Assumes nothing.
-use Prim.Native.Nat.{ℕ, ◌<◌}
+use Prim.Native.Nat.{ℕ}
 use mathlib.Core.Bool.{false≢true}
 use mathlib.Core.List.{List}
 use Rattle.std.specs.Prelude.{Option, None, Some, Result, Ok, Err, IsErr}
@@ -16,16 +16,6 @@ use Rattle.link_search.specs.declared.asked.Limits.{Limits}
 abbrev pub Seen : Type 0 → List ℕ → Option Spot → Type 0
 Seen P may None = P
 Seen P may (Some s) = Wanted may s
-
--- and what follows from it
-pub seen_so : {P Q : Type 0} (may : List ℕ) (best : Option Spot) → (P → Q) → Seen P may best → Seen Q may best
-seen_so may None f a = f a
-seen_so may (Some s) f a = a
-
--- all was looked at
-pub seen_done : {P : Type 0} (C : Net → Type 0) (must may : List ℕ) (best : Option Spot) → (P → C (net_of must)) → Seen P may best → Looked C must may (Ok best)
-seen_done C must may None f a = f a
-seen_done C must may (Some s) f a = a
 
 -- an error that is passed on
 pub looked-err : (C : Net → Type 0) (must may : List ℕ) (r : Result (Option Spot) NoNet) → IsErr r → ((w : Net) → Between must may w → C w → ⊥) → Looked C must may r

@@ -9,7 +9,7 @@ use Rattle.link_search.specs.declared.asked.Limits.{Limits}
 use Rattle.link_search.specs.declared.asked.Column.{Column}
 use Rattle.link_search.specs.declared.asked.Mirror.{Mirror}
 use Rattle.link_search.specs.declared.asked.Whole.{Whole}
-use Rattle.link_search.specs.declared.asked.NetArrays.{NetArrays}
+use Rattle.link_search.specs.declared.asked.NetConstraints.{NetConstraints}
 
 -- ---- the entries of arrays; past their ends stand zeros
 
@@ -79,7 +79,7 @@ pub record Wholes (wholes : List Whole) (w : Net) : Type 0 where
   pub at : (p : ℕ) → p < 8 → tally (whole wholes w p) 8 ≤ 1
 
 -- everything that is asked
-pub record Fits (a : NetArrays) (w : Net) : Type 0 where
+pub record Fits (a : NetConstraints) (w : Net) : Type 0 where
   pub rows : RowsFit a.rows w
   pub columns : Columns a.columns w
   pub mirrors : Mirrors a.mirrors w

@@ -1,4 +1,5 @@
-// What is asked of a net. The slots are role slots.
+// What is asked of a net. The slots are role slots. `worlds` has structs of these names apart: there the ends are sets of types, here sets
+// of objects, and there any slot may stand.
 ghost use Rattle.std.specs.Prelude.{◌<◌};
 
 // How many links there are at least and at most.
@@ -39,7 +40,7 @@ pub struct Whole {
 
 // Everything that is asked: the limits of row s of object o at o * 32 + s, columns, mirrors and wholes.
 #[derive(Clone, Copy)]
-pub struct NetArrays {
+pub struct NetConstraints {
     pub rows: [Limits; 256],
     pub columns: [Column; 17],
     pub mirrors: [Mirror; 16],

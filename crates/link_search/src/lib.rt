@@ -16,7 +16,7 @@ mod mirrors;
 mod rows;
 mod wholes;
 
-pub use asked::{Column, Limits, Mirror, NetArrays, Whole};
+pub use asked::{Column, Limits, Mirror, NetConstraints, Whole};
 
 // The links that must stand and those that may besides: for object o and role slot s at o * 32 + s, one bit for each target.
 #[derive(Clone, Copy)]
@@ -63,7 +63,7 @@ fn judge(must: u8, may: u8, limits: Limits) -> Result<Option<u8>, NoNet>
 }
 
 // A look at everything that is asked. What a mirror wants comes first: it has no other value.
-fn look_all(net: &NetArrays, bounds: &Bounds) -> Result<Option<Spot>, NoNet>
+fn look_all(net: &NetConstraints, bounds: &Bounds) -> Result<Option<Spot>, NoNet>
     ensures { Looked (Fits net.now) bounds.now.must bounds.now.may result }
 {
     let rows = rows::look_rows(&net.rows, bounds)?;
@@ -73,9 +73,9 @@ fn look_all(net: &NetArrays, bounds: &Bounds) -> Result<Option<Spot>, NoNet>
     Ok(mirrors.or(rows).or(columns))
 }
 
-// Links within the bounds that are right, left in `must`. Each bit that is wanted is tried as a link and then as none; a try that fails
-// leaves the bounds as they were.
-pub fn links(net: &NetArrays, bounds: &mut Bounds) -> Result<(), NoNet>
+// Links within the bounds that are right, left in `must`. Each bit that is wanted is tried as a link and then as none. The bounds are
+// changed in place: a try sets two bytes, and sets them back where it fails.
+pub fn links(net: &NetConstraints, bounds: &mut Bounds) -> Result<(), NoNet>
     requires { (length bounds.old.must ≡ 256) × (length bounds.old.may ≡ 256) }
     ensures { NetAnswer (Fits net.now) bounds.old.must bounds.old.may bounds.new.must bounds.new.may (is_ok result) }
 {

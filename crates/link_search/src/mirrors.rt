@@ -59,7 +59,8 @@ impl Mirror {
         }))
     }
 
-    // A look at all objects, up to the first bit that is wanted.
+    // A look at all objects, up to the first bit that is wanted. By loops, here and below, which `?` leaves where there is no net:
+    // `find_map` would carry that out as a value.
     fn look(&self, bounds: &Bounds) -> Result<Option<Spot>, NoNet>
         ensures { Looked (MirrorKept self.now) bounds.now.must bounds.now.may result }
     {

@@ -4,7 +4,7 @@ ghost use Rattle.link_search.specs.Answers.{Looked};
 
 use crate::{Bounds, Limits, NoNet, Spot, judge};
 
-// A look at the rows.
+// A look at the rows. A loop, as in `look_columns`: all are looked at, since any can have no net, and the spot is the last one wanted.
 pub(crate) fn look_rows(rows: &[Limits; 256], bounds: &Bounds) -> Result<Option<Spot>, NoNet>
     ensures { Looked (RowsFit rows.now) bounds.now.must bounds.now.may result }
 {

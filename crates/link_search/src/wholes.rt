@@ -9,7 +9,7 @@ use crate::{NoNet, Whole};
 use laws::Mask;
 
 impl Whole {
-    // Whether o has p as a part.
+    // Whether o has p as a part: as `masks::Role::is_whole_by`, said of a net.
     fn has_part(&self, rows: &[u8; 256], p: u8, o: u8) -> bool
         requires { (p < 8) × (o < 8) }
         ensures { result ≡ part self.now (net_of rows.now) p o }
@@ -27,11 +27,11 @@ fn is_whole(wholes: &[Whole; 16], rows: &[u8; 256], p: u8, o: u8) -> bool
 }
 
 // How many objects have p as a part.
-fn count_wholes(wholes: &[Whole; 16], rows: &[u8; 256], p: u8) -> u32
+fn count_wholes(wholes: &[Whole; 16], rows: &[u8; 256], p: u8) -> usize
     requires { p < 8 }
     ensures { result ≡ tally (whole wholes.now (net_of rows.now) p) 8 }
 {
-    laws::count8(laws::mask_of(8, |o| is_whole(wholes, rows, p, o)))
+    (0u8..8).filter(|o| is_whole(wholes, rows, p, *o)).count()
 }
 
 // A look at the wholes. It never wants a bit: only what must stand can break the rule.

@@ -1,5 +1,5 @@
-// One more value type, type, attribute or association of a diagram in memory, read off a content on its layout. The number of a type fits the
-// cast, as the contract asks.
+// One more value type, type, attribute or association of a diagram in memory, read off a content on its layout. The number of a type fits
+// the cast, as the contract asks.
 ghost use Rattle.std.specs.Prelude.{◌≡◌, true, ℕ, ◌+◌, ◌*◌, ◌<◌, ◌≤◌, length, get_or};
 ghost use Rattle.laws.specs.Bounded.{all};
 ghost use Rattle.files.specs.Content.{starts_name, past_names};
@@ -22,16 +22,14 @@ pub fn store_name(names: &mut [u8], i: usize, w: &[u8])
 
 // ---- value types
 
-// The first n names of c as the constants of value type v. What is left of c goes along beside the index: `layouts::past_names` by the index
-// would pass again over the names before it.
+// The first n names of c as the constants of value type v.
 fn store_constants(constants: &mut [u8; 1632], v: usize, c: &[u8], n: u8)
     requires { (v < 12) × ((n ≤ 8) × (all (λ k. starts_name (past_names k c.now)) n ≡ true)) }
     ensures { ConstantsStored constants.old v c.now n constants.new }
 {
-    let mut rest = c;
     for i in 0..n {
-        store_name(constants, v * 8 + usize::from(i), fields::name_in(rest));
-        rest = fields::past_name(rest);
+        let at = layouts::past_names(c, i);
+        store_name(constants, v * 8 + usize::from(i), fields::name_in(at));
     }
 }
 

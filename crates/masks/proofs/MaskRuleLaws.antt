@@ -3,20 +3,20 @@
 use Prim.Native.Nat.{ℕ, ◌^◌, ◌<◌, ◌≤◌}
 use native.Mathlib.Decide.{dec_lt}
 use native.Mathlib.Omega.{arith}
-use mathlib.Core.Bool.{Bool, true, false, ◌&&◌, ◌||◌}
+use mathlib.Core.Bool.{Bool, true, false, ◌&&◌}
 use mathlib.Core.List.{List, [], ◌∷◌}
 use mathlib.Core.Path.{◌≡◌, refl, sym, ap, ap₂, ◌∙◌}
-use lib.Bits.{bit_and, bit_or, or_lt}
-use lib.Dec.{eqb, ltb}
+use lib.Bits.{bit_and}
+use lib.Dec.{ltb}
 use lib.ListN.{get_or}
-use borrow.Author.Tests.{eq-eqb, eqb-true, lt-ltb, le-ltb}
-use Rattle.laws.specs.Connective.{both, either, imp, same}
-use Rattle.laws.specs.Bounded.{all, tally}
+use borrow.Author.Tests.{lt-ltb, le-ltb}
+use Rattle.laws.specs.Connective.{both, imp, same}
+use Rattle.laws.specs.Bounded.{all}
 use Rattle.laws.specs.Bits.{bit}
-use Rattle.laws.proofs.ConnectiveLaws.{both_left, both_right, imp-of, or_left, same-is, same_test}
-use Rattle.laws.proofs.BoundedLaws.{all-at, all-ext, all_of}
+use Rattle.laws.proofs.ConnectiveLaws.{both_left, both_right, same-is}
+use Rattle.laws.proofs.BoundedLaws.{all-at, all-ext}
 use Rattle.laws.proofs.CountLaws.{tally-ext}
-use Rattle.laws.proofs.BitLaws.{bit-above, bit-and, bit-or, bits-eq}
+use Rattle.laws.proofs.BitLaws.{bit-above, bit-and}
 use Rattle.laws.proofs.MaskLaws.{all-beyond, tally-beyond}
 use Rattle.files.specs.Diagram.{Limits}
 use Rattle.rules.specs.Arrow.{within}
@@ -73,18 +73,6 @@ module _ (targets : ℕ → Bool) (mask to : ℕ) (limits : Limits) (n : ℕ) (h
       (all-beyond (λ p. imp (bit p mask) (bit p to)) n (λ p l. ap (λ (b : Bool). imp b (bit p to)) (outside p l)) 8 h
       ∙ all-ext _ _ n (λ p l. ap (λ (b : Bool). imp b (bit p to)) (inside p l)))
       (tally-beyond (λ p. bit p mask) n outside 8 h ∙ tally-ext _ _ n inside)
-
--- `is_inside` tests that each bit of a is one of b
-pub inside-test : (n a b : ℕ) → a < 2 ^ n → b < 2 ^ n → eqb (bit_or a b) b ≡ all (λ k. imp (bit k a) (bit k b)) n
-unfolding imp
-inside-test n a b ha hb =
-    same_test _ _
-    (λ e. all_of _ n (λ k l. imp-of _ _ (λ h. sym (ap (bit k) (eqb-true _ _ e)) ∙ bit-or k a b ∙ or_left (bit k a) (bit k b) h)))
-    (λ e. eq-eqb _ _ (bits-eq n (bit_or a b) b (or_lt n a b ha hb) hb (λ k l. bit-or k a b ∙ keep (bit k a) (bit k b) (all-at _ n e k l))))
-  where
-    keep : (x y : Bool) → imp x y ≡ true → x || y ≡ y
-    keep true y e = sym e
-    keep false y e = refl
 
 -- the row's bits among the first n objects
 pub row-among : (links : ℕ → Bool) (a b n p : ℕ) → ((p : ℕ) → bit p a ≡ links p) → ((p : ℕ) → bit p b ≡ ltb p n) → bit p (bit_and a b) ≡ links p && ltb p n

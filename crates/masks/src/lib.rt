@@ -51,7 +51,8 @@ impl Limits {
     }
 }
 
-// A row of targets has only objects of `to`, and as many as the limits say.
+// A row of targets has only objects of `to`, and as many as the limits say. `as`, since the library has no conversion of u32 to usize that
+// cannot fail.
 #[tactic(auto, unfolding(laws::specs::Connective::both, crate::specs::Masks::row_fits))]
 fn row_fits(targets: u8, to: u8, limits: Limits) -> bool
     ensures { result ≡ row_fits (λ p. bit p targets) to (limits_of limits) 8 }
@@ -71,7 +72,7 @@ pub struct Role<'a> {
     ghost bounds: { (slot < 32) × (count ≤ 8) },
 }
 
-impl<'a> Role<'a> {
+impl Role<'_> {
     // ---- rule 6
 
     // Object o, if it is one of `from`, has only objects of `to` as targets, and as many as the limits say.

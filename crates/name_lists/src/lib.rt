@@ -1,4 +1,4 @@
-// A list of at most 24 names in memory, in slots of 17 bytes.
+// A list of at most 24 names in memory, in slots of 17 bytes: `as u8` keeps their number.
 #![tactic(auto)]
 
 ghost use Rattle.std.specs.Prelude.{◌≡◌, ◌++◌, ◌∷◌, [], ◌+◌, ◌<◌, ◌≤◌, length, get_or};
@@ -11,6 +11,7 @@ mod list; // list.rt: the list
 pub use list::Names;
 
 impl Names {
+    // No name. Written out: for a struct with a ghost field `Default` is not derived.
     pub fn none() -> Names
         ensures { (result.count ≡ 0) × (names_in result ≡ []) }
     {
@@ -29,7 +30,8 @@ impl Names {
         self.count += 1;
     }
 
-    // The first place of the name w, or their number: the writers of fields put it into the file as it is.
+    // The first place of the name w, or their number, as the definition `place_in` has it; the writers of fields put a place that is there,
+    // so that none asks.
     pub fn find(&self, w: &[u8]) -> usize
         ensures { (result ≡ first (λ i. same_name (get_or (names_in self.now) i []) w.now) self.now.count) × (result ≤ self.now.count) }
     {
@@ -40,6 +42,6 @@ impl Names {
     pub fn has(&self, w: &[u8]) -> bool
         ensures { result ≡ any (λ i. same_name (get_or (names_in self.now) i []) w.now) self.now.count }
     {
-        (0..self.count as u8).any(|i| fields::is_named(&self.names, i, w))
+        fields::is_among(&self.names, self.count as u8, w)
     }
 }

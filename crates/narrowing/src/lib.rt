@@ -19,8 +19,8 @@ fn usable_row(mask: u32, high: u8, usable: u32, t: u8) -> u32
     mask & usable
 }
 
-// What is left of the table where objects have types of the mask `usable`. The library's conversions to a narrower number give a Result, and
-// with it a path that is never taken: i / 32 is below 24.
+// What is left of the table where objects have types of the mask `usable`. The library's conversions to a narrower number give a Result,
+// and with it a path that is never taken: i / 32 is below 24.
 pub fn narrowed(targets: &[u32; 768], highs: &[u8; 768], usable: u32) -> [u32; 768]
     ensures { (singles : ℕ) (lows : List ℕ) (x : Lines) → Narrows (sheet usable singles targets.now lows highs.now x) result }
 {

@@ -10,9 +10,9 @@ ghost use Rattle.memory_rules.specs.JudgeIn.{rule3_in, rule5_in};
 ghost use Rattle.diagrams.specs.View.{diagram_of};
 ghost use Rattle.object_rules.specs.ValuesIn.{own_slot};
 
-mod links;
-mod types;
-mod values;
+mod links; // links.rt: rule 5
+mod types; // types.rt: rules 1 and 2
+mod values; // values.rt: rules 3 and 4
 
 use diagrams::ReadDiagram;
 use links::Linked;
@@ -25,22 +25,14 @@ use values::Valued;
 pub fn types_concrete(d: &ReadDiagram, m: &MemoryRecord) -> bool
     ensures { result ≡ rule1 (diagram_of d.now.stored) (site_in (diagram_of d.now.stored) m.now) }
 {
-    Objects {
-        types: &d.stored.types,
-        memory: m,
-    }
-    .are_concrete()
+    Objects::of(d, m).are_concrete()
 }
 
 // Rule 2: each singleton class is the type itself of exactly one object.
 pub fn singletons_single(d: &ReadDiagram, m: &MemoryRecord) -> bool
     ensures { result ≡ rule2 (diagram_of d.now.stored) (site_in (diagram_of d.now.stored) m.now) }
 {
-    Objects {
-        types: &d.stored.types,
-        memory: m,
-    }
-    .are_single()
+    Objects::of(d, m).are_single()
 }
 
 // Slot s is one of n, and its name's own.

@@ -1,4 +1,4 @@
-// Rule 5 on numbers.
+// Rule 5, by the indices of the record and the diagram.
 ghost use Rattle.std.specs.Prelude.{◌≡◌, ◌*◌, ◌<◌, ◌≤◌};
 ghost use Rattle.laws.specs.Bounded.{all};
 ghost use Rattle.object_rules.specs.LinksIn.{link_fits};
@@ -28,7 +28,8 @@ impl<'a> Linked<'a> {
         }
     }
 
-    // The link at x, of object x / 256 in slot x / 8 % 32 to object x % 8, if it is there, is permitted.
+    // The link at x, of object x / 256 in slot x / 8 % 32 to object x % 8, if it is there, is permitted. By one number x, as the definition
+    // goes over links.
     #[tactic(auto, unfolding(laws::specs::Connective::both, laws::specs::Connective::imp, crate::specs::LinksIn::link_fits))]
     fn link_fits(&self, x: usize) -> bool
         requires { x < 2048 }

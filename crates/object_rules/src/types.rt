@@ -1,19 +1,29 @@
-// Rules 1 and 2 on numbers.
+// Rules 1 and 2, by the indices of the record and the diagram.
 ghost use Rattle.std.specs.Prelude.{◌≡◌};
 ghost use Rattle.laws.specs.Bounded.{all, tally};
 ghost use Rattle.object_rules.specs.TypesIn.{concrete_at, typed_at, single_at};
 
-use diagrams::Types;
+use diagrams::{ReadDiagram, Types};
 use records::MemoryRecord;
 
 // The objects of a record in memory, with the types of a diagram.
 #[derive(Clone, Copy)]
 pub(crate) struct Objects<'a> {
-    pub types: &'a Types,
-    pub memory: &'a MemoryRecord,
+    types: &'a Types,
+    memory: &'a MemoryRecord,
 }
 
 impl<'a> Objects<'a> {
+    pub fn of(d: &'a ReadDiagram, m: &'a MemoryRecord) -> Self
+        ensures types { result.types.now ≡ d.now.stored.types }
+        ensures memory { result.memory.now ≡ m.now }
+    {
+        Objects {
+            types: &d.stored.types,
+            memory: m,
+        }
+    }
+
     // Object o's type is one of the types, and a class or singleton class.
     #[tactic(auto, unfolding(laws::specs::Connective::both, laws::specs::Connective::either, crate::specs::TypesIn::concrete_at))]
     fn is_concrete(&self, o: usize) -> bool

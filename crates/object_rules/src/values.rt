@@ -1,4 +1,4 @@
-// Rules 3 and 4 on numbers.
+// Rules 3 and 4, by the indices of the record and the diagram.
 ghost use Rattle.std.specs.Prelude.{◌≡◌, ◌*◌, ◌<◌, ◌≤◌};
 ghost use Rattle.laws.specs.Bounded.{all};
 ghost use Rattle.object_rules.specs.ValuesIn.{due_at, due_for, value_fits};
@@ -55,7 +55,7 @@ impl<'a> Valued<'a> {
     }
 
     // The value at x, of object x / 32 in slot x % 32, if there is one, is of the value type of each of its declarations. It is kept as one
-    // more than its code, whose value type is code / 8.
+    // more than its code, whose value type is code / 8. By one number x, as the definition goes over values.
     #[tactic(auto, unfolding(laws::specs::Connective::both, laws::specs::Connective::imp, crate::specs::ValuesIn::value_fits))]
     fn value_fits(&self, x: usize) -> bool
         requires { x < 256 }
@@ -66,6 +66,7 @@ impl<'a> Valued<'a> {
         if !is_own(d.tables, d.attributes.count, s) {
             return true;
         }
+        // A match: `is_none_or` with a closure that calls `are_agreeing` was tried, and the proof was given no promise of it.
         match laws::byte(&self.memory.values, x).checked_sub(1) {
             Some(code) => d.are_agreeing((x / 32) as u8, s, code / 8),
             None => true,

@@ -15,7 +15,7 @@ pub struct Link {
     pub from: u8,
     pub slot: u8,
     pub to: u8,
-    ghost few: { (from < 8) × (to < 8) },
+    ghost bounds: { (from < 8) × (to < 8) },
 }
 
 // The associations of a diagram, with the tables of instances and of the ends' slots.

@@ -59,8 +59,8 @@ pub fn with_seeds(seeds: u8, a: u32, b: u32, c: u32) -> Query
     }
 }
 
-// The rows, and the link of object o to p in slot s. By the operators, since `with_bit` is an equation between rows: `Mask::with` says which
-// bits are set, not which number has them.
+// The rows, and the link of object o to p in slot s. By the operators, since `with_bit` is an equation between rows: `Mask::with` says
+// which bits are set, not which number has them.
 fn with_bit(rows: [u8; 256], s: u8, o: u8, p: u8) -> [u8; 256]
     requires { (s < 32) × (o < 8) × (p < 8) }
     ensures { result ≡ with_bit rows s o p }

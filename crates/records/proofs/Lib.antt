@@ -3,3 +3,4 @@ pub mod SlotLaws
 pub mod RankLaws
 pub mod PlaceLaws
 pub mod WrittenLaws
+pub mod EmptyLaws

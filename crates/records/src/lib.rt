@@ -8,7 +8,7 @@ ghost use Rattle.records.specs.Empty.{empty_record};
 use laws::Mask;
 
 // Whether the record has something that the diagram has no index for: of values, of links, or of both.
-#[derive(Clone, Copy)]
+#[derive(Clone, Copy, Default)]
 pub struct Strays {
     // A value of an attribute name that no type of the diagram declares.
     pub values: bool,
@@ -18,7 +18,7 @@ pub struct Strays {
 
 // Passed by value, with flat arrays of indices and masks: a rule of the project. So a type that the diagram lacks and a value that
 // is not there are numbers in these arrays too.
-#[derive(Clone, Copy)]
+#[derive(Clone, Copy, Default)]
 pub struct MemoryRecord {
     pub count: usize,
     // The index of each object's type, or the number of types where the diagram lacks it.
@@ -31,21 +31,11 @@ pub struct MemoryRecord {
     pub strays: Strays,
 }
 
-// No object, no value, no link. Spelled out, as its definition is: of an array a derived Default promises that each element is a default
-// one, and that the array is the list of zeros would have to be proved.
+// No object, no value, no link.
 pub fn empty_record() -> MemoryRecord
     ensures { result ≡ empty_record }
 {
-    MemoryRecord {
-        count: 0,
-        types: [0; 8],
-        values: [0; 256],
-        links: [0; 256],
-        strays: Strays {
-            values: false,
-            links: false,
-        },
-    }
+    MemoryRecord::default()
 }
 
 // Object o has the link to p by the role in slot s.

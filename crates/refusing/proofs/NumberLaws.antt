@@ -16,7 +16,7 @@ use Rattle.laws.proofs.BoundedLaws.{all-ext, any-ext}
 use Rattle.laws.proofs.JoinedLaws.{length-each, get_or-each}
 use Rattle.laws.proofs.ConnectiveLaws.{both_of, either_left, either-right}
 use Rattle.laws.proofs.SearchLaws.{chain, both-left-no, both-right-no, either-none}
-use Rattle.fields.specs.Slot.{slot_name}
+use Rattle.fields.specs.Slot.{is_among}
 use Rattle.files.specs.Content.{name_in, past_name, past_names}
 use Rattle.files.specs.Diagram.{TypeDef, ValueType, is_interface, type_at, value_type_at}
 use Rattle.files.specs.DiagramFile.{rising, type_named, type_refusal, value_type_named}
@@ -66,9 +66,9 @@ value-types-room v most h = ap (full most) (value-type-total v) ∙ full-no most
 
 -- ---- 5, by the slots
 
-pub value-type-named : (v : ValueTypes) (c : List ℕ) {w : List ℕ} {r b : Bool} → w ≡ name_in c → r ≡ any (λ i. same_name (slot_name v.names i) w) v.count → r ≡ b
+pub value-type-named : (v : ValueTypes) (c : List ℕ) {w : List ℕ} {r b : Bool} → w ≡ name_in c → r ≡ is_among v.names v.count w → r ≡ b
     → value_type_named (only_value_types v) (value_type_of c).name ≡ b
-unfolding value_type_named value_types_of value_type_in value_type_of
+unfolding is_among value_type_named value_types_of value_type_in value_type_of
 value-type-named v c {w} e q h =
     ap (any (λ i. same_name (value_type_at (only_value_types v) i).name (name_in c))) (value-type-total v)
     ∙ any-ext _ _ v.count
@@ -80,9 +80,9 @@ unfolding value_type_of
 constants-by c rest s n p q e h =
     h ∙ ap₂ (λ (x : List ℕ) (m : ℕ). differ (joined (λ i. name_in (past_names i x) ∷ []) m)) (q ∙ ap (drop 1) p) (e ∙ ap (λ (x : List ℕ). get_or x 0 0) p)
 
-pub type-named : (t : Types) (c : List ℕ) {w : List ℕ} {r : Bool} → w ≡ (type_of c).name → r ≡ any (λ i. same_name (slot_name t.names i) w) t.count
+pub type-named : (t : Types) (c : List ℕ) {w : List ℕ} {r : Bool} → w ≡ (type_of c).name → r ≡ is_among t.names t.count w
     → r ≡ type_named (only_types t) (type_of c).name
-unfolding type_named types_of type_in
+unfolding is_among type_named types_of type_in
 type-named t c {w} e q =
     sym
     (ap (any (λ i. same_name (type_at (only_types t) i).name (type_of c).name)) (type-total t)

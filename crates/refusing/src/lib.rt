@@ -1,11 +1,9 @@
-// The refusals of a diagram file's fields.
+// The refusals of a diagram file's fields. A number of names is cast where a test before it, or the contract, has it at most 24.
 #![tactic(auto)]
 
 ghost use Rattle.std.specs.Prelude.{◌≡◌, ◌&&◌, suc, ◌<◌, ◌≤◌, eqb, ltb, length, get_or};
-ghost use Rattle.laws.specs.Bounded.{any};
 ghost use Rattle.fields.specs.Refusal.{refusal_number};
-ghost use Rattle.fields.specs.Slot.{slot_name};
-ghost use Rattle.files.specs.Name.{same_name, differ};
+ghost use Rattle.files.specs.Name.{differ};
 ghost use Rattle.files.specs.DiagramLayout.{type_of, value_type_of};
 ghost use Rattle.files.specs.DiagramFile.{rising, type_named, edition_refusal, value_type_refusal, type_refusal, diagram_refusal};
 ghost use Rattle.diagrams.specs.View.{diagram_of};
@@ -14,16 +12,6 @@ ghost use Rattle.refusing.specs.Numbers.{only_value_types, below, interfaces, ki
 
 use diagrams::{StoredDiagram, Types, ValueTypes};
 use fields::Refusal;
-
-// ---- names that stand already
-
-// One of the first n names is w; n fits the cast, as the contract asks.
-fn is_named(names: &[u8], n: usize, w: &[u8]) -> bool
-    requires { n ≤ 32 }
-    ensures { result ≡ any (λ i. same_name (slot_name names.now i) w.now) n }
-{
-    (0..n as u8).any(|i| fields::is_named(names, i, w))
-}
 
 // ---- editions and value types
 
@@ -55,7 +43,7 @@ fn check_value_type(v: &ValueTypes, c: &[u8]) -> Result<(), Refusal>
     if !layouts::value_type_laid(c) {
         return Err(Refusal::Layout);
     }
-    if is_named(&v.names, v.count, fields::name_in(c)) {
+    if fields::is_among(&v.names, v.count as u8, fields::name_in(c)) {
         return Err(Refusal::Order);
     }
     if !constants_differ(c) {
@@ -80,7 +68,7 @@ fn type_parents(c: &[u8]) -> &[u8]
     laws::past(fields::past_name(laws::past(c, 1)), 1)
 }
 
-// Type p is among the first n, and an interface.
+// Type p is among the first n, and an interface. Counts, here and below, and kinds stand by themselves, as the definitions have them.
 fn is_interface(kinds: &[u8], n: usize, p: u8) -> bool
     ensures { result ≡ ltb p n && eqb (get_or kinds.now p 0) 2 }
 {
@@ -121,7 +109,7 @@ fn type_named(t: &Types, c: &[u8]) -> bool
     requires { t.now.count ≤ 24 }
     ensures { result ≡ type_named (only_types t.now) (type_of c.now).name }
 {
-    is_named(&t.names, t.count, type_name(c))
+    fields::is_among(&t.names, t.count as u8, type_name(c))
 }
 
 // The first refusal of a type behind these.

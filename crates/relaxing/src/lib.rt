@@ -41,20 +41,20 @@ pub fn is_stuck(
     highs: &[u8; 768],
     lines: &Lines,
     usable: u32,
-    q: Query,
+    q: &Query,
     types: Types,
 ) -> bool
-    requires { Slotted lines.now × Sane q }
-    ensures { result ≡ true → (singles n : ℕ) (lows : List ℕ) → Nowhere (Solution (sheet usable singles targets.now lows highs.now lines.now) q n) types.at q.seeds q.never n }
+    requires { Slotted lines.now × Sane q.now }
+    ensures { result ≡ true → (singles n : ℕ) (lows : List ℕ) → Nowhere (Solution (sheet usable singles targets.now lows highs.now lines.now) q.now n) types.at q.now.seeds q.now.never n }
 {
     leaves::ends(
         targets,
         &[0u8; 768],
         highs,
-        without_lows(*lines),
+        &without_lows(*lines),
         usable,
         0,
-        without_least(q),
+        &without_least(*q),
         types,
         q.seeds,
     )

@@ -27,7 +27,7 @@ fn finish(r: Reply, list: &[u8], used: usize, out: &mut [u8]) -> Option<Turn>
 }
 
 // Runs the call of a code, one that is lent no buffer and gives no list. The codes are those of the list of calls, whose definition goes by
-// them: an enum between would be made of the code in `coding`, and the definition's code told from it again here.
+// them: an enum between them would be made of the code in `coding`, and the promise here would have to give the code back.
 fn run_call(b: &mut Bench, code: u8, byte: u8, file: &[u8]) -> Reply
     requires { (1 ≤ code) × ((code < length codes) × ((code ≢ 4) × (code ≢ 7))) }
     ensures { (buffer : List ℕ) → Does b.entry.now (call_of code (record { byte = byte; file = file.now; buffer = buffer })) (left_by b.exit.now result) [] }
@@ -46,9 +46,7 @@ fn run_call(b: &mut Bench, code: u8, byte: u8, file: &[u8]) -> Reply
 fn take_turn(b: &mut Bench, s: &[u8], out: &mut [u8]) -> Option<Turn>
     ensures { Turned b.entry.now s.now out.old result b.exit.now out.new }
 {
-    let Some(n) = coding::read_next(s, out.len()) else {
-        return None;
-    };
+    let n = coding::read_next(s, out.len())?;
     if n.code == 7 {
         let lend = n.lend;
         let reply = b.run_hand_out(&mut out[5..5 + lend]);
@@ -69,7 +67,8 @@ fn take_turn(b: &mut Bench, s: &[u8], out: &mut [u8]) -> Option<Turn>
     finish(reply, &[], n.used, out)
 }
 
-// Runs the calls, writes their replies to the front of `replies`, and returns how many bytes these are.
+// Runs the calls, writes their replies to the front of `replies`, and returns how many bytes these are. `at` is where the next reply goes,
+// and in the end the answer.
 pub fn replay(calls: &[u8], replies: &mut [u8]) -> usize
     ensures { Replayed calls.now replies.old result replies.new }
 {

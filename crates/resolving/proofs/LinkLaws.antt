@@ -14,7 +14,7 @@ use borrow.Author.Tests.{eq-eqb, eqb-true, ltb-false, ltb-true, ne_eqb}
 use Rattle.laws.specs.Bits.{bit}
 use Rattle.laws.specs.Connective.{both}
 use Rattle.laws.proofs.BitLaws.{bit-or, bit-pow, bits-eq}
-use Rattle.laws.proofs.ConnectiveLaws.{both_false}
+use Rattle.laws.proofs.ConnectiveLaws.{both-chain, both_false}
 use Rattle.laws.proofs.BoundedLaws.{eqb-turned}
 use Rattle.laws.proofs.PickedLaws.{any_snoc}
 use Rattle.files.specs.Diagram.{Diagram}
@@ -44,17 +44,12 @@ module _ (d : Diagram) (q : Record) (l : Link) where
       any_snoc (λ (x : Link). both (eqb x.from o) (both (same_name x.role w) (eqb x.to p))) q.links l
       (record { from = 0; role = []; to = 0 })
 
-  regroup : (a b c : Bool) → both a (both b c) ≡ both (both a b) c
-  unfolding both
-  regroup true b c = refl
-  regroup false b c = refl
-
   bit-own : (o s p : ℕ) → own_role d s ≡ true → link_bit d (with_link q l) o s p ≡ link_bit d q o s p || bit_of o s p
   unfolding link_bit
   bit-own o s p h =
       ap₂ both h (link-more o (role_name d s) p
       ∙ ap (λ (b : Bool). has_link q o (role_name d s) p || both (eqb l.from o) (both b (eqb l.to p))) (own-role-same d l.role s h)
-      ∙ ap (λ (b : Bool). has_link q o (role_name d s) p || b) (regroup (eqb l.from o) (eqb (role_slot d l.role) s) (eqb l.to p)))
+      ∙ ap (λ (b : Bool). has_link q o (role_name d s) p || b) (both-chain (eqb l.from o) (eqb (role_slot d l.role) s) (eqb l.to p)))
       ∙ always (has_link q o (role_name d s) p) (bit_of o s p)
       ∙ ap (λ (b : Bool). both b (has_link q o (role_name d s) p) || bit_of o s p) (sym h)
     where

@@ -63,21 +63,15 @@ module _ (last count : ℕ) (r : Record) (c : List ℕ) where
 
 -- ---- each tag
 
--- the arrays of a record in memory have their lengths
-pub record Sized (m : MemoryRecord) : Type 0 where
-  pub types : length m.types ≡ 8
-  pub values : length m.values ≡ 256
-  pub links : length m.links ≡ 256
-
 module _ (d : StoredDiagram) (m n : MemoryRecord) (t : ℕ) (c : List ℕ) where
   pub count-takes : t ≡ 0x60 → Takes (diagram_of d) t c m m
   unfolding record_with
   count-takes e = subst (λ (x : ℕ). Takes (diagram_of d) x c m m) (sym e) (record { more = λ last count r few st ok. st })
 
-  pub object-takes : t ≡ 0x61 → Sized m → (m.count < 8 → n ≡ with_type m (slot_of d.types.names d.types.count (name_in c)))
+  pub object-takes : t ≡ 0x61 → length m.types ≡ 8 → (m.count < 8 → n ≡ with_type m (slot_of d.types.names d.types.count (name_in c)))
       → Takes (diagram_of d) t c m n
   unfolding record_with
-  object-takes e size f =
+  object-takes e long f =
       subst (λ (x : ℕ). Takes (diagram_of d) x c m n) (sym e)
       (record {
         more = λ last count r few st ok.
@@ -85,16 +79,16 @@ module _ (d : StoredDiagram) (m n : MemoryRecord) (t : ℕ) (c : List ℕ) where
             let k : m.count ≡ object_count r = st.count in
             let h : m.count < 8 = omega arith in
             subst (StandsSoFar (diagram_of d) (record_with r 0x61 c)) (sym (f h ∙ ap (with_type m) (sym (type-index d (name_in c)))))
-            (object-stands (diagram_of d) r m st (name_in c) h size.types);
+            (object-stands (diagram_of d) r m st (name_in c) h long);
       })
 
-  pub value-takes : t ≡ 0x62 → Counts d → Sized m → {code : ℕ}
+  pub value-takes : t ≡ 0x62 → Counts d → length m.values ≡ 256 → {code : ℕ}
       → code ≡ first (is_code_in d.values.names d.values.sizes d.values.constants d.values.count (value_of c).value_type (value_of c).constant) 96
       → ((value_of c).object < 8
       → n ≡ value_stored m (slot_of d.attributes.names d.attributes.count (value_of c).attribute) d.attributes.count (value_of c).object code)
       → Takes (diagram_of d) t c m n
   unfolding record_with
-  value-takes e counts size {code} q f =
+  value-takes e counts long {code} q f =
       subst (λ (x : ℕ). Takes (diagram_of d) x c m n) (sym e)
       (record {
         more = λ last count r few st ok.
@@ -105,14 +99,14 @@ module _ (d : StoredDiagram) (m n : MemoryRecord) (t : ℕ) (c : List ℕ) where
             (sym (f h ∙ ap₂ (λ (s k : ℕ). value_stored m s k (value_of c).object code) (sym (attribute-slot d (value_of c).attribute)) (sym (attribute-count d))
             ∙ ap (value_stored m (attribute_slot (diagram_of d) (value_of c).attribute) (length (diagram_of d).attributes) (value_of c).object)
             (q ∙ sym (code-of d (value_of c).value_type (value_of c).constant))))
-            (value-stands (diagram_of d) r m st (value_of c) fits h size.values);
+            (value-stands (diagram_of d) r m st (value_of c) fits h long);
       })
 
-  pub link-takes : (t ≡ 0x60 → ⊥) → (t ≡ 0x61 → ⊥) → (t ≡ 0x62 → ⊥) → Counts d → Sized m
+  pub link-takes : (t ≡ 0x60 → ⊥) → (t ≡ 0x61 → ⊥) → (t ≡ 0x62 → ⊥) → Counts d → length m.links ≡ 256
       → ((link_of c).from < 8 → (link_of c).to < 8
       → n ≡ link_stored m (slot_of d.associations.roles (d.associations.count * 2) (link_of c).role) (d.associations.count * 2) (link_of c).from (link_of c).to)
       → Takes (diagram_of d) t c m n
-  link-takes n60 n61 n62 counts size f = record {
+  link-takes n60 n61 n62 counts long f = record {
     more = λ last count r few st ok.
         let b = link-below last count r c (link-refusal last count r c t n60 n61 n62 ok) in
         let h : (link_of c).from < 8 = omega (arith, b.0) in
@@ -121,5 +115,5 @@ module _ (d : StoredDiagram) (m n : MemoryRecord) (t : ℕ) (c : List ℕ) where
         subst (λ (x : Record). StandsSoFar (diagram_of d) x n) (sym (link-with last count r c t n60 n61 n62))
         (subst (StandsSoFar (diagram_of d) (with_link r (link_of c)))
         (sym (f h g ∙ ap₂ (λ (s k : ℕ). link_stored m s k (link_of c).from (link_of c).to) (sym (role-slot d (link_of c).role)) (sym (role-count d))))
-        (link-stands (diagram_of d) r m st (link_of c) fits h size.links));
+        (link-stands (diagram_of d) r m st (link_of c) fits h long));
   }

@@ -1,7 +1,6 @@
 -- A name looked up in a row of slots, and a value looked up in the rows of value types and constants, as the arrays have them.
 -- Assumes nothing.
 use Rattle.std.specs.Prelude.{◌%◌, ◌/◌, ℕ, Bool, List, eqb, ltb, get_or, length}
-use Rattle.laws.specs.Bounded.{first}
 use Rattle.laws.specs.Connective.{both, either}
 use Rattle.fields.specs.Slot.{slot_name}
 use Rattle.files.specs.Name.{Name, same_name}

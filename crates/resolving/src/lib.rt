@@ -1,7 +1,8 @@
-// Resolving a record file: the names of an accepted file turned into the indices of one diagram.
+// Resolving a record file: the names of an accepted file turned into the indices of one diagram. Counts of types, names and ends are at
+// most 32, as `as u8` keeps them.
 #![tactic(auto)]
 
-ghost use Rattle.std.specs.Prelude.{◌≡◌, ◌<◌, ◌≤◌};
+ghost use Rattle.std.specs.Prelude.{◌≡◌, ◌<◌, ◌≤◌, length};
 ghost use Rattle.laws.specs.Bounded.{first};
 ghost use Rattle.fields.specs.Slot.{slot_name, slot_of};
 ghost use Rattle.files.specs.Name.{same_name};
@@ -25,65 +26,77 @@ fn is_constant(constants: &[u8], size: u8, c: &[u8], k: u8) -> bool
     fields::is_known(size, k % 8) & fields::same_name(fields::constant_name(constants, size, k), c)
 }
 
-// Code k is that of the constant c of a value type t.
-fn is_code(v: &ValueTypes, t: &[u8], c: &[u8], k: u8) -> bool
-    ensures { result ≡ is_code_in v.now.names v.now.sizes v.now.constants v.now.count t.now c.now k }
+// Code k is that of the constant c of a value type t. Names, sizes and constants of n value types stand by themselves, here and below:
+// `code_of` answers for tables of any length, which `ValueTypes` has not.
+fn is_code(
+    names: &[u8],
+    sizes: &[u8],
+    constants: &[u8],
+    n: usize,
+    t: &[u8],
+    c: &[u8],
+    k: u8,
+) -> bool
+    ensures { result ≡ is_code_in names.now sizes.now constants.now n t.now c.now k }
 {
     let i = k / 8;
-    (usize::from(i) < v.count)
-        & (fields::is_named(&v.names, i, t)
-            & is_constant(&v.constants, laws::byte(&v.sizes, usize::from(i)), c, k))
+    (usize::from(i) < n)
+        & (fields::is_named(names, i, t)
+            & is_constant(constants, laws::byte(sizes, usize::from(i)), c, k))
 }
 
 // The first code of the constant c of a value type t, or 96, the number past the last code: a record in memory stores it for a value
 // that the diagram lacks.
-pub fn code_of(v: &ValueTypes, t: &[u8], c: &[u8]) -> u8
-    ensures { (result ≡ first (is_code_in v.now.names v.now.sizes v.now.constants v.now.count t.now c.now) 96) × (result ≤ 96) }
+pub fn code_of(names: &[u8], sizes: &[u8], constants: &[u8], n: usize, t: &[u8], c: &[u8]) -> u8
+    ensures { (result ≡ first (is_code_in names.now sizes.now constants.now n t.now c.now) 96) × (result ≤ 96) }
 {
-    (0..96).find(|k| is_code(v, t, c, *k)).unwrap_or(96)
+    (0..96)
+        .find(|k| is_code(names, sizes, constants, n, t, c, *k))
+        .unwrap_or(96)
 }
 
 // ---- one field stored; what has no place is left out
 
-// The record goes by value through these: behind `&mut` the proof is not given how long the arrays of a struct are.
+// Each says how long the array is that it changes: `put_field`, which hands the record on, is not told what stands behind `&mut`.
 
 // 0x61: an object, by its type's name.
-fn put_object(mut m: MemoryRecord, names: &[u8], k: u8, c: &[u8]) -> MemoryRecord
-    ensures { m.count < 8 → result ≡ with_type m (slot_of names.now k (name_in c.now)) }
+fn put_object(m: &mut MemoryRecord, names: &[u8], k: u8, c: &[u8])
+    ensures long { length m.old.types ≡ 8 }
+    ensures stored { m.old.count < 8 → m.new ≡ with_type m.old (slot_of names.now k (name_in c.now)) }
 {
     if 8 <= m.count {
-        return m;
+        return;
     }
     m.types[m.count] = fields::slot_of(names, k, fields::name_in(c));
     m.count += 1;
-    m
 }
 
 // Slot k stands for no slot in the next two, as `fields::slot_of` gives it and what is stored is defined by it: an Option would be made of
 // it in one line and taken apart in the next.
 
 // 0x62: a value, by its attribute's name: its code at its object and slot, or the mark.
-fn put_value(mut m: MemoryRecord, names: &[u8], k: u8, code: u8, c: &[u8]) -> MemoryRecord
+fn put_value(m: &mut MemoryRecord, names: &[u8], k: u8, code: u8, c: &[u8])
     requires { (k ≤ 32) × (code ≤ 96) }
-    ensures { (value_of c.now).object < 8 → result ≡ value_stored m (slot_of names.now k (value_of c.now).attribute) k (value_of c.now).object code }
+    ensures long { length m.old.values ≡ 256 }
+    ensures stored { (value_of c.now).object < 8 → m.new ≡ value_stored m.old (slot_of names.now k (value_of c.now).attribute) k (value_of c.now).object code }
 {
     let object = laws::byte(c, 0);
     let s = fields::slot_of(names, k, fields::name_in(laws::past(c, 1)));
     if k <= s {
         m.strays.values = true;
-        return m;
+        return;
     }
     if 8 <= object {
-        return m;
+        return;
     }
     m.values[laws::place(object, s)] = 1 + code;
-    m
 }
 
 // 0x63: a link, by its role's name: its bit at its object and slot, or the mark.
-fn put_link(mut m: MemoryRecord, names: &[u8], k: u8, c: &[u8]) -> MemoryRecord
+fn put_link(m: &mut MemoryRecord, names: &[u8], k: u8, c: &[u8])
     requires { k ≤ 32 }
-    ensures { (link_of c.now).from < 8 → (link_of c.now).to < 8 → result ≡ link_stored m (slot_of names.now k (link_of c.now).role) k (link_of c.now).from (link_of c.now).to }
+    ensures long { length m.old.links ≡ 256 }
+    ensures stored { (link_of c.now).from < 8 → (link_of c.now).to < 8 → m.new ≡ link_stored m.old (slot_of names.now k (link_of c.now).role) k (link_of c.now).from (link_of c.now).to }
 {
     let role = laws::past(c, 1);
     let from = laws::byte(c, 0);
@@ -91,14 +104,13 @@ fn put_link(mut m: MemoryRecord, names: &[u8], k: u8, c: &[u8]) -> MemoryRecord
     let s = fields::slot_of(names, k, fields::name_in(role));
     if k <= s {
         m.strays.links = true;
-        return m;
+        return;
     }
     if (8 <= from) | (8 <= to) {
-        return m;
+        return;
     }
     let i = laws::place(from, s);
     m.links[i] = m.links[i].with(to);
-    m
 }
 
 // The code of the value in a content, or 96 where the diagram lacks it.
@@ -106,16 +118,18 @@ fn value_code(v: &ValueTypes, c: &[u8]) -> u8
     ensures { (result ≡ first (is_code_in v.now.names v.now.sizes v.now.constants v.now.count (value_of c.now).value_type (value_of c.now).constant) 96) × (result ≤ 96) }
 {
     let t = fields::past_name(laws::past(c, 1));
-    code_of(v, fields::name_in(t), fields::name_in(fields::past_name(t)))
+    let w = fields::name_in(t);
+    let constant = fields::name_in(fields::past_name(t));
+    code_of(&v.names, &v.sizes, &v.constants, v.count, w, constant)
 }
 
 // One field of a record file stored.
-fn put_field(m: MemoryRecord, read: &ReadDiagram, tag: u8, c: &[u8]) -> MemoryRecord
-    ensures { Takes (diagram_of read.now.stored) tag c.now m result }
+fn put_field(m: &mut MemoryRecord, read: &ReadDiagram, tag: u8, c: &[u8])
+    ensures { Takes (diagram_of read.now.stored) tag c.now m.old m.new }
 {
     let d = &read.stored;
     match tag {
-        0x60 => m,
+        0x60 => (),
         0x61 => put_object(m, &d.types.names, d.types.count as u8, c),
         0x62 => {
             let code = value_code(&d.values, c);
@@ -137,7 +151,7 @@ pub fn resolve(d: ReadDiagram, file: &[u8]) -> MemoryRecord
     let mut m = records::empty_record();
     let mut rest = file;
     while let Ok(Some(field)) = fields::read_field(rest) {
-        m = put_field(m, &d, field.tag, field.content);
+        put_field(&mut m, &d, field.tag, field.content);
         rest = field.rest;
     }
     m

@@ -1,7 +1,7 @@
 -- The sets of types in memory are those of the diagrams.
 -- Assumes nothing.
-use Prim.Native.Nat.{◌*◌, ◌+◌, ◌<◌, ◌≤◌, ℕ}
-use native.Mathlib.Nat.{le_antisymm, le_refl}
+use Prim.Native.Nat.{◌*◌, ◌+◌, ◌<◌, ℕ}
+use native.Mathlib.Nat.{le_refl}
 use native.Mathlib.Omega.{arith}
 use mathlib.Core.Bool.{Bool, ◌&&◌, ◌||◌, cond, false, not, true}
 use mathlib.Core.List.{List}
@@ -73,18 +73,15 @@ module _ (sets arrows slots lows : List ℕ) where
       let t : both (leb 32 (get_or slots e 0)) (ltb 0 (get_or lows e 0)) ≡ false = subst (λ (i : ℕ). both (leb 32 (get_or slots i 0)) (ltb 0 (get_or lows i 0)) ≡ false) f q in
       sym (ap (λ (b : Bool). cond b (source_in sets arrows e) 0) t)
 
--- ---- a loop that joins masks
+-- ---- a fold that joins masks
 
 module _ (f : ℕ → ℕ) where
   pub joined-begin : (t : ℕ) → bit t 0 ≡ any (λ e. bit t (f e)) 0
   unfolding any
   joined-begin t = bit-zero t
 
-  pub joined-next : (e mask : ℕ) {v : ℕ} → v ≡ f e → ((t : ℕ) → bit t mask ≡ any (λ e. bit t (f e)) e) → (t : ℕ) → bit t (bit_or mask v) ≡ any (λ e. bit t (f e)) (e + 1)
-  joined-next e mask q so t = bit-or t mask _ ∙ ap₂ (λ (a : Bool) (k : ℕ). a || bit t k) (so t) q ∙ sym (any-more (λ e. bit t (f e)) e)
-
-  pub joined-done : (n e mask : ℕ) → e ≤ n → n ≤ e → ((t : ℕ) → bit t mask ≡ any (λ e. bit t (f e)) e) → (t : ℕ) → bit t mask ≡ any (λ e. bit t (f e)) n
-  joined-done n e mask h l so t = so t ∙ ap (any (λ e. bit t (f e))) (le_antisymm h l)
+  pub joined-next : (e mask r : ℕ) → r ≡ bit_or mask (f e) → ((t : ℕ) → bit t mask ≡ any (λ e. bit t (f e)) e) → (t : ℕ) → bit t r ≡ any (λ e. bit t (f e)) (e + 1)
+  joined-next e mask r q so t = ap (bit t) q ∙ bit-or t mask (f e) ∙ ap (λ (a : Bool). a || bit t (f e)) (so t) ∙ sym (any-more (λ e. bit t (f e)) e)
 
 -- ---- the diagrams
 

@@ -21,7 +21,8 @@ mod lines;
 mod places;
 mod type_sets;
 
-// The ends of a diagram's associations by another diagram: the types that an object at each end may have, and the slot of its role.
+// The ends of a diagram's associations by another diagram: the types that an object at each end may have, and the slot of its role. Two
+// tables: `ends_by` and `slots_by` give each with a promise of its own, and `targets_of` keeps by `sets` alone.
 #[derive(Clone, Copy)]
 struct Ends<'a> {
     asked: &'a Associations,
@@ -91,7 +92,8 @@ impl Placed {
         (self.images[usize::from(i)] < self.k) & chosen.has(u32::from(i))
     }
 
-    // Which of k types are images of types that are chosen. A loop: a fold would need a branch that gives the mask back for the others.
+    // Which of k types are images of types that are chosen. A loop: no law stands in `laws` for a fold behind a `filter`, and without one a
+    // branch would give the mask back.
     fn images_of(&self, chosen: u32) -> u32
         ensures { Marks (is_image self.now.images (λ i. bit i chosen) self.now.m) self.now.k result }
     {
@@ -164,7 +166,7 @@ pub fn ends_by(by: &Pair) -> [u32; 32]
 // ---- rows
 
 // What is asked of the links of an object: the types that a target may have, and how many there are at least and at most. Each is a table
-// of its own, as in `worlds::Tables`: `narrowing` and `sources_of` go through the targets alone.
+// of its own, as in `worlds::Tables`: `sources_of` reads the targets alone, and `narrowing` makes them anew beside the same limits.
 #[derive(Clone, Copy)]
 pub struct Rows {
     pub targets: [u32; 768],
@@ -179,7 +181,8 @@ pub fn rows_by(by: &Pair) -> Rows
     places::rows_of(&Ends::of(by))
 }
 
-// The table of sources: for type u and slot s at u * 32 + s the types that may have u as a target.
+// The table of sources: for type u and slot s at u * 32 + s the types that may have u as a target. By x, which is type x / 32 and
+// slot x % 32: each set of targets marks many places.
 pub fn sources_of(targets: &[u32; 768]) -> [u32; 768]
     ensures { SourceTable targets.now result }
 {
@@ -213,7 +216,7 @@ pub fn usable_types(by: &PairDues) -> u32
     type_sets::usable_of(&t.kinds, by.dues, t.count as u8)
 }
 
-// Which of k places among old's types have the name of a singleton class of new: the place behind the last where no type has it.
+// Which of k places among old's types have the name of a singleton class of new; a name that no type has is at the place behind the last.
 fn singles_by(by: &Pair, k: u8) -> u32
     requires { k ≤ 32 }
     ensures { (t : ℕ) → bit t result ≡ ltb t k && single_by (old_of by.now) (new_of by.now) t }

@@ -6,7 +6,7 @@ ghost use Rattle.sheets.specs.LinesBy.{LinesIn, column_by, end_if, mirror_by, wh
 use crate::Ends;
 use worlds::{Column, Mirror, Whole};
 
-// The right end of association j, or the left one.
+// The right end of association j, or the left one. `right` is the test of the arrow itself (`counted_right`), as in the definition.
 fn end_if(right: bool, j: usize) -> usize
     requires { j < 16 }
     ensures { (result ≡ end_if right j) × (result < 32) }
@@ -14,7 +14,8 @@ fn end_if(right: bool, j: usize) -> usize
     if right { j * 2 + 1 } else { j * 2 }
 }
 
-// What association j asks by rule 7. Its limits stand also where it asks nothing, as the definition has them.
+// What association j asks by rule 7. Its limits stand also where it asks nothing, as the definition has them. What asks nothing is spelled
+// out, here and below: its `high` is 8, so that a derived `Default` would serve two of the three.
 fn column_of(ends: &Ends, j: usize) -> Column
     requires { j < 16 }
     ensures { result ≡ column_by ends.now.sets ends.now.slots ends.now.asked.now.arrows ends.now.asked.now.lows ends.now.asked.now.ups ends.now.asked.now.count j }

@@ -1,4 +1,5 @@
-// What is asked of the links of an object, by its type and the role slot: at t * 32 + s for type t and slot s.
+// What is asked of the links of an object, by its type and the role slot: at t * 32 + s for type t and slot s. By loops, since each end
+// changes many places of the tables.
 ghost use Rattle.std.specs.Prelude.{◌≡◌, ℕ, ◌*◌, ◌<◌, ◌≤◌, max, min, ltb, get_or, length};
 ghost use Rattle.std.specs.Int.Bits.{bit_and, bit_or};
 ghost use Rattle.laws.specs.Bits.{bit};

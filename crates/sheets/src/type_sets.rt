@@ -67,13 +67,9 @@ fn missing_at(ends: &Ends, e: u8) -> u32
     0u32
 }
 
-// To any end. A loop: its invariant says which ends the mask has so far, and a fold would ask the same beside its call.
+// To any end.
 pub fn missing_of(ends: &Ends) -> u32
     ensures { (t : ℕ) → bit t result ≡ any (λ e. bit t (missing_in ends.now.sets ends.now.asked.now.arrows ends.now.slots ends.now.asked.now.lows e)) (ends.now.asked.now.count * 2) }
 {
-    let mut mask: u32 = 0;
-    for e in 0..ends.count() {
-        mask |= missing_at(ends, e);
-    }
-    mask
+    (0..ends.count()).fold(0u32, |mask, e| mask | missing_at(ends, e))
 }

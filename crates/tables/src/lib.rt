@@ -1,4 +1,4 @@
-// Tables that a record in memory is judged by.
+// Tables that a record in memory is judged by. Types, counts and indices of slots are at most 32, as `as u8` keeps them.
 #![tactic(auto)]
 
 ghost use Rattle.std.specs.Prelude.{◌≡◌, ℕ, ◌<◌, ◌≤◌, get_or};
@@ -13,7 +13,7 @@ use diagrams::{ReadDiagram, Types};
 use laws::Mask;
 use records::MemoryRecord;
 
-// What the rules are judged by: for each type the mask of its instances; for each attribute, or for each end, the slot of its name.
+// What the rules read: for each type the mask of its instances; for each attribute, or for each end, the slot of its name.
 #[derive(Clone, Copy)]
 pub struct Tables {
     pub masks: [u8; 24],
@@ -30,7 +30,7 @@ pub struct Typed<'a> {
     ghost few: { types.now.count ≤ 24 },
 }
 
-impl<'a> Typed<'a> {
+impl Typed<'_> {
     // The set of types that object o counts as, empty where its type is unknown.
     pub fn type_set(&self, o: u8) -> u32
         requires { o < 8 }
@@ -81,7 +81,7 @@ pub fn instance_masks(d: ReadDiagram, m: MemoryRecord) -> [u8; 24]
     typed.masks()
 }
 
-// ---- slots: counts and indices are at most 32, as `as u8` keeps them
+// ---- slots
 
 // For each of n names the first that is the same.
 #[tactic(auto, unfolding(crate::specs::Numbers::slot_at, fields::specs::Slot::slot_of))]
@@ -109,8 +109,8 @@ pub fn attribute_slots(d: ReadDiagram) -> [u8; 32]
     slots_of(&d.stored.attributes.names, d.stored.attributes.count as u8)
 }
 
-// ---- what the rules are judged by. `Values` and `Roles` have the same fields, but the slots of the one are those of attributes and of the
-// other those of ends: in one struct the ghost facts would be a choice, and each rule would take it apart.
+// ---- what the rules read. `Values` and `Roles` have the same fields, but the slots of the one are those of attributes and of the other
+// those of ends: in one struct the ghost facts would be a choice, and each rule would take it apart.
 
 // A record in memory with the diagram that it is judged by, the table of instances and that of the attributes' slots.
 #[derive(Clone, Copy)]

@@ -1,4 +1,3 @@
-pub mod KindLaws
 pub mod ReachedLaws
 pub mod OutlineLaws
 pub mod LookedLaws

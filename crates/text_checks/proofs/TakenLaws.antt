@@ -1,22 +1,15 @@
 -- The names of the value types, collected: the attribute types of one declaration, and the loop over all.
 -- Assumes nothing.
 use mathlib.Core.Path.{◌≡◌, ap, ap₂, refl, subst, sym, ◌∙◌}
-use mathlib.Core.Bool.{Bool, cond, false, not, true}
+use mathlib.Core.Bool.{Bool, false, not, true}
 use mathlib.Core.List.{List, [], ◌∷◌, ◌++◌, append-nil}
-use mathlib.Core.Logic.{⊎_elim}
 use Prim.Native.Nat.{ℕ, ◌+◌, ◌<◌, ◌≤◌}
-use native.Mathlib.Nat.{ne_of_lt}
 use native.Mathlib.Numerals.{add-one}
 use native.Mathlib.Omega.{arith}
-use lib.Dec.{eqb}
 use lib.ListN.{drop, drop_of_length-le, get_or, length, take}
 use lib.Seq.{drop-cons, take_all}
-use borrow.Author.Tests.{eq-eqb, ne_eqb}
-use Rattle.laws.specs.Bounded.{any, first}
+use Rattle.laws.specs.Bounded.{any}
 use Rattle.laws.specs.Lists.{joined, only}
-use Rattle.laws.proofs.BoundedLaws.{any_at}
-use Rattle.laws.proofs.ConnectiveLaws.{known}
-use Rattle.laws.proofs.FirstLaws.{first_below, first-none}
 use Rattle.laws.proofs.JoinedLaws.{joined-more}
 use Rattle.laws.proofs.PickedLaws.{member-any}
 use Rattle.files.specs.Name.{Name, same_name}

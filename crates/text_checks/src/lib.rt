@@ -19,7 +19,8 @@ use text_outlines::{CompleteOutline, Outline};
 use text_parts::{Kind, Side};
 use text_rows::Scanned;
 
-// ---- check 24, Undeclared: by the outline for its first 52 declarations, else from row to row. So each test is there for both.
+// ---- undeclared names: by the outline for its first 52 declarations, else from row to row. Each test is there for both: one function for
+// the two would take the sort and the name, and so read the name of each row that is not of the kind.
 
 // The declaration at the front of the row is of that kind.
 fn is_kind_in_row(row: &Scanned, kind: Kind) -> bool
@@ -29,13 +30,11 @@ fn is_kind_in_row(row: &Scanned, kind: Kind) -> bool
 }
 
 // It is of that kind and has the name w.
+#[tactic(auto, unfolding(laws::specs::Connective::both))]
 fn is_named_in_row(row: &Scanned, kind: Kind, w: &[u8]) -> bool
     ensures { result ≡ declared_as kind w.now (declaration_by row.now.rest.now) }
 {
-    if is_kind_in_row(row, kind) {
-        return fields::same_name(text_parts::name(row.rest), w);
-    }
-    false
+    is_kind_in_row(row, kind) && fields::same_name(text_parts::name(row.rest), w)
 }
 
 // One of the first k declarations is of that kind and has the name w: from row to row. That k rows end is known, so they are counted
@@ -56,14 +55,12 @@ fn is_declared_in_rows(body: &[u8], k: usize, kind: Kind, w: &[u8]) -> bool
 }
 
 // Declaration j is of that kind and has the name w.
+#[tactic(auto, unfolding(laws::specs::Connective::both))]
 fn is_named_in_outline(o: &Outline, j: usize, kind: Kind, w: &[u8]) -> bool
     requires { (j < o.now.count) × (j < 52) }
     ensures { result ≡ declared_as kind w.now (declaration_at (declarations_by o.now.body.now) j) }
 {
-    if o.is_kind(j, kind) {
-        return fields::same_name(o.name(j), w);
-    }
-    false
+    o.is_kind(j, kind) && fields::same_name(o.name(j), w)
 }
 
 // One of the first k declarations is of that kind and has the name w: by the outline, which has these.
@@ -85,6 +82,8 @@ fn is_declared(o: &Outline, k: usize, kind: Kind, w: &[u8]) -> bool
     }
     is_declared_in_rows(o.body, k, kind, w)
 }
+
+// Outline, k and row go through the next four side by side: a struct of them would be made at each turn of the loop in `has_unknown`.
 
 // A superclass in the row is none of the classes among the first k declarations.
 fn has_unknown_class(o: &Outline, k: usize, row: &Scanned) -> bool
@@ -118,8 +117,8 @@ fn has_unknown_end(o: &Outline, k: usize, row: &Scanned) -> bool
     requires { declaration_by row.now.rest.now ≡ declaration_at (declarations_by o.now.body.now) k }
     ensures { result ≡ has_unknown_end (declarations_by o.now.body.now) k }
 {
-    if is_kind_in_row(row, Kind::Associations) {
-        return !is_declared(
+    is_kind_in_row(row, Kind::Associations)
+        && (!is_declared(
             o,
             o.count,
             Kind::Types,
@@ -129,9 +128,7 @@ fn has_unknown_end(o: &Outline, k: usize, row: &Scanned) -> bool
             o.count,
             Kind::Types,
             text_parts::end_type(row, Side::Right),
-        );
-    }
-    false
+        ))
 }
 
 // Some parent or end is not declared as it has to be. The outline tells how many rows there are; they are read as above.
@@ -149,7 +146,7 @@ pub fn has_unknown(o: &Outline) -> bool
     false
 }
 
-// ---- check 4, Count
+// ---- counts
 
 // How many declarations are of that kind.
 pub fn kind_count(o: &CompleteOutline, kind: Kind) -> usize
@@ -194,7 +191,7 @@ pub fn has_many(o: &CompleteOutline) -> bool
         | (has_many_attributes(o) | ((16 < kind_count(o, Kind::Associations)) | has_overlong(o)))
 }
 
-// ---- names: by loops, which stop where the list has no room for more. That names are short is known from the check of the grammar,
+// ---- names: by loops, which put no more where the list has no room. That names are short is known from the check of the grammar,
 // not from an outline, so it is asked here.
 
 // The names of the declarations of that kind, in order: the first ones, as many as there is room for.
@@ -222,22 +219,20 @@ pub fn type_names(o: &CompleteOutline) -> Names
     names_of_kind(o, Kind::Types, 24)
 }
 
-// With those of the count attribute types of the declaration s that are not there yet; no more than 13 names.
-fn with_types_of(names: Names, s: &[u8], count: usize) -> Names
-    requires { (names.count ≤ 13) × ((count ≡ length (declaration_by s.now).attribute_types) × ((i : ℕ) → length (get_or (declaration_by s.now).attribute_types i []) ≤ 16)) }
-    ensures { (names_in result ≡ take 13 (with_names (names_in names) (declaration_by s.now).attribute_types)) × (result.count ≤ 13) }
+// Those of the count attribute types of the declaration s more that are not there yet; no more than 13 names.
+fn push_types_of(names: &mut Names, s: &[u8], count: usize)
+    requires { (names.old.count ≤ 13) × ((count ≡ length (declaration_by s.now).attribute_types) × ((i : ℕ) → length (get_or (declaration_by s.now).attribute_types i []) ≤ 16)) }
+    ensures { (names_in names.new ≡ take 13 (with_names (names_in names.old) (declaration_by s.now).attribute_types)) × (names.new.count ≤ 13) }
 {
-    let mut r = names;
     for i in 0..count {
-        if r.count == 13 {
-            return r;
+        if names.count == 13 {
+            return;
         }
         let w = text_parts::attribute_type(s, i);
-        if !r.has(w) {
-            r.push(w);
+        if !names.has(w) {
+            names.push(w);
         }
     }
-    r
 }
 
 // The names of the value types, the first 13 of them.
@@ -247,8 +242,8 @@ pub fn value_names(o: &CompleteOutline) -> Names
 {
     let mut names = names_of_kind(o, Kind::Enumerations, 13);
     for k in 0..o.outline.count {
-        names = with_types_of(
-            names,
+        push_types_of(
+            &mut names,
             o.outline.declaration(k),
             o.outline.attribute_count(k),
         );

@@ -1,5 +1,5 @@
-// The reader of texts: what is left after the checks 23, 24 and 4 is written as the file of the diagram that it declares, and that
-// file is read.
+// The reader of texts: what passes the checks of the grammar, of declared names and of counts is written as the file of the diagram that it
+// declares, and that file is read.
 #![tactic(auto)]
 
 ghost use Rattle.std.specs.Prelude.{◌≡◌};
@@ -25,12 +25,13 @@ fn read_declared(o: &CompleteOutline, values: &Names) -> Result<ReadDiagram, Ref
     ensures { Loads (write_diagram (declared (declarations_by o.now.outline.now.body.now))) result }
 {
     let types = text_checks::type_names(o);
+    // In fixed memory: the file has at most 3,936 bytes.
     let mut file = [0; 4096];
     let size = text_writing::put_diagram(&mut file, o, &types, values);
     loading::read_diagram(&file[..size])
 }
 
-// What is read of a text whose body passes the checks 23 and 24.
+// What is read of a text whose body passes the checks of the grammar and of declared names.
 fn read_known(text: &[u8], o: &Outline) -> Result<ReadDiagram, Refusal>
     requires { Read text.now o.now.body.now × Known o.now.body.now }
     ensures { LoadsText text.now result }

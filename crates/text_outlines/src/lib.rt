@@ -25,8 +25,8 @@ pub(crate) struct Outlined {
     constants: usize,
 }
 
-// A body, how many declarations it has, in all, and the first 52 of them: that many are 12 enumerations, 24 types and 16 associations.
-// Whether some cardinality is none that 01 allows.
+// A body, how many declarations it has, in all, and, since there is no heap, room for the first 52 of them: that many are 12 enumerations,
+// 24 types and 16 associations. And whether some cardinality is none that 01 allows.
 #[derive(Drop)]
 pub struct Outline<'a> {
     pub body: &'a [u8],
@@ -78,7 +78,8 @@ fn read_row(body: &[u8], row: &Scanned) -> Outlined
 }
 
 impl<'a> Outline<'a> {
-    // One walk over all declarations of the body.
+    // One walk over all declarations of the body. A loop: rows have no iterator (`text_rows`), and the count is of all rows, also of those
+    // that are not kept.
     pub fn new(body: &'a [u8]) -> Outline<'a>
         ensures { result.body.now ≡ body.now }
     {
@@ -87,7 +88,7 @@ impl<'a> Outline<'a> {
         let mut forbidden = false;
         let mut row = text_rows::scan_row(body);
         while let Some(after) = row.after() {
-            forbidden = forbidden | text_parts::has_forbidden_end(&row);
+            forbidden |= text_parts::has_forbidden_end(&row);
             if count < 52 {
                 declarations[count] = read_row(body, &row);
             }

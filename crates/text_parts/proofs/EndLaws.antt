@@ -19,6 +19,7 @@ use Rattle.text_parts.specs.declared.Side.{Side}
 use Rattle.text_parts.specs.declared.Side.TheVariants.{Left, Right}
 use Rattle.text_rows.specs.Scan.{IsFirst}
 use Rattle.std.specs.Prelude.{Option, None, Some, unwrap_or}
+use Rattle.std.specs.Option.{MatchOption}
 use Rattle.std.specs.Borrow.{Bor}
 
 -- ---- roles
@@ -50,6 +51,11 @@ module _ (side : Side) (s : List ℕ) where
   unfolding role_word role_given
   role-type h e = e ∙ type-is side s ∙ rw (eq-eqb _ 0 h)
 
+  pub role-by : (o : Option (Bor (List ℕ))) (d : Bor (List ℕ)) {w : Bor (List ℕ)} → IsFirst (role_words side (row_at s)) o
+      → d.now ≡ (end_on side (declaration_by s)).type → w ≡ unwrap_or o d → w.now ≡ role_word side (row_at s)
+  role-by None d h t e = rw e (role-type h t)
+  role-by (Some v) d h t e = rw e (role-written h.0 h.1)
+
 -- ---- limits
 
 module _ (lows : List Name) (dots : Bool) (ups : List Name) {n : ℕ} (count : n ≡ length lows) where
@@ -62,18 +68,15 @@ module _ (lows : List Name) (dots : Bool) (ups : List Name) {n : ℕ} (count : n
     unfolding limits_in capped_upper
     limits-one t = let e = ne_eqb (length lows) 0 (λ z. some (count ∙ z)) in record { low-is = rw (e, low, first); up_is = rw (e, sym asked ∙ t, low, first) }
 
-    pub limits-from : {m : ℕ} → d ≡ true → m ≡ length ups → m ≡ 0 → Capped (limits_in lows dots ups) (record { low = a; up = 255 })
-    unfolding limits_in capped_upper
-    limits-from t many z =
-        let e = ne_eqb (length lows) 0 (λ z. some (count ∙ z)) in
-        record { low-is = rw (e, low, first); up_is = rw (e, sym asked ∙ t, eq-eqb (length ups) 0 (sym many ∙ z)) }
-
-    pub limits-between : {m b : ℕ} {v : Name} → d ≡ true → m ≡ length ups → (m ≡ 0 → ⊥) → v ≡ get_or ups 0 [] → b ≡ min (value v) 101
+    pub limits-up : (o : Option (Bor (List ℕ))) {b : ℕ} → d ≡ true → IsFirst ups o → MatchOption o (b ≡ 255) (λ v. b ≡ min (value v.now) 101)
         → Capped (limits_in lows dots ups) (record { low = a; up = b })
     unfolding limits_in capped_upper
-    limits-between t many z last up =
+    limits-up None t z up =
         let e = ne_eqb (length lows) 0 (λ z. some (count ∙ z)) in
-        record { low-is = rw (e, low, first); up_is = rw (e, sym asked ∙ t, ne_eqb (length ups) 0 (λ y. z (many ∙ y)), up, last) }
+        record { low-is = rw (e, low, first); up_is = rw (e, sym asked ∙ t, eq-eqb (length ups) 0 z, up) }
+    limits-up (Some v) t l up =
+        let e = ne_eqb (length lows) 0 (λ z. some (count ∙ z)) in
+        record { low-is = rw (e, low, first); up_is = rw (e, sym asked ∙ t, ne_eqb (length ups) 0 l.0, up, l.1) }
 
 -- which end they are of
 module _ (s : List ℕ) {side : Side} {r : CappedLimits} where
@@ -96,8 +99,7 @@ pub ruleset ends = (
   rules,
   limits-free,
   limits-one,
-  limits-from,
-  limits-between,
+  limits-up,
   limits-right,
   limits-left,
 )

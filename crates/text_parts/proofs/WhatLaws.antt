@@ -1,13 +1,27 @@
 -- What a row declares and what arrow it has, one law for each way out of the code: an answer of a call, and what the branch on it says.
 -- Assumes nothing.
 use Prim.Native.Nat.{ℕ, ◌≤◌}
-use mathlib.Core.Bool.{Bool, false, true}
+use mathlib.Core.Bool.{Bool, cond, false, true}
 use mathlib.Core.List.{List}
-use mathlib.Core.Path.{◌≡◌, sym, ◌∙◌}
+use mathlib.Core.Path.{◌≡◌, refl, sym, ◌∙◌}
+use lib.Dec.{eqb}
 use borrow.Author.Rules.{rules}
-use borrow.Author.Tests.{lt-ltb, ne_eqb}
+use borrow.Author.Tests.{eqb-false, eqb-true, lt-ltb, ne_eqb}
 use native.Mathlib.Omega.{arith}
+use Rattle.std.specs.Prelude.{Option, None, Some, IsSomeAnd, unwrap_or}
+use Rattle.std.specs.Option.{MatchOption}
+use Rattle.text_parts.specs.Sort.{number_of, sort_number}
+use Rattle.text_parts.specs.declared.Sort.{Sort}
+use Rattle.text_parts.specs.declared.Sort.TheVariants.{Association, Composition}
 use Rattle.texts.specs.Table.{Symbol, arrow_in, class_for, passes, what_in}
+
+-- 23 is the class of "composition"
+keyword : (k : ℕ) (w : Sort) → (k ≡ 23 → w ≡ Composition) → ((k ≡ 23 → ⊥) → w ≡ Association) → sort_number w ≡ cond (eqb k 23) 6 5
+keyword k w y z = go (eqb k 23) refl
+  where
+    go : (b : Bool) → eqb k 23 ≡ b → sort_number w ≡ cond b 6 5
+    go true t = rw (y (eqb-true k 23 t))
+    go false t = rw (z (eqb-false k 23 t))
 
 module _ (row : List Symbol) {class : Bool} (c : class ≡ passes 8 row) where
   pub what-singleton : {a : Bool} → class ≡ true → a ≡ passes 4 row → a ≡ true → 3 ≡ what_in row
@@ -32,17 +46,16 @@ module _ (row : List Symbol) {class : Bool} (c : class ≡ passes 8 row) where
     what-enumeration p q = rw (sym c ∙ f, sym i ∙ n, sym p ∙ q)
 
     module _ {a : Bool} (p : a ≡ passes 21 row) (q : a ≡ false) where
-      pub what-composition : class_for 25 row ≡ 23 → 6 ≡ what_in row
+      -- an association, by the class of its keyword
+      pub what-keyword : (o : Option ℕ) (r : Option Sort) {P : ℕ → Sort → Type 0} → unwrap_or o 29 ≡ class_for 25 row → ((k : ℕ) → o ≡ Some k → k ≤ 28)
+          → MatchOption o (r ≡ None) (λ k. IsSomeAnd r (P k)) → ((k : ℕ) (w : Sort) → P k w → k ≡ 23 → w ≡ Composition)
+          → ((k : ℕ) (w : Sort) → P k w → (k ≡ 23 → ⊥) → w ≡ Association) → number_of r ≡ what_in row
       unfolding what_in passes
-      what-composition e = rw (sym c ∙ f, sym i ∙ n, sym p ∙ q, e)
-
-      pub what-association : (k : ℕ) → class_for 25 row ≡ k → k ≤ 28 → (k ≡ 23 → ⊥) → 5 ≡ what_in row
-      unfolding what_in passes
-      what-association k e l d = rw (sym c ∙ f, sym i ∙ n, sym p ∙ q, e, lt-ltb k 29 (omega arith), ne_eqb k 23 d)
-
-      pub what-none : class_for 25 row ≡ 29 → 7 ≡ what_in row
-      unfolding what_in passes
-      what-none e = rw (sym c ∙ f, sym i ∙ n, sym p ∙ q, e)
+      what-keyword None r e l m y z = rw (sym c ∙ f, sym i ∙ n, sym p ∙ q, sym e, m)
+      what-keyword (Some k) None e l m y z = elim m [ ]
+      what-keyword (Some k) (Some w) e l m y z =
+          let b = l k refl in
+          rw (sym c ∙ f, sym i ∙ n, sym p ∙ q, sym e, lt-ltb k 29 (omega arith)) (keyword k w (y k w m) (z k w m))
 
 -- ---- arrows
 

@@ -94,21 +94,21 @@ pub fn what(row: &Scanned) -> Option<Sort>
     if row.is_passed(State::ENUMERATION_NAME) {
         return Some(Sort::Enumeration);
     }
-    match row.class_for(State::ASSOCIATION) {
-        Some(23) => Some(Sort::Composition),
-        Some(_) => Some(Sort::Association),
-        None => None,
-    }
+    row.class_for(State::ASSOCIATION).map(|class| match class {
+        23 => Sort::Composition,
+        _ => Sort::Association,
+    })
 }
 
-// The number, 7 for none, as in the definition: who writes a declaration's field needs it without asking whether the row is one.
+// The number, 7 for none, as in the definition: the writers of a declaration's field ask it of rows that are declarations, so that an
+// Option would be unwrapped there.
 pub fn number(what: Option<Sort>) -> u8
     ensures { (result ≡ number_of what) × (result ≤ 7) }
 {
     what.map_or(7, Sort::number)
 }
 
-// A declaration that is that is of the kind.
+// A declaration of that sort is of the kind.
 pub fn is_kind(what: Option<Sort>, kind: Kind) -> bool
     ensures { (d : Declaration) → number_of what ≡ d.what → result ≡ of_kind kind d }
 {
@@ -130,9 +130,9 @@ pub fn name_at(s: &[u8]) -> Option<Word>
 {
     text_rows::word_at(
         s,
-        State::CLASS_NAME,
-        State::INTERFACE_NAME,
-        State::ENUMERATION_NAME,
+        State::CLASS_NAME.number,
+        State::INTERFACE_NAME.number,
+        State::ENUMERATION_NAME.number,
         0,
     )
 }
@@ -141,13 +141,14 @@ pub fn name_at(s: &[u8]) -> Option<Word>
 pub fn name(s: &[u8]) -> &[u8]
     ensures { result.now ≡ (declaration_by s.now).name }
 {
-    text_rows::word_for(
-        s,
-        State::CLASS_NAME,
-        State::INTERFACE_NAME,
-        State::ENUMERATION_NAME,
-        0,
-    )
+    text_rows::word_of(s, name_at(s))
+}
+
+// Word i of those that lead to the state q.
+fn word_to(s: &[u8], q: State, i: usize) -> &[u8]
+    ensures { result.now ≡ get_or (words_for q.number q.number q.number (row_at s.now)) i [] }
+{
+    text_rows::word_for(s, q.number, q.number, q.number, i)
 }
 
 pub fn superclass_count(row: &Scanned) -> usize
@@ -159,13 +160,7 @@ pub fn superclass_count(row: &Scanned) -> usize
 pub fn superclass(s: &[u8], i: usize) -> &[u8]
     ensures { result.now ≡ get_or (declaration_by s.now).superclasses i [] }
 {
-    text_rows::word_for(
-        s,
-        State::SUPERCLASS,
-        State::SUPERCLASS,
-        State::SUPERCLASS,
-        i,
-    )
+    word_to(s, State::SUPERCLASS, i)
 }
 
 pub fn interface_count(row: &Scanned) -> usize
@@ -179,9 +174,9 @@ pub fn interface(s: &[u8], i: usize) -> &[u8]
 {
     text_rows::word_for(
         s,
-        State::CLASS_INTERFACE,
-        State::SUPERINTERFACE,
-        State::SUPERINTERFACE,
+        State::CLASS_INTERFACE.number,
+        State::SUPERINTERFACE.number,
+        State::SUPERINTERFACE.number,
         i,
     )
 }
@@ -213,25 +208,13 @@ pub fn attribute_count(row: &Scanned) -> usize
 pub fn attribute_type(s: &[u8], i: usize) -> &[u8]
     ensures { result.now ≡ get_or (declaration_by s.now).attribute_types i [] }
 {
-    text_rows::word_for(
-        s,
-        State::ATTRIBUTE_TYPE,
-        State::ATTRIBUTE_TYPE,
-        State::ATTRIBUTE_TYPE,
-        i,
-    )
+    word_to(s, State::ATTRIBUTE_TYPE, i)
 }
 
 pub fn attribute_name(s: &[u8], i: usize) -> &[u8]
     ensures { result.now ≡ get_or (declaration_by s.now).attribute_names i [] }
 {
-    text_rows::word_for(
-        s,
-        State::ATTRIBUTE_NAME,
-        State::ATTRIBUTE_NAME,
-        State::ATTRIBUTE_NAME,
-        i,
-    )
+    word_to(s, State::ATTRIBUTE_NAME, i)
 }
 
 pub fn constant_count(row: &Scanned) -> usize
@@ -243,12 +226,13 @@ pub fn constant_count(row: &Scanned) -> usize
 pub fn constant(s: &[u8], i: usize) -> &[u8]
     ensures { result.now ≡ get_or (declaration_by s.now).constants i [] }
 {
-    text_rows::word_for(s, State::CONSTANT, State::CONSTANT, State::CONSTANT, i)
+    word_to(s, State::CONSTANT, i)
 }
 
 // ---- associations
 
-// The numbers of arrows are the file's; 0 where there is none. The classes, as in the definition, are those of <->, ->, <- and --.
+// The numbers of arrows are the file's, and 0 where there is none; these and the classes, those of <->, ->, <- and --, are as in the
+// definition.
 pub fn arrow(row: &Scanned) -> u8
     ensures { (result ≡ (declaration_by row.now.rest.now).arrow) × (result ≤ 4) }
 {
@@ -285,10 +269,7 @@ pub fn written_role<'a>(row: &Scanned<'a>, side: Side) -> Option<&'a [u8]>
 pub fn role_word<'a>(row: &Scanned<'a>, side: Side) -> &'a [u8]
     ensures { result.now ≡ role_word side (row_at row.now.rest.now) }
 {
-    match written_role(row, side) {
-        Some(role) => role,
-        None => end_type(row, side),
-    }
+    written_role(row, side).unwrap_or(end_type(row, side))
 }
 
 // A digit behind digits of the value v, 101 where the value is above 100.
@@ -299,7 +280,8 @@ fn with_digit(v: u32, b: u8) -> u32
     more.min(101)
 }
 
-// The value of a run of digits, 101 where it is above 100.
+// The value of a run of digits, 101 where it is above 100, so that `as u8` keeps it. No `parse`: that takes a `&str`, and refuses a number
+// that is too large, where the value is to stay at 101.
 fn value_of(w: &[u8]) -> u8
     ensures { result ≡ min (value w.now) 101 }
 {
@@ -317,12 +299,9 @@ fn limits_for(row: &Scanned, low: State, dots: State, up: State) -> Limits
     if !row.is_passed(dots) {
         return Limits { low: n, up: n };
     }
-    match row.first_for(up) {
-        Some(last) => Limits {
-            low: n,
-            up: value_of(last),
-        },
-        None => Limits { low: n, up: 255 },
+    Limits {
+        low: n,
+        up: row.first_for(up).map_or(255, value_of),
     }
 }
 
@@ -342,7 +321,7 @@ fn is_forbidden(l: Limits) -> bool
     !layouts::limits_laid(l.low, l.up)
 }
 
-// A cardinality of it is none that 01 allows.
+// One of its cardinalities is none that 01 allows.
 pub fn has_forbidden_end(row: &Scanned) -> bool
     ensures { result ≡ ends_forbidden (declaration_by row.now.rest.now) }
 {

@@ -2,14 +2,10 @@
 -- Assumes nothing.
 use Prim.Native.Nat.{ℕ, ◌+◌, ◌-◌, ◌<◌, ◌≤◌}
 use native.Mathlib.Omega.{arith}
-use mathlib.Core.Bool.{Bool, ◌&&◌, ◌||◌, cond, false, true}
+use mathlib.Core.Bool.{Bool, cond, false, true}
 use mathlib.Core.List.{List, [], ◌∷◌}
-use mathlib.Core.Logic.{⊎_elim}
-use mathlib.Core.Path.{◌≡◌, ◌∙◌, ap, refl, sym}
-use lib.Dec.{eqb, leb}
+use mathlib.Core.Path.{◌≡◌, ap, refl}
 use lib.ListN.{get_or, length, take}
-use Rattle.laws.specs.Connective.{both, either}
-use Rattle.laws.proofs.ConnectiveLaws.{and-is-both, either_left, either-right, or_cases}
 use Rattle.files.specs.Name.{name_byte}
 use Rattle.texts.specs.Token.{is_blank, run}
 use Rattle.text_rows.specs.Front.{unblank}

@@ -31,10 +31,7 @@ pub struct Word {
 pub fn word_of(s: &[u8], word: Option<Word>) -> &[u8]
     ensures { result.now ≡ word_or s.now word [] }
 {
-    match word {
-        Some(w) => laws::front(laws::past(s, w.start), w.size),
-        None => &[],
-    }
+    word.map_or(&[], |w| laws::front(laws::past(s, w.start), w.size))
 }
 
 // ---- a walk over the tokens
@@ -48,7 +45,8 @@ pub(crate) struct Passed<'a> {
     after: &'a [u8],
 }
 
-// The token that comes next in the state q, behind the blanks at the front, if there is one.
+// The token that comes next in the state q, behind the blanks at the front, if there is one. Four functions walk by it with a rest and a
+// state of their own: an iterator would have to say in its contract what stands behind each token that it gives.
 fn next_token(s: &[u8], q: State) -> Option<Passed<'_>>
     ensures { Passes s.now q.number result }
 {
@@ -80,7 +78,7 @@ pub fn is_accepted(text: &[u8]) -> bool
         rest = token.after;
         q = token.state;
     }
-    q.number == State::END.number
+    q == State::END
 }
 
 // What stands behind the row from state q: behind the token that leads between declarations, if one does.
@@ -90,7 +88,7 @@ pub fn row_end(s: &[u8], q: State) -> Option<&[u8]>
     let mut rest = s;
     let mut state = q;
     while let Some(token) = next_token(rest, state) {
-        if token.state.number == State::BETWEEN.number {
+        if token.state == State::BETWEEN {
             return Some(token.after);
         }
         rest = token.after;
@@ -152,7 +150,7 @@ pub fn scan_row<'a>(s: &'a [u8]) -> Scanned<'a>
         let at = s.len() - token.start.len();
         let k = usize::from(token.state.number);
         states[k] = states[k].with_token(token.front.class, at, token.front.size);
-        if token.state.number == State::BETWEEN.number {
+        if token.state == State::BETWEEN {
             return Scanned {
                 rest: s,
                 states,
@@ -210,22 +208,22 @@ impl<'a> Scanned<'a> {
 // ---- words for one of three states: that many, since the definition, `words_for`, has three
 
 // A token of that class, which leads to q, is a word for one of three states.
-fn is_wanted(q: State, class: u8, a: State, b: State, c: State) -> bool
-    ensures { result ≡ both (either (eqb q.number a.number) (either (eqb q.number b.number) (eqb q.number c.number))) (is_word_class class) }
+fn is_wanted(q: u8, class: u8, a: u8, b: u8, c: u8) -> bool
+    ensures { result ≡ both (either (eqb q a) (either (eqb q b) (eqb q c))) (is_word_class class) }
 {
-    ((q.number == a.number) | ((q.number == b.number) | (q.number == c.number)))
-        & is_word_class(class)
+    ((q == a) | ((q == b) | (q == c))) & is_word_class(class)
 }
 
-// Where word i of those that lead to one of three states stands, if there is one.
-pub fn word_at(s: &[u8], a: State, b: State, c: State, i: usize) -> Option<Word>
-    ensures { word_or s.now result [] ≡ get_or (words_for a.number b.number c.number (row_at s.now)) i [] }
+// Where word i of those that lead to one of three states stands, if there is one. States by their numbers, which may be any: there is no
+// word for a number that no state has.
+pub fn word_at(s: &[u8], a: u8, b: u8, c: u8, i: usize) -> Option<Word>
+    ensures { word_or s.now result [] ≡ get_or (words_for a b c (row_at s.now)) i [] }
 {
     let mut rest = s;
     let mut state = State::BETWEEN;
     let mut left = i;
     while let Some(token) = next_token(rest, state) {
-        let wanted = is_wanted(token.state, token.front.class, a, b, c);
+        let wanted = is_wanted(token.state.number, token.front.class, a, b, c);
         if wanted & (left == 0) {
             return Some(Word {
                 start: s.len() - token.start.len(),
@@ -233,7 +231,7 @@ pub fn word_at(s: &[u8], a: State, b: State, c: State, i: usize) -> Option<Word>
             });
         }
         left = left.saturating_sub(usize::from(wanted));
-        if token.state.number == State::BETWEEN.number {
+        if token.state == State::BETWEEN {
             return None;
         }
         rest = token.after;
@@ -243,8 +241,8 @@ pub fn word_at(s: &[u8], a: State, b: State, c: State, i: usize) -> Option<Word>
 }
 
 // That word; no bytes where there is none.
-pub fn word_for(s: &[u8], a: State, b: State, c: State, i: usize) -> &[u8]
-    ensures { result.now ≡ get_or (words_for a.number b.number c.number (row_at s.now)) i [] }
+pub fn word_for(s: &[u8], a: u8, b: u8, c: u8, i: usize) -> &[u8]
+    ensures { result.now ≡ get_or (words_for a b c (row_at s.now)) i [] }
 {
     word_of(s, word_at(s, a, b, c, i))
 }

@@ -1,4 +1,5 @@
-// The grammar as a table: the state that a token leads to, by its class.
+// The grammar as a table: the state that a token leads to, by its class. States are here by their numbers, as in the definition's table;
+// the walks over a text have them as `State`.
 ghost use Rattle.std.specs.Prelude.{◌≡◌, ◌≤◌};
 ghost use Rattle.texts.specs.Table.{is_name_state, next};
 
@@ -26,7 +27,8 @@ fn by_name(q: u8) -> u8
     }
 }
 
-// The state that a token of class c leads to from q.
+// The state that a token of class c leads to from q. By class, then by state: a class's arm has all edges of its token. The definition goes
+// by state.
 pub(crate) fn next_state(q: u8, c: u8) -> u8
     requires { (q ≤ 46) × (c ≤ 28) }
     ensures { (result ≡ next q c) × (result ≤ 46) }

@@ -5,8 +5,8 @@ ghost use Rattle.files.specs.Name.{name_byte};
 ghost use Rattle.texts.specs.Token.{is_blank, is_integer, mark_at, marks, run, same_word, word_class};
 ghost use Rattle.text_rows.specs.Front.{Fronts, NoOther, known_words, unblank};
 
-// Its class, and of how many bytes it is. A class is a number, as in the definition: of the 29 the table has most in equal steps, and an
-// enum would name each once more beside that definition.
+// Its class, and of how many bytes it is. A class is a number, as in the definition, and tests go by ranges of it (`0..=3`, 16 to 27): an
+// enum of 29 would be turned into that number in each contract.
 #[derive(Clone, Copy)]
 pub(crate) struct Front {
     pub class: u8,
@@ -21,11 +21,11 @@ fn by_byte(s: &[u8], i: usize, b: u8, yes: Option<u8>, no: Option<u8>) -> Option
     if b == laws::byte(s, i) { yes } else { no }
 }
 
-// By `|`, nested as in the definition, so that the code is that definition.
+#[tactic(auto, unfolding(laws::specs::Connective::either, texts::specs::Token::is_blank))]
 fn is_blank(b: u8) -> bool
     ensures { result ≡ is_blank b }
 {
-    (b == b' ') | ((b == b'\t') | ((b == b'\n') | (b == b'\r')))
+    matches!(b, b' ' | b'\t' | b'\n' | b'\r')
 }
 
 // What follows the blanks at the front.

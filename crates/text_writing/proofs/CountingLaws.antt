@@ -32,7 +32,7 @@ types-next ds k {b = b} e q m =
     ap₂ (λ (x y : ℕ). x + y) e (m ∙ one-from b ∙ ap one q) ∙ sym (tally-more (λ j. is_type (declaration_at ds j)) k)
 
 module _ {s : List ℕ} {n k own : ℕ} (w : WritableBody s n) (h : k < n) (e : own ≡ types_before (declarations_by s) k) where
-  pub types-most : own ≤ 24
+  types-most : own ≤ 24
   unfolding types_before
   types-most =
       let ds = declarations_by s in
@@ -40,7 +40,7 @@ module _ {s : List ℕ} {n k own : ℕ} (w : WritableBody s n) (h : k < n) (e : 
       let a = tally-upto (λ j. is_type (declaration_at ds j)) k (length ds) l in
       let b = (few ds w.writable.few).types in omega arith
 
-  pub types-fit : {more : ℕ} (b : Bool) → more ≡ from_bool b → own + more < 2 ^ 64
+  pub types-fit : {more : ℕ} (b : Bool) → more ≡ from_bool b → own + more < 2 ^ 8
   types-fit {more} b m = let l : more ≤ 1 = rw m (one-small b) in omega (arith, types-most)
     where
       one-small : (b : Bool) → from_bool b ≤ 1

@@ -33,7 +33,7 @@ struct Named<'a> {
 
 // ---- plain types
 
-// The field of the plain value type with name i.
+// The field of the plain value type with name i; i is below 24, as `as u8` keeps it.
 fn put_plain_at(out: &mut [u8], values: &Names, i: usize) -> usize
     requires { (i < values.now.count) × (160 ≤ length out.old) }
     ensures { Put (field 0x20 (value_type_bytes (plain_of (get_or (names_in values.now) i [])))) out.old result out.new }
@@ -41,7 +41,7 @@ fn put_plain_at(out: &mut [u8], values: &Names, i: usize) -> usize
     text_fields::put_plain_type(out, fields::slot_name(&values.names, i as u8))
 }
 
-// The value types from number e on.
+// The value types from number e on, by i from 0, as `plain_piece` counts from e on.
 fn put_plain_types(out: &mut [u8], values: &Names, e: usize) -> usize
     requires { (e ≤ values.now.count) × (length (joined (plain_piece (names_in values.now) e) (values.now.count - e)) + 160 ≤ length out.old) }
     ensures { Put (joined (plain_piece (names_in values.now) e) (values.now.count - e)) out.old result out.new }
@@ -59,11 +59,11 @@ impl Named<'_> {
     // make one a turn, and take it apart here.
 
     // The index of the type that comes behind declaration k, where that of the type that it may declare is own.
-    fn index_behind(&self, k: usize, own: usize) -> usize
+    fn index_behind(&self, k: usize, own: u8) -> u8
         requires { (k < self.now.outline.now.count) × (own ≡ types_before (declarations_by self.now.outline.now.body.now) k) }
         ensures { result ≡ types_before (declarations_by self.now.outline.now.body.now) (k + 1) }
     {
-        own + usize::from(self.outline.is_kind(k, Kind::Types))
+        own + u8::from(self.outline.is_kind(k, Kind::Types))
     }
 
     // The field of an enumeration, or 0 bytes.
@@ -78,7 +78,7 @@ impl Named<'_> {
     }
 
     // The field of the type with the index own, or 0 bytes.
-    fn put_type_at(&self, out: &mut [u8], k: usize, own: usize) -> usize
+    fn put_type_at(&self, out: &mut [u8], k: usize, own: u8) -> usize
         requires { (k < self.now.outline.now.count) × ((own ≡ types_before (declarations_by self.now.outline.now.body.now) k) × (160 ≤ length out.old)) }
         ensures { Put (type_piece (declarations_by self.now.outline.now.body.now) k) out.old result out.new }
     {
@@ -89,7 +89,7 @@ impl Named<'_> {
     }
 
     // The fields of the attributes of the type with the index own. What is no type has none.
-    fn put_attributes_at(&self, out: &mut [u8], k: usize, own: usize) -> usize
+    fn put_attributes_at(&self, out: &mut [u8], k: usize, own: u8) -> usize
         requires { (k < self.now.outline.now.count) × ((own ≡ types_before (declarations_by self.now.outline.now.body.now) k) × (length (attributes_piece (declarations_by self.now.outline.now.body.now) k) + 160 ≤ length out.old)) }
         ensures { Put (attributes_piece (declarations_by self.now.outline.now.body.now) k) out.old result out.new }
     {

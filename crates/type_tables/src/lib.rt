@@ -1,5 +1,5 @@
 // What one diagram asks of values, by an object's type, as a table; and what tables by types are made of: names, types, ends and limits.
-// Counts, slots and capped limits are below 256, as `as u8` keeps them.
+// Counts, slots and capped limits are below 256, as `as u8` keeps them: the library's conversion gives a Result, which here never fails.
 #![tactic(auto)]
 
 ghost use Rattle.std.specs.Prelude.{◌≡◌, cond, true, Bool, ℕ, ◌%◌, ◌/◌, ◌<◌, ◌≤◌, max, min, get_or};
@@ -45,7 +45,7 @@ impl<'a> PairDues<'a> {
 // The set of all 24 types.
 pub const ALL_TYPES: u32 = 0xFF_FFFF;
 
-// x where the test holds, else y. As a function, it leaves an expression that has several of them one path in the proof.
+// x where the test holds, else y. As a function, it keeps an expression that has several of them on one path in the proof.
 pub fn pick<T: Copy>(b: bool, x: T, y: T) -> T
     ensures { result ≡ cond b x y }
 {
@@ -71,8 +71,8 @@ pub fn is_inside(a: u32, b: u32) -> bool
 // ---- values
 
 // What is asked for by a declaration with value type v besides, where e was asked before: 0 for no value, 1 + v for one of value type v,
-// 255 where declarations disagree. These are the numbers of the definition `due`, which rules 3 and 4 by types compare (`1 + v`, 255) in one
-// sentence each; an enum would part every one of them in cases.
+// 255 where declarations disagree. These are the numbers of the definition `due`, which rules 3 and 4 by types compare (`1 + v`, 255) in
+// one sentence each; an enum would part every one of them in cases.
 fn join_due(e: u8, v: u8) -> u8
     requires { v < 255 }
     ensures { result ≡ joined e v }
@@ -92,7 +92,7 @@ struct Declared<'a> {
     attributes: &'a Attributes,
     slots: &'a [u8; 32],
     // Value types are few.
-    ghost few: { (a : ℕ) → a < attributes.now.count → get_or attributes.now.types a 0 < 255 },
+    ghost bounds: { (a : ℕ) → a < attributes.now.count → get_or attributes.now.types a 0 < 255 },
 }
 
 impl Declared<'_> {
@@ -104,8 +104,8 @@ impl Declared<'_> {
         is_in(set, laws::byte(&self.attributes.owners, a)) & (laws::byte(slots, a) == s)
     }
 
-    // What the attributes ask of the value in slot s of an object whose type has this set. A loop: a fold would need a branch that gives e
-    // back for the attributes that do not declare it.
+    // What the attributes ask of the value in slot s of an object whose type has this set. A loop: no law stands in `laws` for a fold
+    // behind a `filter`, and without one a branch would give e back.
     fn due(&self, set: u32, s: u8) -> u8
         ensures { result ≡ due_in set self.now.attributes.now.owners self.now.attributes.now.types self.now.slots.now s self.now.attributes.now.count }
     {
@@ -168,7 +168,8 @@ pub fn subtypes_of(sets: &[u32; 24], x: u8) -> u32
     laws::mask_of(24, |u| is_subtype(sets, x, u))
 }
 
-// For each type of d the type of e with the same name, or their number: the entries are compared with it, and nothing else is made of them.
+// For each type of d the type of e with the same name, or their number, as `fields::places` gives it: `sheets::single_missing` asks for the
+// place of that number, the others compare with it.
 pub fn type_places(d: &ReadDiagram, e: &ReadDiagram) -> [u8; 24]
     ensures { TypePlaces (diagram_of d.now.stored) (diagram_of e.now.stored) result }
 {

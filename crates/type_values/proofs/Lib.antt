@@ -5,7 +5,6 @@ pub mod LegalLaws
 pub mod GoodLaws
 pub mod SharedLaws
 pub mod KeptLaws
-pub mod WayLaws
 pub mod StoredLaws
 pub mod TranslatedLaws
 pub mod ChosenLaws

@@ -10,7 +10,7 @@ use borrow.Author.Tests.{lt-ltb, ltb-true, ne_eqb}
 use Rattle.laws.specs.Bounded.{any}
 use Rattle.laws.specs.Connective.{both, imp}
 use Rattle.laws.proofs.BoundedLaws.{all-ext, all_of, any_at, any-ext, any_none}
-use Rattle.laws.proofs.ConnectiveLaws.{both_right, known}
+use Rattle.laws.proofs.ConnectiveLaws.{both-chain, both_right, known}
 use Rattle.files.specs.Ancestor.{reaches}
 use Rattle.files.specs.Diagram.{Diagram, attribute_at, is_concrete, type_at, value_type_at}
 use Rattle.files.specs.Name.{Name, key}
@@ -27,11 +27,6 @@ use Rattle.type_values.specs.Bad.{alone}
 use Rattle.type_values.specs.Named.{due_named, fits_due}
 use Rattle.type_values.proofs.AloneLaws.{alone-typed, declares-alone}
 use Rattle.type_values.proofs.JoinedLaws.{Due, due-declared, due-fits, due-known}
-
-pub grouped : (a b c : Bool) → both (both a b) c ≡ both a (both b c)
-unfolding both
-grouped true b c = refl
-grouped false b c = refl
 
 -- names of one key: the same is due
 pub named-alike : (d : Diagram) (type v w : Name) → key v ≡ key w → due_named d type v ≡ due_named d type w
@@ -64,7 +59,7 @@ module _ (d : Diagram) (wf : WfDiagram d) (name : Name) where
   declares-named : (a : ℕ) (w : Name) → a < length d.attributes → declares d (alone name) 0 a w ≡ both (ltb type count) (declares_for d type (attribute_slot d w) a)
   unfolding declares declares_for is_instance
   declares-named a w l =
-      ap₂ both (any-named (λ i. reaches d i (attribute_at d a).owner)) (attribute-same d a w l) ∙ grouped (ltb type count) _ _
+      ap₂ both (any-named (λ i. reaches d i (attribute_at d a).owner)) (attribute-same d a w l) ∙ sym (both-chain (ltb type count) _ _)
 
   -- the name has a type, or it has none
   declares-known : type < count → (a : ℕ) (w : Name) → a < length d.attributes → declares d (alone name) 0 a w ≡ declares_for d type (attribute_slot d w) a

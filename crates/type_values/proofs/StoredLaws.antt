@@ -186,3 +186,7 @@ module _ (old new : StoredDiagram) (held : Held new) where
         f s (subst (λ (i : ℕ). s < i) (sym e) k) ∙ ap₂ (λ (i : ℕ) (w : Name). slot_of new.attributes.names i w) q (sym (attribute-named old s k))
         ∙ sym (attribute-slot new (attribute_at (diagram_of old) s).name);
   }
+
+pub ruleset places = (attributes-placed, same-types-are)
+
+pub ruleset lackings = (lackings-are, size_small)

@@ -13,7 +13,7 @@ use Rattle.laws.specs.Bits.{Marks}
 use Rattle.laws.specs.Bounded.{all}
 use Rattle.laws.specs.Connective.{both, either, imp}
 use Rattle.laws.proofs.BoundedLaws.{all-ext}
-use Rattle.laws.proofs.ConnectiveLaws.{known}
+use Rattle.laws.proofs.ConnectiveLaws.{both-chain, known}
 use Rattle.laws.proofs.SearchLaws.{both-no}
 use Rattle.files.specs.Diagram.{Diagram, attribute_at, is_concrete, type_at}
 use Rattle.files.specs.Name.{Name}
@@ -34,7 +34,7 @@ use Rattle.type_values.specs.Numbers.{due_by, good_in, kept_in, slot_asked_in, s
 use Rattle.type_values.specs.Tables.{Lackings, SameTypes, Translated}
 use Rattle.type_values.proofs.JoinedLaws.{due-known}
 use Rattle.type_values.proofs.KeptLaws.{slots-are}
-use Rattle.type_values.proofs.NamedLaws.{grouped, named-known, named-slot, rule1-named}
+use Rattle.type_values.proofs.NamedLaws.{named-known, named-slot, rule1-named}
 
 -- what is due for a name, by its place
 due-by-name : (d : Diagram) → WfDiagram d → (dues : List ℕ) → Dues d dues → (name w : Name) (u s : ℕ) → u ≡ type_index d name → u < length d.types → s ≡ attribute_slot d w
@@ -133,7 +133,7 @@ module _ (old new : Diagram) (wold : WfDiagram old) (wnew : WfDiagram new) (kind
     good-named =
         ⊎_elim (λ l. ap (both (ltb u (length new.types))) (ap₂ both (concrete-in (ltb-true _ _ l)) (slots-in (ltb-true _ _ l)))) (λ l. sym (both-no _ l) ∙ both-no _ l)
         (known (ltb u (length new.types)))
-        ∙ sym (grouped (ltb u (length new.types)) (is_concrete (type_at new u)) _)
+        ∙ both-chain (ltb u (length new.types)) (is_concrete (type_at new u)) _
         ∙ ap (λ (b : Bool). both b (both (names_kept old new t) (codes_kept old new t))) (sym (rule1-named new wnew name))
 
     pub good-is : (count : ℕ) → count ≡ length new.types → not (good_in kinds count index olds news slots back types firsts m n t) ≡ bad_by old new t

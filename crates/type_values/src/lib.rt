@@ -35,6 +35,7 @@ struct Constants<'a> {
 
 impl Constants<'_> {
     // A value with the constant w belongs to value type v, if they have one name.
+    #[tactic(auto, unfolding(laws::specs::Connective::both, laws::specs::Connective::either, crate::specs::Numbers::shared_in))]
     fn is_shared(&self, v: u8, w: &[u8]) -> bool
         ensures { result ≡ shared_in self.now.values.now.sizes self.now.values.now.constants self.now.values.now.count v w.now }
     {
@@ -47,7 +48,9 @@ impl Constants<'_> {
         has_constant(&values.constants, v, size, w) | ((size == 0) & w.is_empty())
     }
 
-    // Constant c of value type v does not belong to value type j of these.
+    // Constant c of value type v does not belong to value type j of these. `constants` and `size` are those of value type v, one by one as
+    // `lacking_in` has them.
+    #[tactic(auto, unfolding(laws::specs::Connective::both, crate::specs::Numbers::lacking_in))]
     fn is_lacking(&self, constants: &[u8], size: u8, j: u8, v: u8, c: u8) -> bool
         requires { (v < 12) × (c < 8) }
         ensures { result ≡ lacking_in constants.now size self.now.values.now.sizes self.now.values.now.constants self.now.values.now.count j v c }
@@ -83,6 +86,7 @@ impl Constants<'_> {
 // ---- slots
 
 // What is due by type t in slot s, one of n, else nothing.
+#[tactic(auto, unfolding(crate::specs::Numbers::due_by))]
 fn due_by(dues: &[u8; 768], t: u8, n: u8, s: u8) -> u8
     ensures { result ≡ due_by dues.now t n s }
 {
@@ -112,7 +116,8 @@ struct Translation<'a> {
 }
 
 impl Translation<'_> {
-    // The one diagram asks for e, the other for f: it allows what the one allows.
+    // The one diagram asks for e, the other for f, numbers as `type_tables::join_due` has them: it allows what the one allows.
+    #[tactic(auto, unfolding(laws::specs::Connective::both, laws::specs::Connective::either, crate::specs::Numbers::kept_in))]
     fn keeps(&self, e: u8, f: u8) -> bool
         ensures { result ≡ kept_in self.now.types self.now.firsts e f }
     {
@@ -127,6 +132,7 @@ impl Translation<'_> {
     }
 
     // What type t of the one asks for in slot s type u of the other keeps.
+    #[tactic(auto, unfolding(crate::specs::Numbers::slot_kept_in))]
     fn keeps_slot(&self, t: u8, u: u8, s: u8) -> bool
         ensures { result ≡ slot_kept_in self.now.old_dues.now self.now.new_dues.now self.now.slots self.now.types self.now.firsts t u self.now.n s }
     {
@@ -143,6 +149,7 @@ impl Translation<'_> {
     }
 
     // What type u of the other asks for in slot s type t of the one asks for.
+    #[tactic(auto, unfolding(laws::specs::Connective::either, crate::specs::Numbers::slot_asked_in))]
     fn asks_slot(&self, t: u8, u: u8, s: u8) -> bool
         ensures { result ≡ slot_asked_in self.now.old_dues.now self.now.new_dues.now self.now.back t u self.now.m s }
     {
@@ -171,6 +178,7 @@ impl Translation<'_> {
     }
 
     // Type t of the one diagram, with the name of a type of the other, keeps rules 1, 3 and 4 of the other.
+    #[tactic(auto, unfolding(laws::specs::Connective::both, laws::specs::Connective::either, crate::specs::Numbers::good_in))]
     fn is_good(&self, t: u8) -> bool
         ensures { result ≡ good_in self.now.others.now.kinds self.now.others.now.count self.now.index self.now.old_dues.now self.now.new_dues.now self.now.slots self.now.back self.now.types self.now.firsts self.now.m self.now.n t }
     {
@@ -183,9 +191,11 @@ impl Translation<'_> {
 
 // ---- types
 
-// Two functions of one line, since each has a contract of its own: what the numbers are, by the definitions of the diagrams.
+// Two functions with one call each, since each has a contract of its own: what the numbers are, by the definitions of the diagrams. Where
+// there is none an entry is their number, as `fields::places` gives it; what reads it is total or tests it.
 
 // For each value type of old new's value type of the same name, or their number.
+#[tactic(auto, using(crate::proofs::StoredLaws::places))]
 fn same_types(by: &Pair) -> [u8; 32]
     ensures { SameTypes (old_of by.now) (new_of by.now) result }
 {
@@ -195,6 +205,7 @@ fn same_types(by: &Pair) -> [u8; 32]
 }
 
 // For each attribute of old new's slot of the same name, or the number of its attributes.
+#[tactic(auto, using(crate::proofs::StoredLaws::places))]
 fn attribute_places(by: &Pair) -> [u8; 32]
     ensures { AttributePlaces (old_of by.now) (new_of by.now) result }
 {
@@ -204,6 +215,7 @@ fn attribute_places(by: &Pair) -> [u8; 32]
 }
 
 // For each value type of old the first of its values that new does not have, or 8.
+#[tactic(auto, using(crate::proofs::StoredLaws::lackings))]
 fn lacking_values(by: &Pair, types: &[u8; 32]) -> [u8; 12]
     requires { SameTypes (old_of by.now) (new_of by.now) types.now }
     ensures { Lackings (old_of by.now) (new_of by.now) result }
@@ -253,6 +265,7 @@ fn chosen_constant(first: u8) -> u8
 }
 
 // The value where e is asked for, 0 where there is none.
+#[tactic(auto, unfolding(laws::specs::Connective::both, crate::specs::Numbers::chosen_in))]
 fn chosen_value(firsts: &[u8; 12], e: u8) -> u8
     ensures { result ≡ chosen_in firsts.now e }
 {
@@ -267,6 +280,7 @@ fn chosen_value(firsts: &[u8; 12], e: u8) -> u8
 }
 
 // The value of object x / 32 in slot x % 32, where n objects have these types.
+#[tactic(auto, unfolding(crate::specs::Numbers::value_at_in))]
 fn value_at(dues: &[u8; 768], firsts: &[u8; 12], types: &[u8; 8], n: u8, x: usize) -> u8
     requires { x < 256 }
     ensures { result ≡ value_at_in dues.now firsts.now types.now n x }
@@ -301,7 +315,7 @@ pub fn with_values(by: &PairDues, site: worlds::Site, n: u8) -> records::MemoryR
         types,
         values,
         links,
-        // Both by name, as in `records::empty_record`: what the record does not have.
+        // Both by name, as `Filled` has them.
         strays: records::Strays {
             values: false,
             links: false,

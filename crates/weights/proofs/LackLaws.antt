@@ -50,16 +50,6 @@ one-most : (p q : ℕ) (a b : Bool) → p ≤ q → (a ≡ true → b ≡ true) 
 one-most p q false b l f = omega arith
 one-most p q true b l f = subst (λ (x : Bool). p * 1 ≤ q * one x) (sym (f refl)) (omega arith)
 
-pub gained-more : (p : Gain) (t x y g most : ℕ) {i : ℕ} → i ≡ t → ((j : ℕ) → bit j g ≡ bit j p.g || eqb j i) → most ≡ max p.most (y - x) → x < y
-    → Gained p (record { g = g; most = most }) t x y
-gained-more p t x y g most q with-bit' m l =
-    let with-bit : (j : ℕ) → bit j g ≡ bit j p.g || eqb j t = λ j. with-bit' j ∙ ap (λ (k : ℕ). bit j p.g || eqb j k) q in
-    record {
-      most = omega arith;
-      kept = λ u h. with-bit u ∙ or_left (bit u p.g) (eqb u t) h;
-      new = subst (λ (b : Bool). y ≤ x + most * one b) (sym (with-bit t ∙ or_right (bit t p.g) (eqb t t) (eq-eqb t t refl))) (omega arith);
-    }
-
 module _ (a b : ℕ → ℕ) (free : ℕ) where
   pub gains-begin : (r : Gain) → Gains a b free 0 r
   gains-begin r = record { at = λ t l. absurd (omega arith) }

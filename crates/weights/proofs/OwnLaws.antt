@@ -20,7 +20,7 @@ use Rattle.worlds.specs.declared.Query.{Query}
 use Rattle.worlds.specs.Asked.{Satisfies, source_asked}
 use Rattle.weights.specs.declared.Own.{Own}
 use Rattle.weights.specs.Numbers.{in_mask}
-use Rattle.weights.specs.Scales.{column_least, column_most, own_in, own_of, row_least, row_most}
+use Rattle.weights.specs.Scales.{column_least, column_most, own_in, own_of, parts_scale, row_least, row_most, whole_scale}
 use Rattle.weights.proofs.NumberLaws.{in_meet}
 
 -- a number is not above what is chosen by a test where it is not above either
@@ -33,13 +33,12 @@ pub own-by : {P : Own → Type 0} (g : Option Own → ℕ) (o : Option Own) {r :
 own-by g None e f = e
 own-by g (Some a) e f = f a e
 
--- what is asked is asked in a role slot
-pub own-small : (q : Query) → q.row.slot < 32 → IfSome (own_of q) (λ a. a.row.slot < 32)
-own-small q l = go (ltb 0 q.seeds)
-  where
-    go : (b : Bool) → IfSome (then_some b (own_in q)) (λ a. a.row.slot < 32)
-    go true = l
-    go false = tt
+-- likewise of the pair that the scale of wholes is made of
+pub whole-by : {P : Own → Type 0} (from to : ℕ) (o : Option Own) (r : ℕ × ℕ) → MatchOption o (r ≡ (0, 0)) P → ((a : Own) → P a → r ≡ (a.row.slot, a.row.low))
+    → parts_scale r.0 r.1 from to ≡ whole_scale o from to
+unfolding whole_scale
+whole-by from to None r e f = ap (λ (k : ℕ × ℕ). parts_scale k.0 k.1 from to) e
+whole-by from to (Some a) r e f = ap (λ (k : ℕ × ℕ). parts_scale k.0 k.1 from to) (f a e)
 
 module _ (q : Query) (w : World) (asked : Satisfies q w) where
   -- what holds of a query with seeds and of nothing asked holds of what is asked

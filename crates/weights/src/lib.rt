@@ -14,7 +14,7 @@ ghost use Rattle.weights.specs.Weigh.{Gained, Gains, Lacks, Short};
 use laws::Mask;
 use worlds::{Column, ColumnLimits, Mirror, Query, RowLimits, Tables, Types, Whole};
 
-// At least c of the further objects, and not none, have types of the mask g.
+// At least c of the further objects, where c is not 0, have types of the mask g.
 #[derive(Clone, Copy)]
 pub struct Shortage {
     pub g: u32,
@@ -133,8 +133,8 @@ fn limit_at(w: Weight, o: u8) -> u8
     type_tables::pick(o == 0, w.first, w.limit)
 }
 
-// The numbers of the first k objects together. The objects come as `types` and `k`, here and below: a struct of the two would be made for
-// each call of `weigh`, to be taken apart here. A loop, whose invariant bounds the sum that the next number is added to.
+// The numbers of the first k objects together. The objects come as `types` and `k`, here and below: the struct of the two,
+// `demands::Start`, stands above this crate. A loop, whose invariant bounds the sum that the next number is added to.
 fn total(tables: &Tables, w: Weight, types: Types, k: u8) -> u16
     requires { (k ≤ 8) × (w.slot < 32) }
     ensures { (result ≡ sum (λ o. number_at tables.now.targets tables.now.lows tables.now.highs tables.now.lines.wholes w o (get_or types.at o 0)) k) × (result ≤ 2040) }
@@ -163,7 +163,8 @@ fn added(gain: Gain, t: u8, x: u8, y: u8) -> Gain
     }
 }
 
-// The types of the mask `free` for which b's number is above a's, and by how much at most.
+// The types of the mask `free` for which b's number is above a's, and by how much at most. A loop, as no law stands in `laws` for a fold
+// behind a `filter`.
 fn gains(tables: &Tables, x: Scale, free: u32) -> Gain
     requires { (x.a.slot < 32) × (x.b.slot < 32) }
     ensures { Gains (number_by tables.now.targets tables.now.lows tables.now.highs tables.now.lines.wholes x.a x.a.limit) (number_by tables.now.targets tables.now.lows tables.now.highs tables.now.lines.wholes x.b x.b.limit) free 24 result }
@@ -181,7 +182,8 @@ fn gains(tables: &Tables, x: Scale, free: u32) -> Gain
     gain
 }
 
-// How many times `most` must be added to y so that it is not below x: 9 stands for all numbers above 8, as no world has so many objects.
+// How many times `most` must be added to y so that it is not below x: 9 stands for all numbers above 8, as no world has so many objects. A
+// loop that adds `most` once a turn: a `find` would multiply two variables, whose product has to be bounded.
 fn times(x: u16, y: u16, most: u8) -> u8
     requires { (y < x) × (y ≤ 2040) }
     ensures { (0 < result) × ((e : ℕ) → e < result → y + most * e < x) }
@@ -339,10 +341,7 @@ fn mirror_scale(own: Option<Own>, mirror: Mirror, may: u32) -> Scale
 fn whole_scale(own: Option<Own>, from: u32, to: u32) -> Scale
     ensures { result ≡ whole_scale own from to }
 {
-    let (slot, first) = match own {
-        Some(a) => (a.row.slot, a.row.low),
-        None => (0, 0),
-    };
+    let (slot, first) = own.map_or((0, 0), |a| (a.row.slot, a.row.low));
     Scale {
         a: Weight {
             count: Count::Parts,
@@ -361,7 +360,7 @@ fn whole_scale(own: Option<Own>, from: u32, to: u32) -> Scale
     }
 }
 
-// The types of all wholes, and of all parts: both by one walk over the lines.
+// The types of all wholes, and of all parts: both by one loop over the lines.
 fn joined(wholes: &[Whole; 16]) -> (u32, u32)
     ensures { (j t : ℕ) → j < 16 → bit t (get_or wholes.now j zero_whole).to ≡ true → bit t result.1 ≡ true }
 {
@@ -412,15 +411,15 @@ fn scale_of(tables: &Tables, own: Option<Own>, t: u8, way: Way, j: usize) -> Sca
 // What the first k objects of the given types lack, counted in one way by line j, of which only the remainder by 16 counts.
 pub fn weigh(
     tables: &Tables,
-    q: Query,
+    q: &Query,
     types: Types,
     k: u8,
     free: u32,
     way: Way,
     j: usize,
 ) -> Option<Shortage>
-    requires { Sane q × (q.seeds ≤ k) × (k ≤ 8) }
-    ensures { Short tables.now.targets tables.now.lows tables.now.highs tables.now.lines q types.at k free result }
+    requires { Sane q.now × (q.now.seeds ≤ k) × (k ≤ 8) }
+    ensures { Short tables.now.targets tables.now.lows tables.now.highs tables.now.lines q.now types.at k free result }
 {
     if k == 0 {
         return None;

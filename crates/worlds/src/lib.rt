@@ -21,9 +21,9 @@ pub struct ColumnLimits {
     pub most: u8,
 }
 
-// A question about the sites that one diagram allows. Its seeds are the first objects. It is built one demand after the other, and is `Sane`
-// when it is whole: a struct around a whole one would be taken off at each read of a field (`q.seeds`, `q.row`), so that the contracts of
-// the search ask `Sane q`.
+// A question about the sites that one diagram allows. Its seeds are the first objects. It is built one demand after the other, and is
+// `Sane` when it is whole. `growth::Wanted` and `leaves::Objects` hold that beside it; the functions between get a query alone, or its rows
+// and limits, and ask what they need of `Sane q`.
 #[derive(Clone, Copy)]
 pub struct Query {
     // How many objects are asked for, and of which types each may be, one bit for each type.
@@ -67,8 +67,8 @@ pub struct Whole {
     pub to: u32,
 }
 
-// What a diagram asks by associations, in sets of types. Of an association that does not ask, the sets are empty and the slot is 0. That the
-// slots are role slots is not said here: it is known of the lines of the diagram whose sites are searched, and not asked of others.
+// What a diagram asks by associations, in sets of types. Of an association that does not ask, the sets are empty and the slot is 0. That
+// the slots are role slots is not said here: it is known of the lines of the diagram whose sites are searched, and not asked of others.
 #[derive(Clone, Copy)]
 pub struct Lines {
     pub columns: [Column; 16],
@@ -76,8 +76,9 @@ pub struct Lines {
     pub wholes: [Whole; 16],
 }
 
-// What the diagram whose sites are searched says of their objects, by types and role slots. The tables of rows are three fields, here and in
-// `Others`, and no struct of three: `relaxing` asks with the targets and the highs of a diagram and other lows.
+// What the diagram whose sites are searched says of their objects, by types and role slots. The tables of rows are three fields here and in
+// `Others`; `sheets::Rows`, which has the three, ends where these are made: `narrowing` changes the targets alone, and `relaxing` asks with
+// other lows.
 #[derive(Clone, Copy)]
 pub struct Tables {
     // For type t and role slot s at t * 32 + s: the types of the targets that an object may have and of the sources, and the limits for

@@ -21,33 +21,33 @@ pub returns-then-is_bad_bit : goal.returns-then-is_bad_bit
 returns-then-is_bad_bit c =
     let a = c.args in
     let x = sheet_of a.tables.now in
-    λ _. nowhere-by x a.q a.n a.types.at a.q.never (λ w. BitsKept a.q.must a.q.shut w × TargetsKept a.tables.now.targets w)
-    (λ w s. (bits-kept x a.q a.n w s, record { at = s.allowed.rows.allowed })) (c.is_bad_bit.ensures c.if-is_bad_bit.true)
+    λ _. nowhere-by x a.q.now a.n a.types.at a.q.now.never (λ w. BitsKept a.q.now.must a.q.now.shut w × TargetsKept a.tables.now.targets w)
+    (λ w s. (bits-kept x a.q.now a.n w s, record { at = s.allowed.rows.allowed })) (c.is_bad_bit.ensures c.if-is_bad_bit.true)
 
 pub returns-then-is_bad_turn : goal.returns-then-is_bad_turn
 returns-then-is_bad_turn c =
     let a = c.args in
     let x = sheet_of a.tables.now in
-    λ _. nowhere-by x a.q a.n a.types.at a.q.never (λ w. BitsKept a.q.must a.q.shut w × MirrorsKept a.tables.now.lines w)
-    (λ w s. (bits-kept x a.q a.n w s, s.allowed.mirrors)) (c.is_bad_turn.ensures c.if-is_bad_turn.true)
+    λ _. nowhere-by x a.q.now a.n a.types.at a.q.now.never (λ w. BitsKept a.q.now.must a.q.now.shut w × MirrorsKept a.tables.now.lines w)
+    (λ w s. (bits-kept x a.q.now a.n w s, s.allowed.mirrors)) (c.is_bad_turn.ensures c.if-is_bad_turn.true)
 
 pub returns-then-is_bad_part : goal.returns-then-is_bad_part
 returns-then-is_bad_part c =
     let a = c.args in
     let x = sheet_of a.tables.now in
-    λ _. nowhere-by x a.q a.n a.types.at a.q.never (λ w. BitsKept a.q.must a.q.shut w × WholesKept a.tables.now.lines w)
-    (λ w s. (bits-kept x a.q a.n w s, s.allowed.wholes)) (c.is_bad_part.ensures c.if-is_bad_part.true)
+    λ _. nowhere-by x a.q.now a.n a.types.at a.q.now.never (λ w. BitsKept a.q.now.must a.q.now.shut w × WholesKept a.tables.now.lines w)
+    (λ w s. (bits-kept x a.q.now a.n w s, s.allowed.wholes)) (c.is_bad_part.ensures c.if-is_bad_part.true)
 
 pub returns-then-is_bad_first_part : goal.returns-then-is_bad_first_part
 returns-then-is_bad_first_part c =
     let a = c.args in
     let x = sheet_of a.tables.now in
     -- there is a first seed
-    let seeded : 0 < a.q.seeds = (let z : a.q.seeds ≡ 0 → ⊥ = c.if-q-eq0.false in omega arith) in
-    λ _. nowhere-by x a.q a.n a.types.at a.q.never
-    (λ w. (RowsKept a.tables.now.targets a.tables.now.lows a.tables.now.highs w × InLimits a.q.row.low a.q.row.high (target_count w a.q.row.slot 0)) × (MirrorsKept a.tables.now.lines w × WholesKept a.tables.now.lines w))
+    let seeded : 0 < a.q.now.seeds = (let z : a.q.now.seeds ≡ 0 → ⊥ = c.if-q-eq0.false in omega arith) in
+    λ _. nowhere-by x a.q.now a.n a.types.at a.q.now.never
+    (λ w. (RowsKept a.tables.now.targets a.tables.now.lows a.tables.now.highs w × InLimits a.q.now.row.low a.q.now.row.high (target_count w a.q.now.row.slot 0)) × (MirrorsKept a.tables.now.lines w × WholesKept a.tables.now.lines w))
     (λ w s. ((s.allowed.rows, s.asked.row seeded), (s.allowed.mirrors, s.allowed.wholes)))
-    (c.is_bad_first_part.ensures c.if-is_bad_first_part.true a.tables.now.lows a.tables.now.highs a.q.seeds seeded)
+    (c.is_bad_first_part.ensures c.if-is_bad_first_part.true a.tables.now.lows a.tables.now.highs a.q.now.seeds seeded)
 
 pub is_bad_first_back-requires : goal.is_bad_first_back-requires
 is_bad_first_back-requires c = c.requires.0.row
@@ -57,11 +57,11 @@ returns-then-is_bad_first_back c =
     let a = c.args in
     let x = sheet_of a.tables.now in
     -- there is a first seed
-    let seeded : 0 < a.q.seeds = (let z : a.q.seeds ≡ 0 → ⊥ = c.if-q-eq0.false in omega arith) in
-    λ _. nowhere-by x a.q a.n a.types.at a.q.never
-    (λ w. (RowsKept a.tables.now.targets a.tables.now.lows a.tables.now.highs w × InLimits a.q.row.low a.q.row.high (target_count w a.q.row.slot 0)) × (SourcesKept a.tables.now.sources w × ColumnsKept a.tables.now.lines w × MirrorsKept a.tables.now.lines w))
-    (λ w s. ((s.allowed.rows, s.asked.row seeded), (sources-kept x a.q a.n a.tables.now.sources c.args.tables.now.turned w s, s.allowed.columns, s.allowed.mirrors)))
-    (c.is_bad_first_back.ensures c.if-is_bad_first_back.true a.tables.now.lows a.tables.now.highs a.q.seeds seeded)
+    let seeded : 0 < a.q.now.seeds = (let z : a.q.now.seeds ≡ 0 → ⊥ = c.if-q-eq0.false in omega arith) in
+    λ _. nowhere-by x a.q.now a.n a.types.at a.q.now.never
+    (λ w. (RowsKept a.tables.now.targets a.tables.now.lows a.tables.now.highs w × InLimits a.q.now.row.low a.q.now.row.high (target_count w a.q.now.row.slot 0)) × (SourcesKept a.tables.now.sources w × ColumnsKept a.tables.now.lines w × MirrorsKept a.tables.now.lines w))
+    (λ w s. ((s.allowed.rows, s.asked.row seeded), (sources-kept x a.q.now a.n a.tables.now.sources c.args.tables.now.turned w s, s.allowed.columns, s.allowed.mirrors)))
+    (c.is_bad_first_back.ensures c.if-is_bad_first_back.true a.tables.now.lows a.tables.now.highs a.q.now.seeds seeded)
 
 pub is_bad_first_row-requires : goal.is_bad_first_row-requires
 is_bad_first_row-requires c = c.requires.0.row
@@ -71,9 +71,9 @@ returns-then-is_bad_first_row c =
     let a = c.args in
     let x = sheet_of a.tables.now in
     -- there is a first seed
-    let seeded : 0 < a.q.seeds = (let z : a.q.seeds ≡ 0 → ⊥ = c.if-q-eq0.false in omega arith) in
-    λ _. nowhere-by x a.q a.n a.types.at a.q.never (λ w. RowsKept a.tables.now.targets a.tables.now.lows a.tables.now.highs w × InLimits a.q.row.low a.q.row.high (target_count w a.q.row.slot 0))
-    (λ w s. (s.allowed.rows, s.asked.row seeded)) (c.is_bad_first_row.ensures c.if-is_bad_first_row.true a.tables.now.targets a.q.seeds seeded)
+    let seeded : 0 < a.q.now.seeds = (let z : a.q.now.seeds ≡ 0 → ⊥ = c.if-q-eq0.false in omega arith) in
+    λ _. nowhere-by x a.q.now a.n a.types.at a.q.now.never (λ w. RowsKept a.tables.now.targets a.tables.now.lows a.tables.now.highs w × InLimits a.q.now.row.low a.q.now.row.high (target_count w a.q.now.row.slot 0))
+    (λ w s. (s.allowed.rows, s.asked.row seeded)) (c.is_bad_first_row.ensures c.if-is_bad_first_row.true a.tables.now.targets a.q.now.seeds seeded)
 
 pub is_bad_first_column-requires : goal.is_bad_first_column-requires
 is_bad_first_column-requires c = c.requires.0.column
@@ -83,6 +83,6 @@ returns c =
     let a = c.args in
     let x = sheet_of a.tables.now in
     -- there is a first seed
-    let seeded : 0 < a.q.seeds = (let z : a.q.seeds ≡ 0 → ⊥ = c.if-q-eq0.false in omega arith) in
-    λ t. nowhere-by x a.q a.n a.types.at a.q.never (FirstColumn a.tables.now.targets a.tables.now.sources a.tables.now.lows a.tables.now.highs a.tables.now.lines a.q.column.slot a.q.column.from a.q.column.least a.q.column.most)
-    (first-column x a.q a.n a.tables.now.sources c.args.tables.now.turned seeded) (c.is_bad_first_column.ensures t a.q.seeds seeded)
+    let seeded : 0 < a.q.now.seeds = (let z : a.q.now.seeds ≡ 0 → ⊥ = c.if-q-eq0.false in omega arith) in
+    λ t. nowhere-by x a.q.now a.n a.types.at a.q.now.never (FirstColumn a.tables.now.targets a.tables.now.sources a.tables.now.lows a.tables.now.highs a.tables.now.lines a.q.now.column.slot a.q.now.column.from a.q.now.column.least a.q.now.column.most)
+    (first-column x a.q.now a.n a.tables.now.sources c.args.tables.now.turned seeded) (c.is_bad_first_column.ensures t a.q.now.seeds seeded)

@@ -6,7 +6,7 @@ pub loop-n-init : goal.loop-n-init
 loop-n-init c = none_first
 
 pub returns-in-Some : goal.returns-in-Some
-returns-in-Some c = sought c.loop-n.invariant _ c.loop-n-test.true c.in-Some.ensures
+returns-in-Some c = sought c.loop-n.invariant c.args.most (omega arith) c.in-Some.ensures
 
 pub loop-n-preserved : goal.loop-n-preserved
 loop-n-preserved c = none-next c.loop-n.invariant c.in_default.ensures

@@ -1,7 +1,6 @@
 -- `find` meets its contract: with no object given, every wanted world starts with what is given.
 -- Assumes nothing.
 use mathlib.Core.Path.{refl}
-use native.Mathlib.Omega.{arith}
 use Rattle.growth.proofs.SeedLaws.{answers-few, answers-grown}
 use Rattle.growth.proofs.find.Goals as goal
 

@@ -1,6 +1,7 @@
 use Rattle.std.proofs.Common.{leb, length}
 use Rattle.layouts.proofs.NamesLaws.{value-type-laid-is}
-use Rattle.layouts.proofs.ChainLaws.{and-chain-4, both-chain}
+use Rattle.laws.proofs.ConnectiveLaws.{both-chain}
+use Rattle.layouts.proofs.ChainLaws.{and-chain-4}
 use Rattle.layouts.proofs.value_type_laid.Goals as goal
 
 pub returns : goal.returns

@@ -2,7 +2,7 @@ use mathlib.Core.Path.{ap, ◌∙◌}
 use Rattle.rules.specs.Arrow.{within}
 use Rattle.laws.proofs.SearchLaws.{both-no, both_yes, is-no, is-yes}
 use Rattle.masks.specs.Masks.{limits_of, row_fits}
-use Rattle.masks.proofs.MaskRuleLaws.{inside-test}
+use Rattle.laws.proofs.BitLaws.{inside-test}
 use borrow.Author.Rules.{rules}
 use Rattle.masks.proofs.row_fits.Goals as goal
 

@@ -10,9 +10,9 @@ pub returns-then-not-value_type_laid : goal.returns-then-not-value_type_laid
 unfolding value_type_refusal
 returns-then-not-value_type_laid c = search (numbers, value-types-room) depth 14 fits 20000
 
-pub returns-then-is_named : goal.returns-then-is_named
+pub returns-then-is_among : goal.returns-then-is_among
 unfolding value_type_refusal
-returns-then-is_named c = search (numbers, value-types-room, value-type-named) depth 14 fits 20000
+returns-then-is_among c = search (numbers, value-types-room, value-type-named) depth 14 fits 20000
 
 pub returns-then-not-constants_differ : goal.returns-then-not-constants_differ
 unfolding value_type_refusal

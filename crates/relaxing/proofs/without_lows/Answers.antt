@@ -6,7 +6,6 @@ use mathlib.Core.List.{List, map}
 use mathlib.Core.Path.{◌≡◌, ◌∙◌, ap, subst, sym}
 use lib.ListN.{get_or, get_or-map, length, length-map}
 use Rattle.worlds.specs.declared.Column.{Column}
-use Rattle.worlds.specs.declared.Lines.{Lines}
 use Rattle.worlds.specs.Lined.{zero_column}
 use Rattle.relaxing.specs.Relaxed.{unforced_column}
 use Rattle.relaxing.proofs.SameLaws.{same-lists}

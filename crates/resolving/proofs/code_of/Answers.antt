@@ -10,8 +10,7 @@ use Rattle.resolving.proofs.code_of.Goals as goal
 
 pub returns : goal.returns
 returns c =
-    let v = c.args.v.now in
-    let p = is_code_in v.names v.sizes v.constants v.count c.args.t.now c.args.c.now in
+    let p = is_code_in c.args.names.now c.args.sizes.now c.args.constants.now c.args.n c.args.t.now c.args.c.now in
     let e : c.unwrap_or.result ≡ first p 96 =
     c.unwrap_or.ensures ∙ first-range p 96 c.find.result c.find.new.self c.find.ensures.ran refl (λ x b q k. search (rules, tests)) in
     (e, subst (λ (r : ℕ). r ≤ 96) (sym e) (first-le p 96))

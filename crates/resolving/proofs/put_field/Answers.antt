@@ -1,4 +1,4 @@
-use Rattle.resolving.proofs.TakeLaws.{Sized, count-takes, link-takes, object-takes, value-takes}
+use Rattle.resolving.proofs.TakeLaws.{count-takes, link-takes, object-takes, value-takes}
 use borrow.Author.Rules.{rules}
 use Rattle.resolving.proofs.put_field.Goals as goal
 
@@ -6,10 +6,10 @@ pub returns-in-96 : goal.returns-in-96
 returns-in-96 c = search (rules, count-takes)
 
 pub returns-in-97 : goal.returns-in-97
-returns-in-97 c = let z : Sized c.args.m = search rules in search (rules, object-takes)
+returns-in-97 c = search (rules, object-takes)
 
 pub returns-in-98 : goal.returns-in-98
-returns-in-98 c = let z : Sized c.args.m = search rules in search (rules, value-takes)
+returns-in-98 c = search (rules, value-takes)
 
 pub returns-in_default : goal.returns-in_default
-returns-in_default c = let z : Sized c.args.m = search rules in search (rules, link-takes) depth 8 fits 20000
+returns-in_default c = search (rules, link-takes) depth 8 fits 20000

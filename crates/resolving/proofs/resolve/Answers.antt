@@ -9,7 +9,7 @@ loop-field-init c = reads-begin c.empty_record-m.ensures
 
 pub loop-field-preserved : goal.loop-field-preserved
 loop-field-preserved c =
-    reads-next c.loop-field.invariant c.in-Ok-Some.field (rw c.in-Ok-Some.field-0-is at c.in-Ok-Some.ensures) c.put_field-m.ensures
+    reads-next c.loop-field.invariant c.in-Ok-Some.field (rw c.in-Ok-Some.field-0-is at c.in-Ok-Some.ensures) c.put_field.ensures
 
 pub returns-in_default : goal.returns-in_default
 returns-in_default c =

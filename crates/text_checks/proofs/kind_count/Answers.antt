@@ -1,4 +1,4 @@
-use Rattle.std.proofs.Common.{◌∙◌, ap, refl, rules}
+use Rattle.std.proofs.Common.{◌∙◌, ap, rules}
 use Rattle.laws.specs.Bounded.{tally}
 use Rattle.laws.proofs.RangeLaws.{count-range}
 use Rattle.text_parts.specs.Sort.{of_kind}

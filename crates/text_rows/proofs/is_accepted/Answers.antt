@@ -15,7 +15,7 @@ loop-token-preserved c =
     (c.in-Some.token.state.in_table, c.loop-token.invariant.1 ∙ accepted-next h c.is_name_state.ensures c.if-is_name_state-token.false)
 
 pub returns : goal.returns
-returns c = accepted-end _ c.loop-token.q.0 (rw c.in_default.is at c.next_token.ensures) ∙ sym c.loop-token.invariant.1
+returns c = c.eq.ensures ∙ accepted-end _ c.loop-token.q.0 (rw c.in_default.is at c.next_token.ensures) ∙ sym c.loop-token.invariant.1
 
 pub invariant_of-q : goal.invariant_of-q
 invariant_of-q c = record { in_table = c.loop-token.invariant.0 }

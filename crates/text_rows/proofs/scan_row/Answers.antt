@@ -24,8 +24,8 @@ invariant_of-result c =
     let h = rw c.in-Some.is at c.next_token.ensures in
     let i = c.loop-token.invariant in
     record {
-      scans = scanned-stop h i.behind i.scanned (rw (c.with_token.ensures, c.from-k.ensures)) c.if-token.true;
-      ends = ends-some h i.continues c.if-token.true i.behind _ refl;
+      scans = scanned-stop h i.behind i.scanned (rw (c.with_token.ensures, c.from-k.ensures)) (search rules);
+      ends = ends-some h i.continues (search rules) i.behind _ refl;
     }
 
 pub loop-token-smaller : goal.loop-token-smaller
@@ -38,8 +38,8 @@ loop-token-preserved c =
     record {
       low = c.in-Some.token.state.in_table;
       behind = behind-after h i.behind;
-      continues = continues-next h i.continues c.if-token.false;
-      scanned = scanned-next h i.behind i.scanned (rw (c.with_token.ensures, c.from-k.ensures)) c.if-token.false;
+      continues = continues-next h i.continues (search rules);
+      scanned = scanned-next h i.behind i.scanned (rw (c.with_token.ensures, c.from-k.ensures)) (search rules);
     }
 
 pub invariant_of-result-2 : goal.invariant_of-result-2

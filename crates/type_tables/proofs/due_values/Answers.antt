@@ -5,7 +5,7 @@ use Rattle.type_tables.proofs.DueInLaws.{dues-are, types-small}
 use Rattle.type_tables.proofs.due_values.Goals as goal
 
 pub invariant_of-declared : goal.invariant_of-declared
-invariant_of-declared c = record { few = types-small c.args.d.now.stored c.args.d.now.held }
+invariant_of-declared c = record { bounds = types-small c.args.d.now.stored c.args.d.now.held }
 
 pub returns : goal.returns
 returns c =

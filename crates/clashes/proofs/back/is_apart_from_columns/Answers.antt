@@ -11,4 +11,4 @@ pub returns : goal.returns
 returns c =
     let a = c.args in
     let b = a.back in
-    λ t. (any-index (λ _. Never (λ w. FirstTargets b.first b.row b.mask b.low b.high w × SourcesKept a.tables.now.sources w × ColumnsKept a.tables.now.lines w × LinkedBack b.slot b.there b.row w)) 16 c.any.ensures.ran refl (λ x q k. search (rules, tests)) (λ x q k. search (rules, tests)) t).2
+    λ t. (any-index (λ _. Never (λ w. FirstTargets b.first b.row.slot b.mask b.row.low b.row.high w × SourcesKept a.tables.now.sources w × ColumnsKept a.tables.now.lines w × LinkedBack b.slot b.there b.row.slot w)) 16 c.any.ensures.ran refl (λ x q k. search (rules, tests)) (λ x q k. search (rules, tests)) t).2

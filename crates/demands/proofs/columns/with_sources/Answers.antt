@@ -1,7 +1,5 @@
 -- `columns::with_sources` meets its contract.
 -- Assumes nothing.
-use Prim.Native.Nat.{◌+◌}
-use native.Mathlib.Omega.{arith}
 use Rattle.std.specs.Prelude.{Some}
 use Rattle.demands.proofs.ColumnLaws.{sources-sharp}
 use Rattle.demands.proofs.columns.with_sources.Goals as goal

@@ -14,4 +14,4 @@ returns-in_err-row c =
 pub returns : goal.returns
 returns c =
     let a = c.args in
-    own-sharp a.tables.now.targets a.tables.now.sources a.tables.now.lows a.tables.now.highs a.q a.s _ _ _ (let z = c.if-q-eq0.false in omega arith) c.in_ok-row.ensures c.with_sources.ensures
+    own-sharp a.tables.now.targets a.tables.now.sources a.tables.now.lows a.tables.now.highs a.q.now a.s _ _ _ (let z = c.if-q-eq0.false in omega arith) c.in_ok-row.ensures c.with_sources.ensures

@@ -1,14 +1,12 @@
 -- `parts::with_whole` meets its contract: the wholes of the object are limited.
 -- Assumes nothing.
 use Rattle.std.specs.Prelude.{Some}
-use Prim.Native.Nat.{ℕ}
-use mathlib.Core.Path.{subst}
-use Rattle.common_wholes.specs.Common.{Common}
-use Rattle.demands.proofs.WholeLimitLaws.{whole-sharp}
+use borrow.Author.Rules.{rules}
+use borrow.Author.Tests.{tests}
+use Rattle.demands.proofs.WholeLimitLaws.{same-wish, whole-by}
 use Rattle.demands.proofs.parts.with_whole.Goals as goal
 
-pub returns-in-Some : goal.returns-in-Some
-returns-in-Some c =
+pub returns : goal.returns
+returns c =
     let a = c.args in
-    whole-sharp a.tables.now.lines a.s (Some a.best) c.with_limits.result a.p c.in-Some.mask c.requires
-    (subst (λ (z : ℕ). Common a.tables.now.lines z c.in-Some.mask) c.of.ensures.0 c.in-Some.ensures) c.with_limits.ensures
+    whole-by a.tables.now.lines a.s (Some a.best) c.map_or.result c.common_whole.result a.p c.requires c.of.ensures.0 c.common_whole.ensures c.map_or.ensures (λ mask k. search (rules, tests, same-wish))

@@ -4,8 +4,6 @@ use Rattle.std.specs.Prelude.{Some, ℕ}
 use Rattle.demands.proofs.NeedLaws.{sharp-same, sharp-trans}
 use Rattle.demands.proofs.RowLaws.{row-sharp}
 use mathlib.Core.Path.{subst, sym}
-use Prim.Native.Nat.{◌*◌, ◌+◌}
-use native.Mathlib.Omega.{arith}
 use Rattle.demands.specs.Wishes.{Sharpens}
 use Rattle.demands.specs.Families.{RowsOpen}
 use Rattle.demands.proofs.rows.with_rows_of.Goals as goal

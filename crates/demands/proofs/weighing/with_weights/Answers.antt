@@ -23,6 +23,6 @@ returns-in_err-back c =
 pub returns : goal.returns
 returns c =
     let t = c.args.tables.now in
-    weigh-more t.targets t.lows t.highs t.lines c.args.q c.args.s _ _ _ _
+    weigh-more t.targets t.lows t.highs t.lines c.args.q.now c.args.s _ _ _ _
     (λ u n. sharp-trans _ _ _ _ (sharp-trans _ _ _ _ (sharp-trans _ _ _ _ (c.in_ok-rows.ensures u n) (c.in_ok-columns.ensures u n)) (c.in_ok-there.ensures u n)) (c.in_ok-back.ensures u n))
     c.weigh-short.ensures c.with_shortage.ensures

@@ -2,7 +2,7 @@
 -- Assumes nothing.
 use mathlib.Core.Path.{◌∙◌}
 use Rattle.leaves.specs.Arrays.{covered}
-use Rattle.leaves.proofs.MayLaws.{inside-test}
+use Rattle.laws.proofs.BitLaws.{inside-test}
 use Rattle.leaves.proofs.rows.is_covered.Goals as goal
 
 pub returns : goal.returns

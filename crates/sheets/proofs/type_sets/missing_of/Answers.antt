@@ -1,15 +1,18 @@
-use Prim.Native.Nat.{◌*◌}
-use native.Mathlib.Omega.{arith}
-use Rattle.sheets.proofs.TypeSetLaws.{joined-begin, joined-done, joined-next}
+use Prim.Native.Nat.{ℕ}
+use mathlib.Core.Path.{◌≡◌, refl}
+use borrow.Author.Rules.{rules}
+use borrow.Author.Tests.{tests}
+use Rattle.laws.specs.Bits.{bit}
+use Rattle.laws.specs.Bounded.{any}
+use Rattle.laws.proofs.RangeLaws.{fold-range}
+use Rattle.sheets.proofs.TypeSetLaws.{joined-begin, joined-next}
 use Rattle.sheets.specs.MasksBy.{missing_in}
 use Rattle.sheets.proofs.type_sets.missing_of.Goals as goal
 
-pub loop-e-init : goal.loop-e-init
-loop-e-init c = let a = c.args in joined-begin (missing_in a.ends.now.sets a.ends.now.asked.now.arrows a.ends.now.slots a.ends.now.asked.now.lows)
-
-pub loop-e-preserved : goal.loop-e-preserved
-loop-e-preserved c = let a = c.args in joined-next (missing_in a.ends.now.sets a.ends.now.asked.now.arrows a.ends.now.slots a.ends.now.asked.now.lows) c.loop-e.e c.loop-e.mask c.missing_at-mask.ensures c.loop-e.invariant
-
 pub returns : goal.returns
-returns c = let a = c.args in
-    joined-done (missing_in a.ends.now.sets a.ends.now.asked.now.arrows a.ends.now.slots a.ends.now.asked.now.lows) (a.ends.now.asked.now.count * 2) c.loop-e.e c.loop-e.mask (omega (arith, c.count-e-end.ensures, c.loop-e.auto.e-end)) (omega (arith, c.count-e-end.ensures)) c.loop-e.invariant
+returns c =
+    let x = c.args.ends.now in
+    let missing : ℕ → ℕ = missing_in x.sets x.asked.now.arrows x.slots x.asked.now.lows in
+    let all : (t : ℕ) → bit t c.fold.result ≡ any (λ e. bit t (missing e)) c.count.result
+    = fold-range (λ i m. (t : ℕ) → bit t m ≡ any (λ e. bit t (missing e)) i) c.count.result (λ i m r q l p k. (search (rules, tests), joined-next missing i m r (search (rules, tests)) p)) c.fold.ensures.ran refl (joined-begin missing) in
+    rw c.count.ensures at all

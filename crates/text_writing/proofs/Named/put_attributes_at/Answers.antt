@@ -1,6 +1,5 @@
 use Rattle.field_writers.proofs.PutLaws.{put_as}
 use Rattle.text_writing.proofs.ByNamesLaws.{attribute-fields, attributes-none}
-use Rattle.text_writing.proofs.CountingLaws.{types-most}
 use Rattle.text_writing.proofs.PuttingLaws.{put-none}
 use Rattle.text_writing.proofs.ReadyLaws.{attributes-at, roomy-at}
 use Rattle.text_writing.proofs.Named.put_attributes_at.Goals as goal
@@ -10,7 +9,7 @@ put_attributes-requires c =
     let n = c.args.self.now in
     let i = c.declaration.ensures in
     let own = c.requires.1.0 in
-    (roomy-at n.writable c.requires.0 i, (types-most n.writable c.requires.0 own, attributes-at _ _ _ i n.values_named own c.requires.1.1))
+    (roomy-at n.writable c.requires.0 i, attributes-at _ _ _ i n.values_named own c.requires.1.1)
 
 pub returns-then-attribute_count-gt0 : goal.returns-then-attribute_count-gt0
 returns-then-attribute_count-gt0 c =

@@ -1,7 +1,6 @@
 use Rattle.std.proofs.Common.{◌∙◌, sym}
 use Rattle.field_writers.proofs.PutLaws.{put_as}
 use Rattle.text_writing.proofs.ByNamesLaws.{type-field, type-none}
-use Rattle.text_writing.proofs.CountingLaws.{types-most}
 use Rattle.text_writing.proofs.PuttingLaws.{put-none}
 use Rattle.text_writing.proofs.ReadyLaws.{parents-at, roomy-at}
 use Rattle.text_writing.proofs.Named.put_type_at.Goals as goal
@@ -11,7 +10,7 @@ put_type-requires c =
     let n = c.args.self.now in
     let i = c.declaration.ensures in
     let own = c.requires.1.0 in
-    (roomy-at n.writable c.requires.0 i, (types-most n.writable c.requires.0 own, (parents-at n.writable c.requires.0 i _ n.types_named own, c.requires.1.1)))
+    (roomy-at n.writable c.requires.0 i, (parents-at n.writable c.requires.0 i _ n.types_named own, c.requires.1.1))
 
 pub returns-then-is_kind : goal.returns-then-is_kind
 returns-then-is_kind c =

@@ -1,13 +1,10 @@
--- `count_of` meets its contract: the bits of a mask of the objects with the type.
+-- `count_of` meets its contract: how many objects the filter lets through.
 -- Assumes nothing.
-use Prim.Native.Nat.{ℕ}
-use mathlib.Core.Bool.{Bool}
-use mathlib.Core.Path.{◌∙◌}
 use borrow.Author.Rules.{rules}
 use borrow.Author.Tests.{tests}
 use lib.Dec.{eqb}
 use lib.ListN.{get_or}
-use Rattle.laws.proofs.MaskLaws.{tally-masked}
+use Rattle.laws.proofs.RangeLaws.{count-range}
 use Rattle.leaves.specs.Fitting.{count_of}
 use Rattle.leaves.proofs.objects.Objects.count_of.Goals as goal
 
@@ -15,5 +12,4 @@ pub returns : goal.returns
 unfolding count_of
 returns c =
     let a = c.args.self.now in
-    let q : ℕ → Bool = λ o. eqb (get_or a.types.now.at o 0) c.args.t in
-    c.count8.ensures.0 ∙ tally-masked q c.mask_of.result a.n 8 a.few (c.mask_of.ensures q (λ o b l k. search (rules, tests)))
+    count-range (λ o. eqb (get_or a.types.now.at o 0) c.args.t) a.n c.count.ensures.ran c.filter.ensures.source c.filter.ensures.closure (λ x b q k. search (rules, tests))

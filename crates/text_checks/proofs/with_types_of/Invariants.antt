@@ -1,6 +1,0 @@
-use Rattle.text_rows.specs.RowAt.{declaration_by}
-use Rattle.text_checks.proofs.TakenLaws.{Taken}
-use Rattle.text_checks.proofs.with_types_of.Given as goal
-
-abbrev pub invariant-loop-i : goal.invariant-loop-i
-invariant-loop-i l = Taken (declaration_by l.s).attribute_types l.count l.initial.r l.i l.r
