@@ -7,8 +7,8 @@ ghost use Rattle.worlds.specs.Asked.{Breaks, world_built};
 ghost use Rattle.aims.specs.Finds.{Finds};
 ghost use Rattle.aims.specs.Lines.{LinesKept};
 
-// A search that finds nothing is followed by the next by `if let`, here and in the modules: `or_else` was tried, and what its closure
-// promises cannot be cited in the proof.
+// A search that finds nothing is followed by the next by `if let`, here and in the modules: a proof cannot cite what the closure of an
+// `or_else` promises.
 
 mod asks;
 mod columns;

@@ -11,7 +11,7 @@ ghost use Rattle.std.specs.Prelude.{◌<◌, ◌≤◌, length};
 
 use fields::Refusal;
 
-// Where the replies go, piece by piece with the kit's `io`: `print!` asks for a handle in every function and gives a Result that no one
+// Where the replies go, piece by piece with `io`: `print!` asks for a handle in every function and gives a Result that no one
 // would read here.
 const STDOUT: i32 = 1;
 
@@ -121,7 +121,7 @@ fn run_record(c: Case<'_>, space: &mut [u8]) {
     c.print_refusal(b"record, ", checking::check_record(laws::front(space, n)));
 }
 
-// The replies of judge and evaluate to a record file under a diagram: 0 where it is refused, which `run_record` is asked for.
+// The replies of judge and evaluate to a record file under a diagram: 0 where it is refused; its refusal is what `run_record` prints.
 fn print_replies(c: Case<'_>, d: diagrams::ReadDiagram, file: &[u8]) {
     let rule = judging::judge(d, file).unwrap_or(0);
     let first = evaluating::evaluate(d, file).unwrap_or(0);

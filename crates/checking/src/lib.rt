@@ -186,7 +186,7 @@ fn check_end(s: Progress<'_>) -> Result<(), Refusal>
 pub fn check_record(file: &[u8]) -> Result<(), Refusal>
     ensures { refusal_number result ≡ refusal_of (read_record file.now) }
 {
-    // No field so far. Written out: the borrow checker does not cover this loop where it begins with a derived `Default`.
+    // No field so far. Written out: a loop that begins with a derived `Default` is not accepted.
     let mut s = Progress {
         last: 0,
         count: 0,

@@ -45,6 +45,12 @@ module _ (a : Associations) where
       }
 
 module _ (d : StoredDiagram) (held : Held d) where
+  pub arrow-known : (i : ℕ) → i < d.associations.count → (association_in d.associations i).arrow < 5
+  arrow-known i l =
+      let h : i < length (diagram_of d).associations = omega (arith, association-count d) in
+      let w : (association_at (diagram_of d) i).arrow ≤ 4 = (held.wf.association i h).arrow-last in
+      omega (arith, ap (λ (a : Association). a.arrow) (association-at d i l), w)
+
   compiled-is : entries_to d.associations d.associations.count ≡ compile (diagram_of d)
   unfolding entries_to compile
   compiled-is =

@@ -1,4 +1,4 @@
--- The code's rows of arrows are the document's.
+-- The code's table of arrows is the document's.
 -- Assumes nothing.
 use Prim.Native.Nat.{ℕ, zero, suc, ◌+◌, ◌<◌, ◌≤◌}
 use native.Mathlib.Omega.{arith}
@@ -16,49 +16,45 @@ use Rattle.files.specs.Diagram.{Association, is_composition}
 use Rattle.rules.specs.Compile.{Asked, Entry, arrow_rows, bare, entries_of, entry_for, kind5, row_of}
 use Rattle.entries.specs.declared.Entries.{Entries}
 use Rattle.entries.specs.View.{Appends}
-use Rattle.compiling.specs.Table.{asked, entries_for, row_at, whole_for}
+use Rattle.compiling.specs.Table.{asked, entries_for, whole_for}
 use Rattle.entries.proofs.AppendLaws.{appends-as, appends-then}
 
+-- the code's table
+abbrev pub table_rows : List (List (ℕ × ℕ))
+table_rows =
+    ((0, 0) ∷ (0, 0) ∷ (0, 0) ∷ [])
+    ∷ ((1, 0) ∷ (3, 0) ∷ (0, 0) ∷ [])
+    ∷ ((1, 1) ∷ (3, 1) ∷ (0, 0) ∷ [])
+    ∷ ((1, 0) ∷ (1, 1) ∷ (5, 0) ∷ [])
+    ∷ ((1, 0) ∷ (1, 1) ∷ (5, 0) ∷ []) ∷ []
+
 abbrev pub kind_at : ℕ → ℕ → ℕ
-kind_at arrow s = (get_or (row_at arrow) s (0, 0)).0
+kind_at arrow s = (get_or (get_or table_rows arrow []) s (0, 0)).0
 
 abbrev pub side_at : ℕ → ℕ → ℕ
-side_at arrow s = (get_or (row_at arrow) s (0, 0)).1
+side_at arrow s = (get_or (get_or table_rows arrow []) s (0, 0)).1
 
 -- what the first s places of an arrow's row ask for
 unfoldable pub asked_to : ℕ → ℕ → List Asked
-asked_to arrow s = joined (λ k. asked (kind_at arrow k) (side_at arrow k) ∷ []) s
+asked_to arrow s = joined (λ k. asked (kind_at arrow k) (side_at arrow k)) s
 
-table : (arrow : ℕ) → asked_to arrow (length (row_at arrow)) ≡ get_or arrow_rows arrow []
-unfolding asked_to asked joined row_at
-table zero = refl
-table (suc zero) = refl
-table (suc (suc zero)) = refl
-table (suc (suc (suc zero))) = refl
-table (suc (suc (suc (suc zero)))) = refl
-table (suc (suc (suc (suc (suc n))))) = refl
-
-pub row-short : (arrow : ℕ) → length (row_at arrow) ≤ 3
-unfolding row_at
-row-short zero = omega arith
-row-short (suc zero) = omega arith
-row-short (suc (suc zero)) = omega arith
-row-short (suc (suc (suc zero))) = omega arith
-row-short (suc (suc (suc (suc zero)))) = omega arith
-row-short (suc (suc (suc (suc (suc n))))) = omega arith
+pub table : (arrow : ℕ) → arrow < 5 → asked_to arrow 3 ≡ get_or arrow_rows arrow []
+unfolding asked_to asked joined
+table zero h = refl
+table (suc zero) h = refl
+table (suc (suc zero)) h = refl
+table (suc (suc (suc zero))) h = refl
+table (suc (suc (suc (suc zero)))) h = refl
+table (suc (suc (suc (suc (suc n))))) h = absurd (omega arith)
 
 -- each side is 0 or 1
-all-known : (arrow : ℕ) → all (λ s. leb (side_at arrow s) 1) (length (row_at arrow)) ≡ true
-unfolding all row_at
-all-known zero = refl
-all-known (suc zero) = refl
-all-known (suc (suc zero)) = refl
-all-known (suc (suc (suc zero))) = refl
-all-known (suc (suc (suc (suc zero)))) = refl
-all-known (suc (suc (suc (suc (suc n))))) = refl
+all_known : all (λ arrow. all (λ s. leb (side_at arrow s) 1) 3) 5 ≡ true
+unfolding all
+all_known = refl
 
-pub sides-known : (arrow s : ℕ) → s < length (row_at arrow) → side_at arrow s ≤ 1
-sides-known arrow s l = leb-true (side_at arrow s) 1 (all-at (λ s. leb (side_at arrow s) 1) (length (row_at arrow)) (all-known arrow) s l)
+pub sides-known : (arrow s : ℕ) → arrow < 5 → s < 3 → side_at arrow s ≤ 1
+sides-known arrow s h l =
+    leb-true (side_at arrow s) 1 (all-at (λ s. leb (side_at arrow s) 1) 3 (all-at (λ arrow. all (λ s. leb (side_at arrow s) 1) 3) 5 all_known arrow h) s l)
 
 -- ---- the entries of a row, part by part
 
@@ -67,15 +63,15 @@ module _ (i : ℕ) (a : Association) where
   unfolding entries_for asked_to joined
   asked-begin arrow = refl
 
-  pub asked-more : (arrow s : ℕ) → entries_for i a (asked_to arrow (s + 1)) ≡ entries_for i a (asked_to arrow s) ++ (entry_for i a (asked (kind_at arrow s) (side_at arrow s)) ∷ [])
+  pub asked-more : (arrow s : ℕ) → entries_for i a (asked_to arrow (s + 1)) ≡ entries_for i a (asked_to arrow s) ++ entries_for i a (asked (kind_at arrow s) (side_at arrow s))
   unfolding entries_for asked_to
   asked-more arrow s =
-      ap (map (entry_for i a)) (joined-more (λ k. asked (kind_at arrow k) (side_at arrow k) ∷ []) s)
-      ∙ map-append (entry_for i a) (joined (λ k. asked (kind_at arrow k) (side_at arrow k) ∷ []) s) (asked (kind_at arrow s) (side_at arrow s) ∷ [])
+      ap (map (entry_for i a)) (joined-more (λ k. asked (kind_at arrow k) (side_at arrow k)) s)
+      ∙ map-append (entry_for i a) (joined (λ k. asked (kind_at arrow k) (side_at arrow k)) s) (asked (kind_at arrow s) (side_at arrow s))
 
-  pub asked-whole : (arrow s : ℕ) → arrow ≡ a.arrow → s ≡ length (row_at arrow) → entries_for i a (asked_to arrow s) ≡ entries_for i a (row_of a)
+  pub asked-whole : (arrow s : ℕ) → arrow ≡ a.arrow → s ≡ 3 → a.arrow < 5 → entries_for i a (asked_to arrow s) ≡ entries_for i a (row_of a)
   unfolding row_of
-  asked-whole arrow s p q = ap (λ (k : ℕ). entries_for i a (asked_to arrow k)) q ∙ ap (entries_for i a) (table arrow ∙ ap (λ (k : ℕ). get_or arrow_rows k []) p)
+  asked-whole arrow s p q h = rw (p, q) (ap (entries_for i a) (table a.arrow h))
 
   pub whole-yes : a.form ≡ 1 → bare 6 i ∷ [] ≡ whole_for i a
   unfolding whole_for is_composition

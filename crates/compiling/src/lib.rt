@@ -4,10 +4,10 @@
 
 ghost use Rattle.std.specs.Prelude.{◌≡◌, [], ◌∷◌, ◌+◌, ◌<◌, ◌≤◌};
 ghost use Rattle.diagrams.specs.View.{association_in, upper_in};
-ghost use Rattle.rules.specs.Compile.{entry_for, entries_of, limited, row_of};
+ghost use Rattle.rules.specs.Compile.{entries_of, limited, row_of};
 ghost use Rattle.rules.specs.Evaluate.{side_of};
 ghost use Rattle.entries.specs.View.{Appends};
-ghost use Rattle.compiling.specs.Table.{asked, entries_for, row_at, whole_for};
+ghost use Rattle.compiling.specs.Table.{asked, entries_for, whole_for};
 ghost use Rattle.compiling.specs.Compiled.{Compiles, Gives, Small, bytes_to, written};
 
 use diagrams::{Associations, ReadDiagram};
@@ -20,18 +20,15 @@ pub struct Compiled {
     pub list: [u8; 320],
 }
 
-// The row of an arrow: the kinds of its entries in order with their sides, as numbers of the compiled record.
-#[tactic(auto, unfolding(crate::specs::Table::row_at))]
-fn row(arrow: u8) -> &'static [(u8, u8)]
-    ensures { result.now ≡ row_at arrow }
-{
-    match arrow {
-        1 => &[(1, 0), (3, 0)],
-        2 => &[(1, 1), (3, 1)],
-        3 | 4 => &[(1, 0), (1, 1), (5, 0)],
-        _ => &[],
-    }
-}
+// Of each arrow, the kinds of its entries in order with their sides, kind 0 for none. Kinds and sides are numbers of the compiled
+// record, and a row of fixed length with a kind for none is how the table of the definition reads.
+const ROWS: [[(u8, u8); 3]; 5] = [
+    [(0, 0), (0, 0), (0, 0)], // no arrow has the number 0
+    [(1, 0), (3, 0), (0, 0)], // arrow 1
+    [(1, 1), (3, 1), (0, 0)], // arrow 2
+    [(1, 0), (1, 1), (5, 0)], // arrow 3
+    [(1, 0), (1, 1), (5, 0)], // arrow 4
+];
 
 // ---- entries. The list, the associations and the index of one go through four functions: a struct of them would borrow the list for
 // changes, and its contracts would say of that field what these say of `r`.
@@ -59,11 +56,12 @@ fn push_limited(r: &mut Entries, kind: u8, association: u8, side: u8, low: u16, 
 // limits of the end that the side's links go to, rule 7 those of the end that they come from.
 fn push_asked(r: &mut Entries, a: &Associations, i: usize, kind: u8, side: u8)
     requires { (r.old.number < 64) × ((i < 16) × (side ≤ 1)) }
-    ensures { Appends r.old r.new (entry_for i (association_in a.now i) (asked kind side) ∷ []) × (r.new.number ≡ r.old.number + 1) }
+    ensures { Appends r.old r.new (entries_for i (association_in a.now i) (asked kind side)) × (r.new.number ≤ r.old.number + 1) }
 {
     let from = i * 2 + usize::from(side);
     let to = i * 2 + 1 - usize::from(side);
     match kind {
+        0 => (),
         1 => push_limited(r, 1, i as u8, side, a.lows[to], a.ups[to]),
         5 => r.push(Entry::bare(5, i as u8)),
         _ => push_limited(r, 3, i as u8, side, a.lows[from], a.ups[from]),
@@ -72,10 +70,12 @@ fn push_asked(r: &mut Entries, a: &Associations, i: usize, kind: u8, side: u8)
 
 // What the row of association i's arrow asks for.
 fn push_row(r: &mut Entries, a: &Associations, i: usize)
-    requires { (r.old.number < 62) × (i < 16) }
+    requires { (r.old.number < 62) × ((i < 16) × ((association_in a.now i).arrow < 5)) }
     ensures { Appends r.old r.new (entries_for i (association_in a.now i) (row_of (association_in a.now i))) × (r.new.number ≤ r.old.number + 3) }
 {
-    for (kind, side) in row(a.arrows[i]) {
+    let arrow = usize::from(a.arrows[i]);
+    let row = &ROWS[arrow];
+    for (kind, side) in row {
         push_asked(r, a, i, *kind, *side);
     }
 }
@@ -92,7 +92,7 @@ fn push_whole(r: &mut Entries, a: &Associations, i: usize)
 
 // The entries of association i: its row's, and kind 6 last.
 fn push_association(r: &mut Entries, a: &Associations, i: usize)
-    requires { (r.old.number < 61) × (i < 16) }
+    requires { (r.old.number < 61) × ((i < 16) × ((association_in a.now i).arrow < 5)) }
     ensures { Appends r.old r.new (entries_of i (association_in a.now i)) × (r.new.number ≤ r.old.number + 4) }
 {
     push_row(r, a, i);

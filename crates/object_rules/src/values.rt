@@ -66,7 +66,7 @@ impl<'a> Valued<'a> {
         if !is_own(d.tables, d.attributes.count, s) {
             return true;
         }
-        // A match: `is_none_or` with a closure that calls `are_agreeing` was tried, and the proof was given no promise of it.
+        // A match: of a closure that calls `are_agreeing`, handed to `is_none_or`, a proof has no promise.
         match laws::byte(&self.memory.values, x).checked_sub(1) {
             Some(code) => d.are_agreeing((x / 32) as u8, s, code / 8),
             None => true,

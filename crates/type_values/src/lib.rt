@@ -191,8 +191,8 @@ impl Translation<'_> {
 
 // ---- types
 
-// Two functions with one call each, since each has a contract of its own: what the numbers are, by the definitions of the diagrams. Where
-// there is none an entry is their number, as `fields::places` gives it; what reads it is total or tests it.
+// Each of the two is a call of `fields::places` with a contract of its own: what the numbers are, by the definitions of the diagrams. Where
+// there is none an entry is their number, as `places` gives it; what reads it is total or tests it.
 
 // For each value type of old new's value type of the same name, or their number.
 #[tactic(auto, using(crate::proofs::StoredLaws::places))]

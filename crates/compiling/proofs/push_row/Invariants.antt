@@ -1,5 +1,4 @@
 use Prim.Native.Nat.{◌+◌, ◌≤◌}
-use lib.ListN.{get_or}
 use Rattle.diagrams.specs.View.{association_in}
 use Rattle.compiling.specs.Table.{entries_for}
 use Rattle.entries.specs.View.{Appends}
@@ -7,4 +6,4 @@ use Rattle.compiling.proofs.TableLaws.{asked_to}
 use Rattle.compiling.proofs.push_row.Given as goal
 
 abbrev pub invariant-loop-kind : goal.invariant-loop-kind
-invariant-loop-kind l = (l.r.number ≤ l.initial.r.number + l.kind-index) × Appends l.initial.r l.r (entries_for l.i (association_in l.a l.i) (asked_to (get_or l.a.arrows l.i 0) l.kind-index))
+invariant-loop-kind l = (l.r.number ≤ l.initial.r.number + l.kind-index) × Appends l.initial.r l.r (entries_for l.i (association_in l.a l.i) (asked_to l.arrow l.kind-index))
