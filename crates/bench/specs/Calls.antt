@@ -54,7 +54,7 @@ pub record Does (b : Bench) (c : Call) (r : Replied) (buffer : List ℕ) : Type 
 pub record DoesWith (b : Bench) (c : Call) (r : Listed) : Type 0 where
   pub step : Step (bench_of b) c (record { reply = reply_of r.reply r.list; bench = bench_of r.bench; buffer = [] })
   pub stays : Stays b c (reply_of r.reply r.list) r.bench
-  pub zero : is_refusal (reply_of r.reply r.list) ≡ true → r.list ≡ replicate 320 0
+  pub zero : is_refusal (reply_of r.reply r.list) ≡ true → r.list ≡ replicate 448 0
 
 -- compare: what was found is the witness, with the reply that says so; or the refusal
 abbrev pub witness_by : Option MemoryRecord → Option Witness

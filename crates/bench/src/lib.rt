@@ -41,16 +41,16 @@ pub struct Replied {
 #[derive(Clone, Copy)]
 pub struct CompileReply {
     pub reply: Reply,
-    pub list: [u8; 320],
+    pub list: [u8; 448],
 }
 
-// What compile gives: the bench, the reply, and beside it 64 entries of five bytes, all zero where it was refused, as the definition has it
-// (`DoesWith`).
+// What compile gives: the bench, the reply, and beside it 64 entries of seven bytes, all zero where it was refused, as the definition has
+// it (`DoesWith`).
 #[derive(Clone, Copy)]
 pub struct Listed {
     pub bench: Bench,
     pub reply: Reply,
-    pub list: [u8; 320],
+    pub list: [u8; 448],
 }
 
 // ---- parts
@@ -191,7 +191,7 @@ impl Bench {
             }
             Err(refusal) => CompileReply {
                 reply: Reply::Refused(refusal),
-                list: [0; 320],
+                list: [0; 448],
             },
         }
     }

@@ -7,7 +7,7 @@
 mod differences; // differences.rt: two diagrams compared
 mod rows; // rows.rt: a row of calls
 
-ghost use Rattle.std.specs.Prelude.{◌<◌, ◌≤◌, length};
+ghost use Rattle.std.specs.Prelude.{◌≡◌, ◌<◌, ◌≤◌, length};
 
 use fields::Refusal;
 
@@ -138,7 +138,7 @@ fn run_site(c: Case<'_>, space: &mut [u8], other: &mut [u8]) {
     }
 }
 
-// A diagram file, the number of its compiled predicates, and their bytes, five of each.
+// A diagram file, the number of its compiled predicates, and their bytes, seven of each.
 fn run_compile(c: Case<'_>, space: &mut [u8]) {
     let n = decode(c.body, space);
     if let Ok(d) = loading::read_diagram(laws::front(space, n)) {
@@ -146,7 +146,7 @@ fn run_compile(c: Case<'_>, space: &mut [u8]) {
         c.print_name(b"compile, ");
         io::print_decimal(STDOUT, compiled.number as u64);
         let list = compiled.list;
-        for b in laws::front(&list, compiled.number.min(64) * 5) {
+        for b in laws::front(&list, compiled.number.min(64) * 7) {
             io::write_all(STDOUT, b" ");
             io::print_decimal(STDOUT, u64::from(*b));
         }
@@ -177,8 +177,16 @@ fn run_all(text: &[u8], space: &mut [u8], other: &mut [u8], replies: &mut [u8]) 
     }
 }
 
+// Room for standard input. The promise gives the length alone, which lending it as a slice needs: with the zeros in sight of `main` the
+// check would count them.
+fn room() -> [u8; 524288]
+    ensures { 524288 ≡ length result }
+{
+    [0; 524288]
+}
+
 fn main() {
-    let mut text = [0; 262144];
+    let mut text = room();
     let n = io::read_full(0, &mut text);
     // Room for two files, and for the replies of a row of calls.
     let mut space = [0; 65536];

@@ -3,7 +3,7 @@
 use Prim.Native.Nat.{ℕ, zero, suc, ◌+◌, ◌-◌, ◌*◌, ◌<◌, ◌≤◌}
 use native.Mathlib.Nat.{add-zero, add-suc, suc-mul}
 use native.Mathlib.Omega.{arith}
-use mathlib.Core.List.{List, [], ◌∷◌, ◌++◌, append_assoc, append-nil}
+use mathlib.Core.List.{List, ◌++◌, append_assoc, append-nil}
 use mathlib.Core.Path.{◌≡◌, refl, sym, ap, ap₂, ◌∙◌}
 use lib.ListN.{length, take, drop, replicate, length-append, length-replicate, drop_of_length-le, replicate-append-replicate, get_or-eq_default}
 use lib.Seq.{take_at, drop_at, drop-drop}
@@ -20,10 +20,10 @@ use Rattle.compiling.specs.Compiled.{Compiles, bytes_to, written}
 use Rattle.compiling.proofs.GatherLaws.{compiled-at, compiled-number}
 
 abbrev zeros : List ℕ
-zeros = replicate 320 0
+zeros = replicate 448 0
 
-no_more : length zeros ≡ 320
-no_more = length-replicate {A = ℕ} 320 0
+no_more : length zeros ≡ 448
+no_more = length-replicate {A = ℕ} 448 0
 
 -- zs behind the a bytes xs
 put-more : (xs zs d d' : List ℕ) (a n : ℕ) → length xs ≡ a → length zs ≡ n → d' ≡ over xs d → put_mid a n d' zs ≡ over (xs ++ zs) d
@@ -36,7 +36,7 @@ put-more xs zs d d' a n e f p =
     ∙ ap (λ (y : List ℕ). (xs ++ zs) ++ y) (drop-drop n a d ∙ ap (λ (m : ℕ). drop m d) (sym size))
 
 module _ (e : Entries) where
-  length-bytes : (n : ℕ) → length (bytes_to e n) ≡ n * 5
+  length-bytes : (n : ℕ) → length (bytes_to e n) ≡ n * 7
   unfolding bytes_to joined
   length-bytes zero = refl
   length-bytes (suc n) = omega (arith, length-append (bytes_to e n) (entry_bytes (entry_in e n)), length-bytes n)
@@ -49,10 +49,10 @@ module _ (e : Entries) where
   unfolding bytes_to
   next i = joined-more (λ k. entry_bytes (entry_in e k)) i
 
-  pub bytes-more : (list es : List ℕ) (i k : ℕ) → i < 64 → k ≡ 5 → list ≡ written e i → es ≡ entry_bytes (entry_in e i) → put_mid (i * 5) k list es ≡ written e (i + 1)
+  pub bytes-more : (list es : List ℕ) (i k : ℕ) → i < 64 → k ≡ 7 → list ≡ written e i → es ≡ entry_bytes (entry_in e i) → put_mid (i * 7) k list es ≡ written e (i + 1)
   unfolding written
   bytes-more list es i k h w p q =
-      put-more (bytes_to e i) es zeros list (i * 5) k (length-bytes i) (ap length q ∙ sym w) p
+      put-more (bytes_to e i) es zeros list (i * 7) k (length-bytes i) (ap length q ∙ sym w) p
       ∙ ap (λ (l : List ℕ). over l zeros) (ap (λ (l : List ℕ). bytes_to e i ++ l) q ∙ sym (next i))
 
   pub bytes-end : (n : ℕ) → n ≡ 64 → written e n ≡ bytes_to e 64
@@ -62,15 +62,15 @@ module _ (e : Entries) where
       ap (λ (k : ℕ). over (bytes_to e k) zeros) p
       ∙ ap (λ (l : List ℕ). bytes_to e 64 ++ l) (drop_of_length-le zeros past) ∙ append-nil (bytes_to e 64)
 
--- rows past the first n that are five zeros each
-padded : (g : ℕ → List ℕ) (n : ℕ) → ((i : ℕ) → n ≤ i → g i ≡ replicate 5 0) → (m : ℕ) → joined g (n + m) ≡ joined g n ++ replicate (m * 5) 0
+-- rows past the first n that are seven zeros each
+padded : (g : ℕ → List ℕ) (n : ℕ) → ((i : ℕ) → n ≤ i → g i ≡ replicate 7 0) → (m : ℕ) → joined g (n + m) ≡ joined g n ++ replicate (m * 7) 0
 unfolding joined
 padded g n f zero = ap (joined g) (add-zero n) ∙ sym (append-nil (joined g n))
 padded g n f (suc m) =
     let h : n ≤ n + m = omega arith in
     ap (joined g) (add-suc n m) ∙ ap₂ (λ (x y : List ℕ). x ++ y) (padded g n f m) (f (n + m) h)
-    ∙ append_assoc (joined g n) (replicate (m * 5) 0) (replicate 5 0)
-    ∙ ap (λ (l : List ℕ). joined g n ++ l) (replicate-append-replicate (m * 5) 5 0 ∙ ap (λ (k : ℕ). replicate k 0) (sym (suc-mul m 5)))
+    ∙ append_assoc (joined g n) (replicate (m * 7) 0) (replicate 7 0)
+    ∙ ap (λ (l : List ℕ). joined g n ++ l) (replicate-append-replicate (m * 7) 7 0 ∙ ap (λ (k : ℕ). replicate k 0) (sym (suc-mul m 7)))
 
 pub compiled-bytes : (d : StoredDiagram) (e : Entries) → Compiles d e → bytes_to e 64 ≡ compiled_bytes (diagram_of d)
 unfolding bytes_to compiled_bytes
@@ -79,7 +79,7 @@ compiled-bytes d e c =
     let n = length es in
     let few : n ≤ 64 = omega (arith, c.few, compiled-number d e c) in
     let whole : 64 ≡ n + (64 - n) = omega arith in
-    let rest : (64 - n) * 5 ≡ 320 - 5 * n = omega arith in
+    let rest : (64 - n) * 7 ≡ 448 - 7 * n = omega arith in
     let g : ℕ → List ℕ = λ i. entry_bytes (entry_at es i) in
     joined-ext (λ i. entry_bytes (entry_in e i)) g 64 (λ i l. ap (λ (x : Entry). entry_bytes x) (compiled-at d e c i)) ∙ ap (joined g) whole
     ∙ padded g n (λ i h. ap (λ (x : Entry). entry_bytes x) (get_or-eq_default es (bare 0 0) h)) (64 - n)

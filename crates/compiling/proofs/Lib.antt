@@ -1,5 +1,4 @@
 pub mod TableLaws
 pub mod EntryLaws
 pub mod GatherLaws
-pub mod SmallLaws
 pub mod ByteLaws

@@ -1,6 +1,6 @@
 -- What the compiler gives: the entries of a diagram, and their bytes.
 -- Assumes nothing.
-use Rattle.std.specs.Prelude.{ℕ, ◌*◌, ◌<◌, ◌≤◌, List, ◌≡◌, length, replicate}
+use Rattle.std.specs.Prelude.{ℕ, ◌*◌, ◌≤◌, List, ◌≡◌, length, replicate}
 use Rattle.laws.specs.Lists.{joined, over}
 use Rattle.diagrams.specs.View.{association_in, diagram_of}
 use Rattle.diagrams.specs.declared.Associations.{Associations}
@@ -20,16 +20,11 @@ pub record Gathered (a : Associations) (n : ℕ) (r : Entries) : Type 0 where
   pub most : r.number ≤ n * 4
   pub rest : (k : ℕ) → r.number ≤ k → entry_in r k ≡ bare 0 0
 
--- "at most 64"; "those past the number are five zero bytes"
+-- 01: "at most 64"; 02: "the zero ones past the number"
 pub record Compiles (d : StoredDiagram) (r : Entries) : Type 0 where
   pub entries : entries_in r ≡ compile (diagram_of d)
   pub few : r.number ≤ 64
   pub rest : (k : ℕ) → r.number ≤ k → entry_in r k ≡ bare 0 0
-
--- the limits of each entry fit their bytes
-pub record Small (e : Entries) : Type 0 where
-  pub low : (k : ℕ) → (entry_in e k).low < 256
-  pub up : (k : ℕ) → (entry_in e k).up < 256
 
 -- the bytes of the first n entries
 unfoldable pub bytes_to : Entries → ℕ → List ℕ
@@ -37,7 +32,7 @@ bytes_to e n = joined (λ i. entry_bytes (entry_in e i)) n
 
 -- a list of zeros with these at its front
 unfoldable pub written : Entries → ℕ → List ℕ
-written e n = over (bytes_to e n) (replicate 320 0)
+written e n = over (bytes_to e n) (replicate 448 0)
 
 -- "the records and their number"
 pub record Gives (d : StoredDiagram) (r : Compiled) : Type 0 where

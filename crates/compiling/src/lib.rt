@@ -1,5 +1,5 @@
-// The compiler: the entries that a diagram in memory asks for, and their bytes. An association's index is below 16, and a limit of a
-// compiled entry below 256, as `as u8` keeps them.
+// The compiler: the entries that a diagram in memory asks for, and their bytes. An association's index is below 16, so that
+// `as u8` keeps it.
 #![tactic(auto)]
 
 ghost use Rattle.std.specs.Prelude.{◌≡◌, [], ◌∷◌, ◌+◌, ◌<◌, ◌≤◌};
@@ -8,16 +8,16 @@ ghost use Rattle.rules.specs.Compile.{entries_of, limited, row_of};
 ghost use Rattle.rules.specs.Evaluate.{side_of};
 ghost use Rattle.entries.specs.View.{Appends};
 ghost use Rattle.compiling.specs.Table.{asked, entries_for, whole_for};
-ghost use Rattle.compiling.specs.Compiled.{Compiles, Gives, Small, bytes_to, written};
+ghost use Rattle.compiling.specs.Compiled.{Compiles, Gives, bytes_to, written};
 
 use diagrams::{Associations, ReadDiagram};
 use entries::{Entries, Entry};
 
-// The list is the reply's: 64 places of five bytes each, of which `number` are entries.
+// The list is the reply's: 64 places of seven bytes each, of which `number` are entries.
 #[derive(Clone, Copy)]
 pub struct Compiled {
     pub number: usize,
-    pub list: [u8; 320],
+    pub list: [u8; 448],
 }
 
 // Of each arrow, the kinds of its entries in order with their sides, kind 0 for none. Kinds and sides are numbers of the compiled
@@ -113,26 +113,29 @@ pub fn compile_entries(d: ReadDiagram) -> Entries
 // ---- bytes
 
 // The bytes of entry i into its place.
-fn put_entry(list: &mut [u8; 320], e: &Entries, i: usize)
-    requires { (i < 64) × ((list.old ≡ written e.now i) × Small e.now) }
+fn put_entry(list: &mut [u8; 448], e: &Entries, i: usize)
+    requires { (i < 64) × (list.old ≡ written e.now i) }
     ensures { list.new ≡ written e.now (i + 1) }
 {
     let entry = e.list[i];
-    list[i * 5..i * 5 + 5].copy_from_slice(&[
+    let low = fields::two_bytes(entry.low);
+    let up = fields::two_bytes(entry.up);
+    list[i * 7..i * 7 + 7].copy_from_slice(&[
         entry.kind,
         entry.association,
         entry.side,
-        entry.low as u8,
-        entry.up as u8,
+        low[0],
+        low[1],
+        up[0],
+        up[1],
     ]);
 }
 
-// The 64 entries, five bytes each: by index, as the definition `bytes_to` joins them.
-pub fn list_bytes(e: Entries) -> [u8; 320]
-    requires { Small e }
+// The 64 entries, seven bytes each: by index, as the definition `bytes_to` joins them.
+pub fn list_bytes(e: Entries) -> [u8; 448]
     ensures { result ≡ bytes_to e 64 }
 {
-    let mut list = [0u8; 320];
+    let mut list = [0u8; 448];
     for i in 0..64 {
         put_entry(&mut list, &e, i);
     }

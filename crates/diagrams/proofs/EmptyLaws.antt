@@ -6,10 +6,6 @@ use mathlib.Core.Path.{◌≡◌}
 use Rattle.std.specs.Array.{AllOfLen}
 use Rattle.laws.proofs.ArrayLaws.{default-zeros}
 use Rattle.diagrams.specs.declared.StoredDiagram.{StoredDiagram}
-use Rattle.diagrams.specs.declared.ValueTypes.{ValueTypes}
-use Rattle.diagrams.specs.declared.Types.{Types}
-use Rattle.diagrams.specs.declared.Attributes.{Attributes}
-use Rattle.diagrams.specs.declared.Associations.{Associations}
 use Rattle.diagrams.specs.Empty.{empty_diagram}
 
 abbrev Zeros : List ℕ → ℕ → Type 0

@@ -53,7 +53,7 @@ pub struct Associations {
     pub arrows: [u8; 16],
     pub types: [u8; 32],
     pub lows: [u16; 32],
-    // 65,535, which no file has as a limit, stands for no upper limit: the limits are flat arrays of numbers, as all here.
+    // 65,535, as in a file of edition 2, stands for no upper limit: the limits are flat arrays of numbers, as all here.
     pub ups: [u16; 32],
     pub roles: [u8; 544],
 }

@@ -1,5 +1,5 @@
 -- The list of entries by its length and by index; entries that gain entries at the end: none, one behind the other, and the one
--- that five stores put there.
+-- that a store at the number puts there.
 -- Assumes nothing.
 use Prim.Native.Nat.{ℕ, ◌+◌, ◌<◌, ◌≤◌}
 use native.Mathlib.Omega.{arith}

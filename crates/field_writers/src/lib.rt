@@ -14,7 +14,7 @@ pub fn put_head(out: &mut [u8], tag: u8, n: usize, b: u8)
     requires { (4 ≤ length out.old) × (n < 65536) }
     ensures { Put (head tag n b) out.old 4 out.new }
 {
-    let [high, low] = (n as u16).to_be_bytes();
+    let [high, low] = fields::two_bytes(n as u16);
     out[..4].copy_from_slice(&[tag, high, low, b]);
 }
 

@@ -2,6 +2,7 @@
 #![tactic(auto)]
 
 ghost use Rattle.std.specs.Prelude.{◌≡◌, ◌*◌, ◌<◌, ◌≤◌, ℕ, get_or};
+ghost use Rattle.files.specs.Field.{two_bytes};
 ghost use Rattle.files.specs.Name.{name_byte, valid_name, same_name, before};
 ghost use Rattle.files.specs.Refusal.{misplaced};
 ghost use Rattle.files.specs.Content.{name_in, past_name, starts_name, starts_constant};
@@ -95,6 +96,16 @@ pub fn is_misplaced(once: u8, tags: &[u8], last: u8, tag: u8) -> bool
     ensures { result ≡ misplaced once tags.now last tag }
 {
     !tags.contains(&tag) | (tag < last) | ((tag == once) != (last == 0))
+}
+
+// ---- a number
+
+// Its two bytes, high byte first. A function over the number alone: that it is below 65,536 is known of what is passed by
+// value, and not of what stands in an array.
+pub fn two_bytes(n: u16) -> [u8; 2]
+    ensures { result ≡ two_bytes n }
+{
+    n.to_be_bytes()
 }
 
 // ---- names

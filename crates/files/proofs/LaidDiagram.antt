@@ -1,5 +1,5 @@
 -- What the checks of a diagram's fields ask but for 5, that names differ and parents rise, and 8: its counts and contents are as 4 and 3
--- ask, its indices as 6 and 7. A well-formed diagram is so.
+-- ask, its indices as 6 and 7. A well-formed diagram is so in each edition that its limits fit.
 -- Assumes nothing.
 use Prim.Native.Nat.{◌<◌, ◌≤◌, ℕ}
 use mathlib.Core.Bool.{false, true}
@@ -9,7 +9,7 @@ use lib.ListN.{get_or, length}
 use Rattle.laws.specs.Bounded.{any}
 use Rattle.files.specs.Diagram.{Association, Diagram, End, TypeDef, ValueType, association_at, attribute_at, is_interface, type_at, value_type_at}
 use Rattle.files.specs.Name.{valid_name}
-use Rattle.files.specs.WellFormedDiagram.{WfDiagram, WfEnd, WfUpper}
+use Rattle.files.specs.WellFormedDiagram.{FitsDiagram, FitsLimits, WfDiagram}
 use Rattle.files.proofs.TwiceLaws.{earlier}
 
 -- ---- 3 and 4
@@ -24,19 +24,19 @@ pub record LaidType (t : TypeDef) : Type 0 where
   pub named : valid_name t.name ≡ true
   pub few-parents : length t.parents ≤ 4
 
-pub record LaidEnd (e : End) : Type 0 where
-  pub low_small : e.limits.low ≤ 100
-  pub up_fits : WfUpper e.limits.low e.limits.up
-  pub role-named : valid_name e.role ≡ true
+-- in edition e
+pub record LaidEnd (e : ℕ) (x : End) : Type 0 where
+  pub limits-fit : FitsLimits e x.limits
+  pub role-named : valid_name x.role ≡ true
 
-pub record LaidAssociation (a : Association) : Type 0 where
+pub record LaidAssociation (e : ℕ) (a : Association) : Type 0 where
   pub form-known : a.form ≤ 1
   pub arrow-first : 1 ≤ a.arrow
   pub arrow-last : a.arrow ≤ 4
-  pub left_laid : LaidEnd a.left
-  pub right-laid : LaidEnd a.right
+  pub left_laid : LaidEnd e a.left
+  pub right-laid : LaidEnd e a.right
 
-pub record LaidDiagram (d : Diagram) : Type 0 where
+pub record LaidDiagram (e : ℕ) (d : Diagram) : Type 0 where
   pub few-value-types : length d.value_types ≤ 12
   pub value-type : (i : ℕ) → i < length d.value_types → LaidValueType (value_type_at d i)
   pub few-types : length d.types ≤ 24
@@ -44,7 +44,7 @@ pub record LaidDiagram (d : Diagram) : Type 0 where
   pub few-attributes : length d.attributes ≤ 32
   pub attribute-named : (i : ℕ) → i < length d.attributes → valid_name (attribute_at d i).name ≡ true
   pub few-associations : length d.associations ≤ 16
-  pub association : (i : ℕ) → i < length d.associations → LaidAssociation (association_at d i)
+  pub association : (i : ℕ) → i < length d.associations → LaidAssociation e (association_at d i)
 
 -- ---- 6 and 7
 
@@ -66,11 +66,12 @@ pub record KnownIndices (d : Diagram) : Type 0 where
 
 -- ---- a well-formed diagram
 
-end-as-laid : (d : Diagram) (e : End) → WfEnd d e → LaidEnd e
-end-as-laid d e w = record { low_small = w.low_small; up_fits = w.up_fits; role-named = w.role-named }
+-- edition 2 has numbers for its limits
+pub wf-wide : (d : Diagram) → WfDiagram d → FitsDiagram 2 d
+wf-wide d w i l = let a = w.association i l in (a.left-fits.limits-fit, a.right-fits.limits-fit)
 
-pub wf-laid : (d : Diagram) → WfDiagram d → LaidDiagram d
-wf-laid d w = record {
+pub wf-laid : (e : ℕ) (d : Diagram) → WfDiagram d → FitsDiagram e d → LaidDiagram e d
+wf-laid e d w f = record {
   few-value-types = w.few-value-types;
   value-type = λ i l. let v = w.value-type i l in record { named = v.named; few-constants = v.few-constants; constants-named = v.constants-named };
   few-types = w.few-types;
@@ -84,8 +85,8 @@ wf-laid d w = record {
         form-known = a.form-known;
         arrow-first = a.arrow-first;
         arrow-last = a.arrow-last;
-        left_laid = end-as-laid d _ a.left-fits;
-        right-laid = end-as-laid d _ a.right-fits;
+        left_laid = record { limits-fit = (f i l).0; role-named = a.left-fits.role-named };
+        right-laid = record { limits-fit = (f i l).1; role-named = a.right-fits.role-named };
       };
 }
 

@@ -3,6 +3,7 @@ pub mod NameLaws
 pub mod MembershipLaws
 pub mod FieldLaws
 pub mod ContentLaws
+pub mod EndLaws
 pub mod RefusalLaws
 pub mod RecordRoundTrip
 pub mod RecordUnique
@@ -21,3 +22,4 @@ pub mod DiagramRoundTrip
 pub mod DiagramSize
 pub mod AcceptedBytes
 pub mod AncestorLaws
+pub mod OneLayout

@@ -4,6 +4,7 @@ pub mod Name
 pub mod Content
 pub mod Diagram
 pub mod Ancestor
+pub mod Limit
 pub mod DiagramLayout
 pub mod DiagramFile
 pub mod DiagramBytes
@@ -15,3 +16,4 @@ pub mod RecordBytes
 pub mod WellFormedRecord
 pub mod WellFormedDiagram
 pub mod FileCases
+pub mod EditionCases

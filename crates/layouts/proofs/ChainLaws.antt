@@ -1,7 +1,7 @@
 -- Tests joined by `&` one behind the other, as the definitions nest them.
 -- Assumes nothing.
 use mathlib.Core.Bool.{Bool, true, false, ◌&&◌}
-use mathlib.Core.Path.{◌≡◌, refl, ap, ◌∙◌}
+use mathlib.Core.Path.{◌≡◌, refl}
 use Rattle.laws.specs.Connective.{both}
 
 pub and-chain : (a b c : Bool) → (a && b) && c ≡ both a (both b c)

@@ -1,2 +1,3 @@
 pub mod NamesLaws
 pub mod ChainLaws
+pub mod LimitLaws

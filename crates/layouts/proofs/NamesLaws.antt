@@ -1,12 +1,12 @@
 -- Loops over a row of names: what is left behind the first i of them, and the names by index.
 -- Assumes nothing.
-use Prim.Native.Nat.{ℕ, ◌+◌, ◌≤◌}
+use Prim.Native.Nat.{ℕ, ◌+◌}
 use native.Mathlib.Nat.{le_antisymm}
 use native.Mathlib.Numerals.{add-one}
-use mathlib.Core.Bool.{Bool, true, false, not}
+use mathlib.Core.Bool.{Bool, not}
 use mathlib.Core.List.{List, [], ◌∷◌}
 use mathlib.Core.Path.{◌≡◌, refl, sym, ap, ap₂, ◌∙◌}
-use lib.Dec.{eqb, leb}
+use lib.Dec.{leb}
 use lib.ListN.{length, get_or, drop}
 use Rattle.laws.specs.Connective.{both}
 use Rattle.laws.specs.Bounded.{all, any}
@@ -14,7 +14,7 @@ use Rattle.laws.specs.Lists.{joined}
 use Rattle.laws.proofs.BoundedLaws.{all-ext, any-ext}
 use Rattle.laws.proofs.JoinedLaws.{length-each, get_or-each}
 use Rattle.files.specs.Name.{same_name, differ}
-use Rattle.files.specs.Content.{byte, name_in, past_name, starts_name, past_names, at_end}
+use Rattle.files.specs.Content.{byte, name_in, past_name, starts_name, past_names}
 use Rattle.files.specs.DiagramLayout.{value_type_laid}
 use Rattle.layouts.specs.Names.{names_laid}
 

@@ -2,12 +2,13 @@
 // waits for another: they are joined by `&`.
 #![tactic(auto)]
 
-ghost use Rattle.std.specs.Prelude.{◌≡◌, ◌∷◌, []};
+ghost use Rattle.std.specs.Prelude.{◌≡◌, ◌∷◌, [], true, drop};
 ghost use Rattle.laws.specs.Bounded.{any};
 ghost use Rattle.laws.specs.Lists.{joined};
 ghost use Rattle.files.specs.Name.{same_name, differ};
 ghost use Rattle.files.specs.Content.{name_in, past_names};
-ghost use Rattle.files.specs.DiagramLayout.{edition_laid, value_type_laid, type_laid, attribute_laid, limits_laid, end_laid, past_end, association_laid};
+ghost use Rattle.files.specs.DiagramLayout.{edition_laid, value_type_laid, type_laid, attribute_laid, end_laid, past_end, association_laid};
+ghost use Rattle.files.specs.Limit.{most_of, none_of, up_start, limits_end, limit_at, limit_written, limits_laid};
 ghost use Rattle.layouts.specs.Names.{names_laid};
 ghost use Rattle.files.specs.RecordLayout.{count_laid, object_laid, value_laid, link_laid};
 
@@ -64,11 +65,11 @@ fn is_name_between(c: &[u8]) -> bool
 // Each comment begins with the field's tag in the file. Tags are numbers, since a file may have any byte there: `fields::is_misplaced`
 // refuses those that are none.
 
-// 0x10: edition, 1.
-pub fn edition_laid(c: &[u8]) -> bool
-    ensures { result ≡ edition_laid c.now }
+// 0x10: the edition that the file is read by, 1 or 2. Here and in the crates above it is a number, since a file may have any byte there.
+pub fn edition_laid(edition: u8, c: &[u8]) -> bool
+    ensures { result ≡ edition_laid edition c.now }
 {
-    (c.len() == 1) & (laws::byte(c, 0) == 1)
+    (c.len() == 1) & (laws::byte(c, 0) == edition) & ((edition == 1) | (edition == 2))
 }
 
 // 0x20: name, count, constant names.
@@ -100,39 +101,89 @@ pub fn attribute_laid(c: &[u8]) -> bool
     is_name_between(c)
 }
 
-// Low 0 to 100; up 0 to 100 and not below low, or 255.
-pub fn limits_laid(low: u8, up: u8) -> bool
-    ensures { result ≡ limits_laid low up }
+// The largest finite limit of an edition.
+fn most_of(edition: u8) -> u16
+    ensures { result ≡ most_of edition }
 {
-    (low <= 100) & (((up <= 100) & (low <= up)) | (up == 255))
+    if edition == 2 { 4000 } else { 100 }
+}
+
+// The number by which an edition says "no upper limit".
+pub fn none_of(edition: u8) -> u16
+    ensures { result ≡ none_of edition }
+{
+    if edition == 2 { 65535 } else { 255 }
+}
+
+// Low is at most the largest limit; up too and not below low, or it says that there is none.
+pub fn limits_laid(edition: u8, low: u16, up: u16) -> bool
+    ensures { result ≡ limits_laid edition low up }
+{
+    let most = most_of(edition);
+    (low <= most) & (((up <= most) & (low <= up)) | (up == none_of(edition)))
+}
+
+// The limit that starts at byte i: two bytes in edition 2, else one.
+fn limit_at(edition: u8, c: &[u8], i: u8) -> u16
+    ensures { (result ≡ limit_at edition c.now i) × (limit_written edition c.now i ≡ true) }
+{
+    let at = usize::from(i);
+    let first = laws::byte(c, at);
+    if edition == 2 {
+        u16::from_be_bytes([first, laws::byte(c, at + 1)])
+    } else {
+        u16::from(first)
+    }
+}
+
+// The low of an end.
+pub fn low_of(edition: u8, c: &[u8]) -> u16
+    ensures { (result ≡ limit_at edition c.now 1) × (limit_written edition c.now 1 ≡ true) }
+{
+    limit_at(edition, c, 1)
+}
+
+// The up of an end, as the file has it.
+pub fn up_of(edition: u8, c: &[u8]) -> u16
+    ensures { (result ≡ limit_at edition c.now (up_start edition)) × (limit_written edition c.now (up_start edition) ≡ true) }
+{
+    limit_at(edition, c, if edition == 2 { 3 } else { 2 })
+}
+
+// The role name of an end, and all behind it.
+pub fn role_of(edition: u8, c: &[u8]) -> &[u8]
+    ensures { result.now ≡ drop (limits_end edition) c.now }
+{
+    laws::past(c, if edition == 2 { 5 } else { 3 })
 }
 
 // One end: type, low, up, role name.
-pub fn end_laid(c: &[u8]) -> bool
-    ensures { result ≡ end_laid c.now }
+pub fn end_laid(edition: u8, c: &[u8]) -> bool
+    ensures { result ≡ end_laid edition c.now }
 {
-    limits_laid(laws::byte(c, 1), laws::byte(c, 2)) & fields::starts_name(laws::past(c, 3))
+    limits_laid(edition, low_of(edition, c), up_of(edition, c))
+        & fields::starts_name(role_of(edition, c))
 }
 
 // What follows an end.
-pub fn past_end(c: &[u8]) -> &[u8]
-    ensures { result.now ≡ past_end c.now }
+pub fn past_end(edition: u8, c: &[u8]) -> &[u8]
+    ensures { result.now ≡ past_end edition c.now }
 {
-    fields::past_name(laws::past(c, 3))
+    fields::past_name(role_of(edition, c))
 }
 
 // 0x50: form, arrow, left end, right end.
-pub fn association_laid(c: &[u8]) -> bool
-    ensures { result ≡ association_laid c.now }
+pub fn association_laid(edition: u8, c: &[u8]) -> bool
+    ensures { result ≡ association_laid edition c.now }
 {
     let left = laws::past(c, 2);
-    let right = past_end(left);
+    let right = past_end(edition, left);
     let arrow = laws::byte(c, 1);
     (laws::byte(c, 0) <= 1)
         & ((1 <= arrow) & (arrow <= 4))
-        & end_laid(left)
-        & end_laid(right)
-        & past_end(right).is_empty()
+        & end_laid(edition, left)
+        & end_laid(edition, right)
+        & past_end(edition, right).is_empty()
 }
 
 // ---- record files

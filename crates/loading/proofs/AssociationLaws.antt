@@ -1,23 +1,23 @@
 -- Attributes and associations in memory with one more at the end; an upper limit as it is kept.
 -- Assumes nothing.
 use mathlib.Core.Path.{◌≡◌, sym, ap, ◌∙◌, subst}
-use mathlib.Core.Bool.{Bool, true, cond}
+use mathlib.Core.Bool.{true}
 use Prim.Native.Nat.{ℕ, ◌+◌, ◌*◌, ◌≤◌, ◌<◌}
 use native.Mathlib.Omega.{arith}
 use mathlib.Core.List.{List}
-use lib.Dec.{eqb}
 use lib.ListN.{length, get_or, drop, set}
 use borrow.Author.Tests.{eq-eqb, ne_eqb}
 use Rattle.laws.proofs.ConnectiveLaws.{both_left, both_right}
 use Rattle.laws.proofs.JoinedLaws.{listed_more}
 use Rattle.laws.proofs.ListLaws.{set-kept, set_is}
 use Rattle.files.specs.Content.{name_in, past_name}
-use Rattle.files.specs.Diagram.{Upper, at_most, no_limit}
-use Rattle.files.specs.DiagramLayout.{association_laid, association_of, attribute_laid, attribute_of, end_laid, end_of, past_end, upper_of}
+use Rattle.files.specs.DiagramLayout.{association_laid, association_of, attribute_laid, attribute_of, end_laid, end_of, past_end}
+use Rattle.files.specs.Limit.{limit_at, limits_end, none_of, up_start, upper_of}
 use Rattle.diagrams.specs.declared.Attributes.{Attributes}
 use Rattle.diagrams.specs.declared.Associations.{Associations}
 use Rattle.diagrams.specs.View.{association_in, associations_of, attribute_in, attributes_of, end_in, upper_in}
 use Rattle.loading.specs.Stored.{NameStored, AttributeFits, AttributeStored, EndStored, AssociationFits, AssociationStored}
+use Rattle.files.proofs.EndLaws.{none-wide, up-most}
 use Rattle.loading.proofs.SlotLaws.{name-short}
 
 -- ---- attributes
@@ -41,65 +41,70 @@ attribute-stored a r c {x = x} {y = y} fits m n p q e f g count owners names typ
 
 -- ---- limits
 
-pub upper-none : (b : ℕ) → b ≡ 255 → upper_in 65535 ≡ upper_of b
-unfolding upper_in upper_of
-upper-none b e = sym (ap (λ (t : Bool). cond {A = Upper} t no_limit (at_most b)) (eq-eqb b 255 e))
+module _ (edition up none : ℕ) (e : none ≡ none_of edition) where
+  pub upper-none : up ≡ none → upper_in 65535 ≡ upper_of edition up
+  unfolding upper_in upper_of
+  upper-none h = rw (eq-eqb up (none_of edition) (h ∙ e))
 
-pub upper-some : (b r : ℕ) → (b ≡ 255 → ⊥) → b < 256 → r ≡ b → upper_in r ≡ upper_of b
-unfolding upper_in upper_of
-upper-some b r n h e =
-    ap (λ (x : ℕ). cond {A = Upper} (eqb x 65535) no_limit (at_most x)) e
-    ∙ ap (λ (t : Bool). cond {A = Upper} t no_limit (at_most b)) (ne_eqb b 65535 (λ q. omega arith) ∙ sym (ne_eqb b 255 n))
+  pub upper-some : (up ≡ none → ⊥) → up ≤ none_of edition → upper_in up ≡ upper_of edition up
+  unfolding upper_in upper_of
+  upper-some n h =
+      rw (ne_eqb up (none_of edition) (λ q. n (q ∙ sym e)), ne_eqb up 65535 (λ q. n (omega (arith, none-wide edition))))
+
+pub up_fits : (edition : ℕ) (c : List ℕ) {up : ℕ} → end_laid edition c ≡ true → up ≡ limit_at edition c (up_start edition) → up ≤ none_of edition
+unfolding end_laid
+up_fits edition c h e = subst (λ (n : ℕ). n ≤ none_of edition) (sym e) (up-most edition _ _ (both_left _ _ h))
 
 -- ---- ends
 
-pub role-short : (c : List ℕ) {s w : List ℕ} → end_laid c ≡ true → s ≡ drop 3 c → w ≡ name_in s → length w ≤ 16
+pub role-short : (edition : ℕ) (c : List ℕ) {s w : List ℕ} → end_laid edition c ≡ true → s ≡ drop (limits_end edition) c → w ≡ name_in s → length w ≤ 16
 unfolding end_laid
-role-short c h p q = subst (λ (x : List ℕ). length x ≤ 16) (sym (q ∙ ap name_in p)) (name-short (drop 3 c) (both_right _ _ h))
+role-short edition c h p q = subst (λ (x : List ℕ). length x ≤ 16) (sym (q ∙ ap name_in p)) (name-short (drop (limits_end edition) c) (both_right _ _ (both_right _ _ h)))
 
-pub end-stored : (a r : Associations) (e : ℕ) (c : List ℕ) (v : ℕ) {s w : List ℕ} {x y z : ℕ} → e < 32 → length a.types ≡ 32 → length a.lows ≡ 32 → length a.ups ≡ 32
-    → x ≡ get_or c 0 0 → y ≡ get_or c 1 0 → z ≡ y → s ≡ drop 3 c → w ≡ name_in s → r.count ≡ a.count → r.forms ≡ a.forms → r.arrows ≡ a.arrows
-    → r.types ≡ set a.types e x → r.lows ≡ set a.lows e z → r.ups ≡ set a.ups e v → upper_in v ≡ upper_of (get_or c 2 0)
-    → NameStored a.roles e w r.roles → EndStored a e c r
+pub end-stored : (edition : ℕ) (a r : Associations) (e : ℕ) (c : List ℕ) (v : ℕ) {s w : List ℕ} {x y u : ℕ} → e < 32 → length a.types ≡ 32 → length a.lows ≡ 32
+    → length a.ups ≡ 32 → x ≡ get_or c 0 0 → y ≡ limit_at edition c 1 → u ≡ limit_at edition c (up_start edition) → s ≡ drop (limits_end edition) c → w ≡ name_in s → r.count ≡ a.count
+    → r.forms ≡ a.forms → r.arrows ≡ a.arrows → r.types ≡ set a.types e x → r.lows ≡ set a.lows e y → r.ups ≡ set a.ups e v → upper_in v ≡ upper_of edition u
+    → NameStored a.roles e w r.roles → EndStored edition a e c r
 unfolding end_in end_of
-end-stored a r e c v {x = x} {z = z} h k l m p q t f g count forms arrows types lows ups up roles = record {
+end-stored edition a r e c v {x = x} {y = y} h k l m p q t f g count forms arrows types lows ups up roles = record {
   count = count;
   forms = forms;
   arrows = arrows;
   kept = λ j b.
-      cc (set-kept a.types r.types e x j types b, set-kept a.lows r.lows e z j lows b, set-kept a.ups r.ups e v j ups b, roles.kept j b);
+      cc (set-kept a.types r.types e x j types b, set-kept a.lows r.lows e y j lows b, set-kept a.ups r.ups e v j ups b, roles.kept j b);
   is =
       let k' : e < length a.types = omega arith in
       let l' : e < length a.lows = omega arith in
       let m' : e < length a.ups = omega arith in
-      let last : upper_in (get_or r.ups e 0) ≡ upper_of (get_or c 2 0) = ap upper_in (set_is a.ups r.ups e v ups m') ∙ up in
-      cc (set_is a.types r.types e x types k', set_is a.lows r.lows e z lows l', roles.is);
+      let last : upper_in (get_or r.ups e 0) ≡ upper_of edition (limit_at edition c (up_start edition)) =
+      ap upper_in (set_is a.ups r.ups e v ups m') ∙ up ∙ ap (upper_of edition) t in
+      cc (set_is a.types r.types e x types k', set_is a.lows r.lows e y lows l', roles.is);
 }
 
 -- ---- associations
 
-pub left_laid : (a : Associations) (c : List ℕ) {l : List ℕ} → AssociationFits a c → l ≡ drop 2 c → end_laid l ≡ true
+pub left_laid : (edition : ℕ) (a : Associations) (c : List ℕ) {l : List ℕ} → AssociationFits edition a c → l ≡ drop 2 c → end_laid edition l ≡ true
 unfolding association_laid
-left_laid a c f e = ap end_laid e ∙ both_left _ _ (both_right _ _ (both_right _ _ f.laid))
+left_laid edition a c f e = ap (end_laid edition) e ∙ both_left _ _ (both_right _ _ (both_right _ _ f.laid))
 
-pub right-laid : (a : Associations) (c : List ℕ) {l r : List ℕ} → AssociationFits a c → l ≡ drop 2 c → r ≡ past_end l → end_laid r ≡ true
+pub right-laid : (edition : ℕ) (a : Associations) (c : List ℕ) {l r : List ℕ} → AssociationFits edition a c → l ≡ drop 2 c → r ≡ past_end edition l → end_laid edition r ≡ true
 unfolding association_laid
-right-laid a c f e q = ap end_laid (q ∙ ap past_end e) ∙ both_left _ _ (both_right _ _ (both_right _ _ (both_right _ _ f.laid)))
+right-laid edition a c f e q = ap (end_laid edition) (q ∙ ap (past_end edition) e) ∙ both_left _ _ (both_right _ _ (both_right _ _ (both_right _ _ f.laid)))
 
 end_same : (r n : Associations) → r.types ≡ n.types → r.lows ≡ n.lows → r.ups ≡ n.ups → r.roles ≡ n.roles → (e : ℕ) → end_in r e ≡ end_in n e
 unfolding end_in
 end_same r n p q f g e = cc
 
-pub association-stored : (a m n r : Associations) (c : List ℕ) {left right : List ℕ} {x y : ℕ} → AssociationFits a c → length a.forms ≡ 16 → length a.arrows ≡ 16
-    → left ≡ drop 2 c → right ≡ past_end left → EndStored a (a.count * 2) left m → EndStored m (a.count * 2 + 1) right n → x ≡ get_or c 0 0 → y ≡ get_or c 1 0
+pub association-stored : (edition : ℕ) (a m n r : Associations) (c : List ℕ) {left right : List ℕ} {x y : ℕ} → AssociationFits edition a c → length a.forms ≡ 16 → length a.arrows ≡ 16
+    → left ≡ drop 2 c → right ≡ past_end edition left → EndStored edition a (a.count * 2) left m → EndStored edition m (a.count * 2 + 1) right n → x ≡ get_or c 0 0 → y ≡ get_or c 1 0
     → r.count ≡ a.count + 1 → r.forms ≡ set n.forms a.count x → r.arrows ≡ set n.arrows a.count y → r.types ≡ n.types → r.lows ≡ n.lows → r.ups ≡ n.ups
-    → r.roles ≡ n.roles → AssociationStored a c r
+    → r.roles ≡ n.roles → AssociationStored edition a c r
 unfolding associations_of association_in association_of
-association-stored a m n r c {x = x} {y = y} fits p q f g u v s t count forms arrows k1 k2 k3 k4 =
+association-stored edition a m n r c {x = x} {y = y} fits p q f g u v s t count forms arrows k1 k2 k3 k4 =
     let ends : (e : ℕ) → end_in r e ≡ end_in n e = end_same r n k1 k2 k3 k4 in
     record {
       count = count;
-      says = listed_more (association_in r) (association_in a) a.count r.count (association_of c) count
+      says = listed_more (association_in r) (association_in a) a.count r.count (association_of edition c) count
           (λ i l.
           let i2 : i * 2 < a.count * 2 = omega arith in
           let i3 : i * 2 + 1 < a.count * 2 = omega arith in
@@ -113,8 +118,8 @@ association-stored a m n r c {x = x} {y = y} fits p q f g u v s t count forms ar
           (let k : a.count < length n.forms = omega (arith, fits.room, ap length (v.forms ∙ u.forms)) in
           let j : a.count < length n.arrows = omega (arith, fits.room, ap length (v.arrows ∙ u.arrows)) in
           let b : a.count * 2 < a.count * 2 + 1 = omega arith in
-          let lefts : end_in r (a.count * 2) ≡ end_of (drop 2 c) = ends (a.count * 2) ∙ v.kept (a.count * 2) b ∙ u.is ∙ ap end_of f in
-          let rights : end_in r (a.count * 2 + 1) ≡ end_of (past_end (drop 2 c)) = ends (a.count * 2 + 1) ∙ v.is ∙ ap end_of (g ∙ ap past_end f) in
+          let lefts : end_in r (a.count * 2) ≡ end_of edition (drop 2 c) = ends (a.count * 2) ∙ v.kept (a.count * 2) b ∙ u.is ∙ ap (end_of edition) f in
+          let rights : end_in r (a.count * 2 + 1) ≡ end_of edition (past_end edition (drop 2 c)) = ends (a.count * 2 + 1) ∙ v.is ∙ ap (end_of edition) (g ∙ ap (past_end edition) f) in
           let form : get_or r.forms a.count 0 ≡ get_or c 0 0 = set_is n.forms r.forms a.count x forms k ∙ s in
           let arrow : get_or r.arrows a.count 0 ≡ get_or c 1 0 = set_is n.arrows r.arrows a.count y arrows j ∙ t in
           cc);

@@ -4,7 +4,7 @@ use Prim.Native.Nat.{ℕ, zero, suc, ◌<◌}
 use native.Mathlib.Omega.{arith}
 use mathlib.Core.Bool.{Bool, cond}
 use mathlib.Core.List.{List}
-use mathlib.Core.Path.{◌≡◌, refl, sym, ap, ◌∙◌, subst}
+use mathlib.Core.Path.{◌≡◌, refl, sym, ap, ap₂, ◌∙◌, subst}
 use borrow.Author.Tests.{eq-eqb, ne_eqb}
 use Rattle.std.specs.Prelude.{Result, Ok, Err, IsErrAnd}
 use Rattle.fields.specs.Field.{AtFront}
@@ -14,7 +14,7 @@ use Rattle.fields.specs.declared.Refusal.{Refusal}
 use Rattle.fields.specs.declared.Refusal.TheVariants.{Cut, Misplaced}
 use Rattle.fields.proofs.RefusalLaws.{numbered, passed-on}
 use Rattle.files.specs.Diagram.{Diagram}
-use Rattle.files.specs.DiagramFile.{diagram_from, diagram_refusal, diagram_with, read_diagram}
+use Rattle.files.specs.DiagramFile.{diagram_from, diagram_refusal, diagram_with, edition_in, read_diagram}
 use Rattle.files.specs.Field.{Rows, cut, end, row, rows}
 use Rattle.files.specs.Refusal.{Answer, accepted, or_refused, refused}
 use Rattle.files.proofs.DiagramWellFormed.{nothing-wf}
@@ -36,9 +36,10 @@ empty-held = record { counts = empty-counts; wf = subst WfDiagram (sym empty-vie
 pub start-held : {d : StoredDiagram} → d ≡ empty_diagram → Held d
 start-held e = subst Held (sym e) empty-held
 
-pub start-says : (file : List ℕ) {d : StoredDiagram} → d ≡ empty_diagram → read_diagram file ≡ diagram_from 0 (diagram_of d) (rows file)
+pub start-says : (file : List ℕ) {edition : ℕ} {d : StoredDiagram} → edition ≡ edition_in file → d ≡ empty_diagram
+    → read_diagram file ≡ diagram_from edition 0 (diagram_of d) (rows file)
 unfolding read_diagram
-start-says file e = ap (λ (x : Diagram). diagram_from 0 x (rows file)) (sym empty-view ∙ sym (ap diagram_of e))
+start-says file k e = ap₂ (λ (n : ℕ) (x : Diagram). diagram_from n 0 x (rows file)) (sym k) (sym empty-view ∙ sym (ap diagram_of e))
 
 -- ---- replies
 
@@ -57,9 +58,9 @@ or-passed zero a h = refl
 or-passed (suc n) a h = absurd (omega arith)
 
 -- behind the diagram d and a field of the tag last, s is left
-module _ (file s : List ℕ) (last : ℕ) (d : StoredDiagram) (e : read_diagram file ≡ diagram_from last (diagram_of d) (rows s)) where
-  from : (x : Rows) → rows s ≡ x → read_diagram file ≡ diagram_from last (diagram_of d) x
-  from x h = e ∙ ap (diagram_from last (diagram_of d)) h
+module _ (file s : List ℕ) (edition last : ℕ) (d : StoredDiagram) (e : read_diagram file ≡ diagram_from edition last (diagram_of d) (rows s)) where
+  from : (x : Rows) → rows s ≡ x → read_diagram file ≡ diagram_from edition last (diagram_of d) x
+  from x h = e ∙ ap (diagram_from edition last (diagram_of d)) h
 
   pub reply-empty : rows s ≡ end → last ≡ 0 → Loads file (Err Misplaced)
   unfolding diagram_from
@@ -82,15 +83,15 @@ module _ (file s : List ℕ) (last : ℕ) (d : StoredDiagram) (e : read_diagram 
   module _ (f : Field) (w : AtFront s f) where
     -- one field is taken off the front
     taken : read_diagram file
-        ≡ or_refused (diagram_refusal last (diagram_of d) f.tag f.content.now) (diagram_from f.tag (diagram_with (diagram_of d) f.tag f.content.now) (rows f.rest.now))
+        ≡ or_refused (diagram_refusal edition last (diagram_of d) f.tag f.content.now) (diagram_from edition f.tag (diagram_with edition (diagram_of d) f.tag f.content.now) (rows f.rest.now))
     unfolding diagram_from
     taken = from (row f.tag f.content.now (rows f.rest.now)) w.is
 
-    pub reply-refused : (y : Refusal) (r : Result ReadDiagram Refusal) → number_of y ≡ diagram_refusal last (diagram_of d) f.tag f.content.now → IsErrAnd r (λ z. z ≡ y)
+    pub reply-refused : (y : Refusal) (r : Result ReadDiagram Refusal) → number_of y ≡ diagram_refusal edition last (diagram_of d) f.tag f.content.now → IsErrAnd r (λ z. z ≡ y)
         → Loads file r
     reply-refused y r h q =
         refuses file y r (taken ∙ or-refused _ _ (let n = numbered y in omega (arith, h)) ∙ ap (λ (k : ℕ). refused k) (sym h)) q
 
-    pub field-on : (g : StoredDiagram) → 0 ≡ diagram_refusal last (diagram_of d) f.tag f.content.now → WithField d f.tag f.content.now g
-        → read_diagram file ≡ diagram_from f.tag (diagram_of g) (rows f.rest.now)
-    field-on g h k = taken ∙ or-passed _ _ h ∙ ap (λ (y : Diagram). diagram_from f.tag y (rows f.rest.now)) (sym k.says)
+    pub field-on : (g : StoredDiagram) → 0 ≡ diagram_refusal edition last (diagram_of d) f.tag f.content.now → WithField edition d f.tag f.content.now g
+        → read_diagram file ≡ diagram_from edition f.tag (diagram_of g) (rows f.rest.now)
+    field-on g h k = taken ∙ or-passed _ _ h ∙ ap (λ (y : Diagram). diagram_from edition f.tag y (rows f.rest.now)) (sym k.says)

@@ -89,20 +89,20 @@ attribute-fits d c e = record {
   laid = not-false _ (refuse-passed _ 2 _ (refuse-passed _ 3 _ e).1).0;
 }
 
-association-fits : (d : StoredDiagram) (c : List ℕ) → association_refusal (diagram_of d) c ≡ 0 → AssociationFits d.associations c
+association-fits : (edition : ℕ) (d : StoredDiagram) (c : List ℕ) → association_refusal edition (diagram_of d) c ≡ 0 → AssociationFits edition d.associations c
 unfolding association_refusal full
-association-fits d c e = record {
+association-fits edition d c e = record {
   room = let room : length (diagram_of d).associations < 16 = leb-false 16 _ (refuse-passed _ 3 _ e).0 in omega (arith, association-count d);
   laid = not-false _ (refuse-passed _ 2 _ (refuse-passed _ 3 _ e).1).0;
 }
 
 -- ---- by the tag
 
-module _ (d : StoredDiagram) (t : ℕ) (c : List ℕ) (a : FieldPasses d t c) where
-  by-tag : cond (eqb t 16) (edition_refusal c)
+module _ (edition : ℕ) (d : StoredDiagram) (t : ℕ) (c : List ℕ) (a : FieldPasses edition d t c) where
+  by-tag : cond (eqb t 16) (edition_refusal edition c)
       (cond (eqb t 32) (value_type_refusal (diagram_of d) c)
       (cond (eqb t 48) (type_refusal (diagram_of d) c)
-      (cond (eqb t 64) (attribute_refusal (diagram_of d) c) (association_refusal (diagram_of d) c)))) ≡ 0
+      (cond (eqb t 64) (attribute_refusal (diagram_of d) c) (association_refusal edition (diagram_of d) c)))) ≡ 0
   unfolding diagram_refusal
   by-tag = (refuse-passed _ 1 _ a.passed).1
 
@@ -116,22 +116,22 @@ module _ (d : StoredDiagram) (t : ℕ) (c : List ℕ) (a : FieldPasses d t c) wh
   allowed-attribute y =
       attribute-fits d c (rw (ne_eqb t 16 (λ h. omega arith), ne_eqb t 32 (λ h. omega arith), ne_eqb t 48 (λ h. omega arith), eq-eqb t 64 y) at by-tag)
 
-  pub allowed-association : (t ≡ 16 → ⊥) → (t ≡ 32 → ⊥) → (t ≡ 48 → ⊥) → (t ≡ 64 → ⊥) → AssociationFits d.associations c
-  allowed-association n o p q = association-fits d c (rw (ne_eqb t 16 n, ne_eqb t 32 o, ne_eqb t 48 p, ne_eqb t 64 q) at by-tag)
+  pub allowed-association : (t ≡ 16 → ⊥) → (t ≡ 32 → ⊥) → (t ≡ 48 → ⊥) → (t ≡ 64 → ⊥) → AssociationFits edition d.associations c
+  allowed-association n o p q = association-fits edition d c (rw (ne_eqb t 16 n, ne_eqb t 32 o, ne_eqb t 48 p, ne_eqb t 64 q) at by-tag)
 
   -- what says so, has its counts and its sets, is held
-  grown : (r : StoredDiagram) → diagram_of r ≡ diagram_with (diagram_of d) t c → Counts r → Sets r.types → WithField d t c r
+  grown : (r : StoredDiagram) → diagram_of r ≡ diagram_with edition (diagram_of d) t c → Counts r → Sets r.types → WithField edition d t c r
   grown r e counts sets = record {
     says = e;
-    held = record { counts = counts; wf = subst WfDiagram (sym e) (keeps a.last (diagram_of d) t c a.held.wf a.passed); sets = sets };
+    held = record { counts = counts; wf = subst WfDiagram (sym e) (keeps edition a.last (diagram_of d) t c a.held.wf a.passed); sets = sets };
   }
 
-  pub grown-edition : t ≡ 16 → WithField d t c d
+  pub grown-edition : t ≡ 16 → WithField edition d t c d
   unfolding diagram_with
   grown-edition y = grown d (rw (eq-eqb t 16 y)) a.held.counts a.held.sets
 
   pub grown-value-type : (v : ValueTypes) → t ≡ 32 → ValueTypeStored d.values c v
-      → WithField d t c (record { values = v; types = d.types; attributes = d.attributes; associations = d.associations })
+      → WithField edition d t c (record { values = v; types = d.types; attributes = d.attributes; associations = d.associations })
   unfolding diagram_of diagram_with with_value_type
   grown-value-type v y s =
       let old : Counts d = a.held.counts in
@@ -142,7 +142,7 @@ module _ (d : StoredDiagram) (t : ℕ) (c : List ℕ) (a : FieldPasses d t c) wh
       (record { value-types = omega (arith, s.count, fits.room); types = old.types; attributes = old.attributes; associations = old.associations }) a.held.sets
 
   pub grown-type : (v : Types) → t ≡ 48 → TypeStored d.types c v
-      → WithField d t c (record { values = d.values; types = v; attributes = d.attributes; associations = d.associations })
+      → WithField edition d t c (record { values = d.values; types = v; attributes = d.attributes; associations = d.associations })
   unfolding diagram_of diagram_with with_type
   grown-type v y s =
       let old : Counts d = a.held.counts in
@@ -153,7 +153,7 @@ module _ (d : StoredDiagram) (t : ℕ) (c : List ℕ) (a : FieldPasses d t c) wh
       (record { value-types = old.value-types; types = omega (arith, s.count, fits.room); attributes = old.attributes; associations = old.associations }) s.sets
 
   pub grown-attribute : (v : Attributes) → t ≡ 64 → AttributeStored d.attributes c v
-      → WithField d t c (record { values = d.values; types = d.types; attributes = v; associations = d.associations })
+      → WithField edition d t c (record { values = d.values; types = d.types; attributes = v; associations = d.associations })
   unfolding diagram_of diagram_with with_attribute
   grown-attribute v y s =
       let old : Counts d = a.held.counts in
@@ -163,12 +163,12 @@ module _ (d : StoredDiagram) (t : ℕ) (c : List ℕ) (a : FieldPasses d t c) wh
       (ap (λ (x : List Attribute). record { value_types = (diagram_of d).value_types; types = (diagram_of d).types; attributes = x; associations = (diagram_of d).associations }) s.says))
       (record { value-types = old.value-types; types = old.types; attributes = omega (arith, s.count, fits.room); associations = old.associations }) a.held.sets
 
-  pub grown-association : (v : Associations) → (t ≡ 16 → ⊥) → (t ≡ 32 → ⊥) → (t ≡ 48 → ⊥) → (t ≡ 64 → ⊥) → AssociationStored d.associations c v
-      → WithField d t c (record { values = d.values; types = d.types; attributes = d.attributes; associations = v })
+  pub grown-association : (v : Associations) → (t ≡ 16 → ⊥) → (t ≡ 32 → ⊥) → (t ≡ 48 → ⊥) → (t ≡ 64 → ⊥) → AssociationStored edition d.associations c v
+      → WithField edition d t c (record { values = d.values; types = d.types; attributes = d.attributes; associations = v })
   unfolding diagram_of diagram_with with_association
   grown-association v n o p q s =
       let old : Counts d = a.held.counts in
-      let fits : AssociationFits d.associations c = allowed-association n o p q in
+      let fits : AssociationFits edition d.associations c = allowed-association n o p q in
       grown (record { values = d.values; types = d.types; attributes = d.attributes; associations = v })
       (rw (ne_eqb t 16 n, ne_eqb t 32 o, ne_eqb t 48 p, ne_eqb t 64 q)
       (ap (λ (x : List Association). record { value_types = (diagram_of d).value_types; types = (diagram_of d).types; attributes = (diagram_of d).attributes; associations = x }) s.says))

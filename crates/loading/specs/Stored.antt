@@ -74,18 +74,18 @@ pub record AttributeStored (a : Attributes) (c : List ℕ) (r : Attributes) : Ty
 
 -- ---- associations
 
--- end e is what c says, and the ends before it, the forms and the arrows are as they were
-pub record EndStored (a : Associations) (e : ℕ) (c : List ℕ) (r : Associations) : Type 0 where
+-- end e is what c says in that edition, and the ends before it, the forms and the arrows are as they were
+pub record EndStored (edition : ℕ) (a : Associations) (e : ℕ) (c : List ℕ) (r : Associations) : Type 0 where
   pub count : r.count ≡ a.count
   pub forms : r.forms ≡ a.forms
   pub arrows : r.arrows ≡ a.arrows
   pub kept : (j : ℕ) → j < e → end_in r j ≡ end_in a j
-  pub is : end_in r e ≡ end_of c
+  pub is : end_in r e ≡ end_of edition c
 
-pub record AssociationFits (a : Associations) (c : List ℕ) : Type 0 where
+pub record AssociationFits (edition : ℕ) (a : Associations) (c : List ℕ) : Type 0 where
   pub room : a.count < 16
-  pub laid : association_laid c ≡ true
+  pub laid : association_laid edition c ≡ true
 
-pub record AssociationStored (a : Associations) (c : List ℕ) (r : Associations) : Type 0 where
+pub record AssociationStored (edition : ℕ) (a : Associations) (c : List ℕ) (r : Associations) : Type 0 where
   pub count : r.count ≡ a.count + 1
-  pub says : associations_of r ≡ associations_of a ++ (association_of c ∷ [])
+  pub says : associations_of r ≡ associations_of a ++ (association_of edition c ∷ [])

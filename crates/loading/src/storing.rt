@@ -3,7 +3,8 @@
 ghost use Rattle.std.specs.Prelude.{◌≡◌, true, ℕ, ◌+◌, ◌*◌, ◌<◌, ◌≤◌, length, get_or};
 ghost use Rattle.laws.specs.Bounded.{all};
 ghost use Rattle.files.specs.Content.{starts_name, past_names};
-ghost use Rattle.files.specs.DiagramLayout.{end_laid, upper_of};
+ghost use Rattle.files.specs.DiagramLayout.{end_laid};
+ghost use Rattle.files.specs.Limit.{none_of, upper_of};
 ghost use Rattle.diagrams.specs.View.{upper_in};
 ghost use Rattle.loading.specs.Stored.{NameStored, ConstantsStored, ValueTypeFits, ValueTypeStored, ParentsStored, SetOf, TypeFits, TypeStored, AttributeFits, AttributeStored, EndStored, AssociationFits, AssociationStored};
 
@@ -100,34 +101,44 @@ pub(crate) fn add_attribute(a: &mut Attributes, c: &[u8])
 
 // ---- associations
 
-// An upper limit as `diagrams::Associations` has it: byte 255, no limit, is 65,535.
-fn upper(b: u8) -> u16
-    ensures { upper_in result ≡ upper_of b }
+// An upper limit as `diagrams::Associations` has it: 65,535 in place of the edition's number for none. 02 3/12, of edition 1 files: "their
+// 255 becoming 65,535 and every other limit keeping its number".
+fn upper(edition: u8, up: u16) -> u16
+    requires { up ≤ none_of edition }
+    ensures { upper_in result ≡ upper_of edition up }
 {
-    if b == 255 { 65535 } else { u16::from(b) }
+    if up == layouts::none_of(edition) {
+        65535
+    } else {
+        up
+    }
 }
 
 // What c says of an end, as end e.
-fn store_end(a: &mut Associations, e: usize, c: &[u8])
-    requires { (e < 32) × (end_laid c.now ≡ true) }
-    ensures { EndStored a.old e c.now a.new }
+fn store_end(edition: u8, a: &mut Associations, e: usize, c: &[u8])
+    requires { (e < 32) × (end_laid edition c.now ≡ true) }
+    ensures { EndStored edition a.old e c.now a.new }
 {
     a.types[e] = laws::byte(c, 0);
-    a.lows[e] = u16::from(laws::byte(c, 1));
-    a.ups[e] = upper(laws::byte(c, 2));
-    store_name(&mut a.roles, e, fields::name_in(laws::past(c, 3)));
+    a.lows[e] = layouts::low_of(edition, c);
+    a.ups[e] = upper(edition, layouts::up_of(edition, c));
+    store_name(
+        &mut a.roles,
+        e,
+        fields::name_in(layouts::role_of(edition, c)),
+    );
 }
 
 // One association more.
-pub(crate) fn add_association(a: &mut Associations, c: &[u8])
-    requires { AssociationFits a.old c.now }
-    ensures { AssociationStored a.old c.now a.new }
+pub(crate) fn add_association(edition: u8, a: &mut Associations, c: &[u8])
+    requires { AssociationFits edition a.old c.now }
+    ensures { AssociationStored edition a.old c.now a.new }
 {
     let i = a.count;
     let left = laws::past(c, 2);
-    let right = layouts::past_end(left);
-    store_end(a, i * 2, left);
-    store_end(a, i * 2 + 1, right);
+    let right = layouts::past_end(edition, left);
+    store_end(edition, a, i * 2, left);
+    store_end(edition, a, i * 2 + 1, right);
     a.forms[i] = laws::byte(c, 0);
     a.arrows[i] = laws::byte(c, 1);
     a.count = i + 1;

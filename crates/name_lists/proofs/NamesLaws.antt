@@ -1,13 +1,12 @@
 -- A list of names in memory: how many it has, the name at each place, and one name more.
 -- Assumes nothing.
-use mathlib.Core.Path.{◌≡◌, ap, sym, ◌∙◌}
-use mathlib.Core.Bool.{Bool}
+use mathlib.Core.Path.{◌≡◌, ap}
 use mathlib.Core.List.{[], ◌∷◌, ◌++◌}
 use Prim.Native.Nat.{ℕ, ◌+◌, ◌<◌}
 use lib.ListN.{length, get_or}
 use Rattle.laws.proofs.JoinedLaws.{get_or-each, length-each, listed_more}
 use Rattle.laws.specs.Lists.{joined, listed}
-use Rattle.files.specs.Name.{Name, same_name}
+use Rattle.files.specs.Name.{Name}
 use Rattle.fields.specs.Slot.{slot_name}
 use Rattle.loading.specs.Stored.{NameStored}
 use Rattle.name_lists.specs.declared.list.Names.{Names}

@@ -26,36 +26,36 @@ attribute-refusal : (d : StoredDiagram) (c : List ℕ) → attribute_no d.values
 unfolding attribute_no attribute_known attribute_refusal
 attribute-refusal d c = rw (value-type-count d, type-count d, attribute-count d)
 
-association-refusal : (d : StoredDiagram) (c : List ℕ) → association_no d.types.count d.associations.count c ≡ association_refusal (diagram_of d) c
+association-refusal : (e : ℕ) (d : StoredDiagram) (c : List ℕ) → association_no e d.types.count d.associations.count c ≡ association_refusal e (diagram_of d) c
 unfolding association_no ends_known whole_right association_refusal
-association-refusal d c = rw (type-count d, association-count d)
+association-refusal e d c = rw (type-count d, association-count d)
 
-module _ (d : StoredDiagram) (last t : ℕ) (c : List ℕ) where
-  pub field-misplaced : {m : Bool} → m ≡ misplaced 16 diagram_tags last t → m ≡ true → 2 ≡ diagram_refusal last (diagram_of d) t c
+module _ (edition : ℕ) (d : StoredDiagram) (last t : ℕ) (c : List ℕ) where
+  pub field-misplaced : {m : Bool} → m ≡ misplaced 16 diagram_tags last t → m ≡ true → 2 ≡ diagram_refusal edition last (diagram_of d) t c
   unfolding diagram_refusal refuse
   field-misplaced e h = rw (sym e ∙ h)
 
-  pub field-edition : {m : Bool} {r : ℕ} → m ≡ misplaced 16 diagram_tags last t → m ≡ false → t ≡ 16 → r ≡ edition_refusal c
-      → r ≡ diagram_refusal last (diagram_of d) t c
+  pub field-edition : {m : Bool} {r : ℕ} → m ≡ misplaced 16 diagram_tags last t → m ≡ false → t ≡ 16 → r ≡ edition_refusal edition c
+      → r ≡ diagram_refusal edition last (diagram_of d) t c
   unfolding diagram_refusal refuse
   field-edition e h y q = rw (sym e ∙ h, y) q
 
   pub field-value-type : {m : Bool} {r : ℕ} → m ≡ misplaced 16 diagram_tags last t → m ≡ false → t ≡ 32
-      → r ≡ value_type_refusal (only_value_types d.values) c → r ≡ diagram_refusal last (diagram_of d) t c
+      → r ≡ value_type_refusal (only_value_types d.values) c → r ≡ diagram_refusal edition last (diagram_of d) t c
   unfolding diagram_refusal refuse
   field-value-type e h y q = rw (sym e ∙ h, y) (q ∙ value-type-refusal d c)
 
   pub field-type : {m : Bool} {r : ℕ} → m ≡ misplaced 16 diagram_tags last t → m ≡ false → t ≡ 48
-      → r ≡ type_refusal (only_types d.types) c → r ≡ diagram_refusal last (diagram_of d) t c
+      → r ≡ type_refusal (only_types d.types) c → r ≡ diagram_refusal edition last (diagram_of d) t c
   unfolding diagram_refusal refuse
   field-type e h y q = rw (sym e ∙ h, y) (q ∙ type-refusal d c)
 
   pub field-attribute : {m : Bool} {r : ℕ} → m ≡ misplaced 16 diagram_tags last t → m ≡ false → t ≡ 64
-      → r ≡ attribute_no d.values.count d.types.count d.attributes.count c → r ≡ diagram_refusal last (diagram_of d) t c
+      → r ≡ attribute_no d.values.count d.types.count d.attributes.count c → r ≡ diagram_refusal edition last (diagram_of d) t c
   unfolding diagram_refusal refuse
   field-attribute e h y q = rw (sym e ∙ h, y) (q ∙ attribute-refusal d c)
 
   pub field-association : {m : Bool} {r : ℕ} → m ≡ misplaced 16 diagram_tags last t → m ≡ false → (t ≡ 16 → ⊥) → (t ≡ 32 → ⊥) → (t ≡ 48 → ⊥) → (t ≡ 64 → ⊥)
-      → r ≡ association_no d.types.count d.associations.count c → r ≡ diagram_refusal last (diagram_of d) t c
+      → r ≡ association_no edition d.types.count d.associations.count c → r ≡ diagram_refusal edition last (diagram_of d) t c
   unfolding diagram_refusal refuse
-  field-association e h n o p s q = rw (sym e ∙ h, ne_eqb t 16 n, ne_eqb t 32 o, ne_eqb t 48 p, ne_eqb t 64 s) (q ∙ association-refusal d c)
+  field-association e h n o p s q = rw (sym e ∙ h, ne_eqb t 16 n, ne_eqb t 32 o, ne_eqb t 48 p, ne_eqb t 64 s) (q ∙ association-refusal edition d c)

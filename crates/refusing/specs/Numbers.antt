@@ -39,13 +39,13 @@ unfoldable pub attribute_no : ℕ → ℕ → ℕ → List ℕ → ℕ
 attribute_no values types n c = refuse (full 32 n) 4 (refuse (not (attribute_laid c)) 3 (refuse (not (attribute_known values types c)) 6 0))
 
 -- the types of both ends are below the count
-unfoldable pub ends_known : ℕ → List ℕ → Bool
-ends_known types c = both (ltb (association_of c).left.type types) (ltb (association_of c).right.type types)
+unfoldable pub ends_known : ℕ → ℕ → List ℕ → Bool
+ends_known e types c = both (ltb (association_of e c).left.type types) (ltb (association_of e c).right.type types)
 
--- "a composition with arrow 2"
-unfoldable pub whole_right : List ℕ → Bool
-whole_right c = both (is_composition (association_of c)) (eqb (association_of c).arrow 2)
+-- 8: "a composition with arrow 2"
+unfoldable pub whole_right : ℕ → List ℕ → Bool
+whole_right e c = both (is_composition (association_of e c)) (eqb (association_of e c).arrow 2)
 
--- behind n associations, in a diagram with so many types
-unfoldable pub association_no : ℕ → ℕ → List ℕ → ℕ
-association_no types n c = refuse (full 16 n) 4 (refuse (not (association_laid c)) 3 (refuse (not (ends_known types c)) 6 (refuse (whole_right c) 8 0)))
+-- behind n associations, in a file of edition e and a diagram with so many types
+unfoldable pub association_no : ℕ → ℕ → ℕ → List ℕ → ℕ
+association_no e types n c = refuse (full 16 n) 4 (refuse (not (association_laid e c)) 3 (refuse (not (ends_known e types c)) 6 (refuse (whole_right e c) 8 0)))

@@ -1,7 +1,7 @@
 // The refusals of a diagram file's fields. A number of names is cast where a test before it, or the contract, has it at most 24.
 #![tactic(auto)]
 
-ghost use Rattle.std.specs.Prelude.{◌≡◌, ◌&&◌, suc, ◌<◌, ◌≤◌, eqb, ltb, length, get_or};
+ghost use Rattle.std.specs.Prelude.{◌≡◌, ◌&&◌, ℕ, suc, ◌<◌, ◌≤◌, eqb, ltb, length, get_or};
 ghost use Rattle.fields.specs.Refusal.{refusal_number};
 ghost use Rattle.files.specs.Name.{differ};
 ghost use Rattle.files.specs.DiagramLayout.{type_of, value_type_of};
@@ -15,11 +15,11 @@ use fields::Refusal;
 
 // ---- editions and value types
 
-// The first refusal of an edition, if it has one.
-fn check_edition(c: &[u8]) -> Result<(), Refusal>
-    ensures { refusal_number result ≡ edition_refusal c.now }
+// The first refusal of an edition, if it has one. Here and below the edition that a file is read by goes as the first argument.
+fn check_edition(edition: u8, c: &[u8]) -> Result<(), Refusal>
+    ensures { refusal_number result ≡ edition_refusal edition c.now }
 {
-    if !layouts::edition_laid(c) {
+    if !layouts::edition_laid(edition, c) {
         return Err(Refusal::Layout);
     }
     Ok(())
@@ -164,32 +164,32 @@ fn check_attribute(values: usize, types: usize, n: usize, c: &[u8]) -> Result<()
 }
 
 // The types of both ends are below the count.
-fn ends_known(types: usize, c: &[u8]) -> bool
-    ensures { result ≡ ends_known types c.now }
+fn ends_known(edition: u8, types: usize, c: &[u8]) -> bool
+    ensures { result ≡ ends_known edition types c.now }
 {
     let left = laws::past(c, 2);
     (usize::from(laws::byte(left, 0)) < types)
-        & (usize::from(laws::byte(layouts::past_end(left), 0)) < types)
+        & (usize::from(laws::byte(layouts::past_end(edition, left), 0)) < types)
 }
 
-// A composition with arrow 2.
+// A composition with arrow 2: form and arrow stand at the same place in both editions.
 fn whole_right(c: &[u8]) -> bool
-    ensures { result ≡ whole_right c.now }
+    ensures { (e : ℕ) → result ≡ whole_right e c.now }
 {
     (laws::byte(c, 0) == 1) & (laws::byte(c, 1) == 2)
 }
 
 // The first refusal of an association behind n others.
-fn check_association(types: usize, n: usize, c: &[u8]) -> Result<(), Refusal>
-    ensures { refusal_number result ≡ association_no types n c.now }
+fn check_association(edition: u8, types: usize, n: usize, c: &[u8]) -> Result<(), Refusal>
+    ensures { refusal_number result ≡ association_no edition types n c.now }
 {
     if 16 <= n {
         return Err(Refusal::Count);
     }
-    if !layouts::association_laid(c) {
+    if !layouts::association_laid(edition, c) {
         return Err(Refusal::Layout);
     }
-    if !ends_known(types, c) {
+    if !ends_known(edition, types, c) {
         return Err(Refusal::Unknown);
     }
     if whole_right(c) {
@@ -201,17 +201,23 @@ fn check_association(types: usize, n: usize, c: &[u8]) -> Result<(), Refusal>
 // ---- a field
 
 // The first refusal of a field behind one of the tag last, which is 0 where there is none, as `fields::is_misplaced` takes it.
-pub fn check_field(d: &StoredDiagram, last: u8, tag: u8, c: &[u8]) -> Result<(), Refusal>
-    ensures { refusal_number result ≡ diagram_refusal last (diagram_of d.now) tag c.now }
+pub fn check_field(
+    edition: u8,
+    d: &StoredDiagram,
+    last: u8,
+    tag: u8,
+    c: &[u8],
+) -> Result<(), Refusal>
+    ensures { refusal_number result ≡ diagram_refusal edition last (diagram_of d.now) tag c.now }
 {
     if fields::is_misplaced(0x10, &[0x10, 0x20, 0x30, 0x40, 0x50], last, tag) {
         return Err(Refusal::Misplaced);
     }
     match tag {
-        0x10 => check_edition(c),
+        0x10 => check_edition(edition, c),
         0x20 => check_value_type(&d.values, c),
         0x30 => check_type(&d.types, c),
         0x40 => check_attribute(d.values.count, d.types.count, d.attributes.count, c),
-        _ => check_association(d.types.count, d.associations.count, c),
+        _ => check_association(edition, d.types.count, d.associations.count, c),
     }
 }

@@ -11,7 +11,7 @@ use lib.ListN.{drop, length, take}
 use Rattle.laws.specs.Lists.{over}
 use Rattle.laws.proofs.OverLaws.{drop-over, take-over}
 use Rattle.files.specs.Diagram.{Diagram, no_diagram}
-use Rattle.files.specs.DiagramFile.{read_diagram}
+use Rattle.files.specs.DiagramFile.{edition_in, read_diagram}
 use Rattle.files.specs.Field.{rows}
 use Rattle.files.specs.Record.{Record}
 use Rattle.files.specs.RecordFile.{read_record}
@@ -70,7 +70,7 @@ short k m n e = let z : ◌≡◌ {A = ℕ} 1 2 = ap length e in absurd (omega (
 
 refused-some : (file : List ℕ) (n : ℕ) → read_diagram file ≡ refused n → 1 ≤ n
 unfolding read_diagram
-refused-some file n e = (subst (Within 8) e (diagram-refusals 0 no_diagram (rows file))).0
+refused-some file n e = (subst (Within 8) e (diagram-refusals (edition_in file) 0 no_diagram (rows file))).0
 
 text-some : (text : List ℕ) (n : ℕ) → read_text text ≡ refused n → 1 ≤ n
 text-some text n e = ⊎_elim (λ x. omega (arith, x.0)) (λ x. omega (arith, x.3)) (text-refused text n e)

@@ -5,3 +5,4 @@ pub mod TypeLaws
 pub mod HeadLaws
 pub mod DemandTwo
 pub mod JudgeLaws
+pub mod CompiledLimits

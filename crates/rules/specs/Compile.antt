@@ -3,6 +3,7 @@
 use Rattle.std.specs.Prelude.{◌*◌, ◌+◌, ◌-◌, ℕ, cond, List, [], ◌++◌, ◌∷◌, get_or, length, replicate}
 use Rattle.laws.specs.Lists.{joined}
 use Rattle.files.specs.Diagram.{Association, Diagram, Upper, association_at, at_most, is_composition, no_limit}
+use Rattle.files.specs.Field.{two_bytes}
 use Rattle.rules.specs.Arrow.{Side, r1, r2, source, target}
 
 -- "Record bytes: kind, association, side (0 for r2, 1 for r1), low, up."
@@ -13,8 +14,9 @@ pub record Entry : Type 0 where
   pub low : ℕ
   pub up : ℕ
 
+-- by 02 "seven bytes, low and up taking two each, high byte first"
 abbrev pub entry_bytes : Entry → List ℕ
-entry_bytes e = e.kind ∷ e.association ∷ e.side ∷ e.low ∷ e.up ∷ []
+entry_bytes e = e.kind ∷ e.association ∷ e.side ∷ (two_bytes e.low ++ two_bytes e.up)
 
 -- what stands in an arrow's row: rule 6 at a side, rule 7 at a side, kind 5
 pub data Asked : Type 0 where
@@ -69,6 +71,6 @@ compile d = joined (λ i. entries_of i (association_at d i)) (length d.associati
 abbrev pub entry_at : List Entry → ℕ → Entry
 entry_at es i = get_or es i (bare 0 0)
 
--- "the list has 64 entries, and those past the number are five zero bytes"
+-- "the list has 64 entries"; by 02 "Compiled records, the zero ones past the number too, become seven bytes"
 unfoldable pub compiled_bytes : Diagram → List ℕ
-compiled_bytes d = joined (λ i. entry_bytes (entry_at (compile d) i)) (length (compile d)) ++ replicate (320 - 5 * length (compile d)) 0
+compiled_bytes d = joined (λ i. entry_bytes (entry_at (compile d) i)) (length (compile d)) ++ replicate (448 - 7 * length (compile d)) 0

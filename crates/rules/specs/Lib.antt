@@ -13,3 +13,4 @@ pub mod Marked
 pub mod RuleCases
 pub mod MirrorCases
 pub mod CompileCases
+pub mod LimitCases

@@ -2,7 +2,6 @@
 -- the Line and Port case with arrow 4, RuleCases links back to two wholes and rule 7, CompileCases the compiled row.
 -- Assumes nothing.
 use Rattle.std.specs.Prelude.{ℕ, true, List, [], ◌∷◌, ◌≡◌, refl}
-use Rattle.laws.specs.Bounded.{first}
 use Rattle.rules.specs.Marked.{Case, cases_right, file_l_p4, one_way}
 
 -- Line and Port with arrow 1
@@ -13,14 +12,14 @@ file_l_p1 =
     0x30 ∷ 0 ∷ 7 ∷ 0 ∷ 4 ∷ 0x50 ∷ 0x6F ∷ 0x72 ∷ 0x74 ∷ 0 ∷
     0x50 ∷ 0 ∷ 0x12 ∷ 0 ∷ 1 ∷ 0 ∷ 0 ∷ 1 ∷ 4 ∷ 0x6C ∷ 0x69 ∷ 0x6E ∷ 0x65 ∷ 1 ∷ 0 ∷ 1 ∷ 4 ∷ 0x70 ∷ 0x6F ∷ 0x72 ∷ 0x74 ∷ []
 
--- class N; association N [0..255] r -- r [0..255] N
+-- class N; association N [0..*] r -- r [0..*] N
 abbrev pub file_n4 : List ℕ
 file_n4 =
     0x10 ∷ 0 ∷ 1 ∷ 1 ∷
     0x30 ∷ 0 ∷ 4 ∷ 0 ∷ 1 ∷ 0x4E ∷ 0 ∷
     0x50 ∷ 0 ∷ 0xC ∷ 0 ∷ 4 ∷ 0 ∷ 0 ∷ 0xFF ∷ 1 ∷ 0x72 ∷ 0 ∷ 0 ∷ 0xFF ∷ 1 ∷ 0x72 ∷ []
 
--- classes W, X; composition W [0..255] w -- x [0..255] X
+-- classes W, X; composition W [0..*] w -- x [0..*] X
 abbrev pub file_w4 : List ℕ
 file_w4 =
     0x10 ∷ 0 ∷ 1 ∷ 1 ∷
@@ -28,7 +27,7 @@ file_w4 =
     0x30 ∷ 0 ∷ 4 ∷ 0 ∷ 1 ∷ 0x58 ∷ 0 ∷
     0x50 ∷ 0 ∷ 0xC ∷ 1 ∷ 4 ∷ 0 ∷ 0 ∷ 0xFF ∷ 1 ∷ 0x77 ∷ 1 ∷ 0 ∷ 0xFF ∷ 1 ∷ 0x78 ∷ []
 
--- abstract class A, class B; association A [0..255] l -- r [0..255] B
+-- abstract class A, class B; association A [0..*] l -- r [0..*] B
 abbrev pub file_a4 : List ℕ
 file_a4 =
     0x10 ∷ 0 ∷ 1 ∷ 1 ∷

@@ -1,7 +1,6 @@
 -- Cases that set neighbouring readings of the rules apart, through bytes: one table, one statement.
 -- Assumes nothing.
 use Rattle.std.specs.Prelude.{true, List, [], ◌∷◌, ◌≡◌, refl}
-use Rattle.laws.specs.Bounded.{first}
 use Rattle.rules.specs.Marked.{Case, cases_right, file_l_p3, file_l_p4, file_p, file_z}
 
 abbrev pub rule_cases : List Case

@@ -31,7 +31,7 @@ loaded_p = (loaded fresh 0 file_p).bench
 
 -- a refused load leaves it
 abbrev pub refused_p : Bench
-refused_p = (loaded loaded_p 0 (0x10 ∷ 0 ∷ 1 ∷ 2 ∷ [])).bench
+refused_p = (loaded loaded_p 0 (0x10 ∷ 0 ∷ 1 ∷ 3 ∷ [])).bench
 
 abbrev pub loaded_p_q : Bench
 loaded_p_q = (loaded loaded_p 1 file_q).bench

@@ -52,7 +52,7 @@ association_by types d = record { form = d.what - 5; arrow = d.arrow; left = end
 
 -- ---- what the writers are given
 
--- names of at most 16 bytes, counts within 01's limits, limits that 01 allows
+-- names of at most 16 bytes, counts within 01's limits, limits within a text's range
 pub record Roomy (d : Declaration) : Type 0 where
   pub name : length d.name ≤ 16
   pub few-constants : length d.constants ≤ 8

@@ -132,6 +132,6 @@ module _ {s body : List ℕ} (r : Read s body) where
       }
 
   pub read-file : has_forbidden (declarations_by body) ≡ false → has_unknown (declarations_by body) ≡ false → is_overfull (declarations_by body) ≡ false
-      → read_text s ≡ read_diagram (write_diagram (declared (declarations_by body)))
+      → read_text s ≡ read_diagram (write_diagram 2 (declared (declarations_by body)))
   unfolding declared_refusal refuse
   read-file e f g = by-checks ∙ (let q : or_refused (refuse (has_forbidden (declarations_by body)) 23 (declared_refusal (declarations_by body))) (accepted (declared (declarations_by body))) ≡ or_refused (refuse (has_twice (declarations_by body)) 5 (refuse (has_whole_right (declarations_by body)) 8 0)) (accepted (declared (declarations_by body))) = rw (e, f, g) in q) ∙ sym (text-file (declarations_by body) (fits e) f g)

@@ -100,7 +100,7 @@ put_front {xs} {d} {d'} {n} p = ap₂ take p.length-is p.bytes ∙ take-append_s
 pub put_count : {xs d d' : List ℕ} {n : ℕ} → Put xs d n d' → n ≡ length (take n d')
 put_count p = p.length-is ∙ sym (ap length (put_front p))
 
-pub says-read : {s body : List ℕ} {l : Result ReadDiagram Refusal} → Read s body → Known body → is_overfull (declarations_by body) ≡ false → Loads (write_diagram (declared (declarations_by body))) l → LoadsText s l
+pub says-read : {s body : List ℕ} {l : Result ReadDiagram Refusal} → Read s body → Known body → is_overfull (declarations_by body) ≡ false → Loads (write_diagram 2 (declared (declarations_by body))) l → LoadsText s l
 says-read r k f m = record { says = m.says ∙ sym (read-file r k.allowed k.known f) }
 
 pub loads-at : {xs file : List ℕ} {l : Result ReadDiagram Refusal} → file ≡ xs → Loads file l → Loads xs l

@@ -1,5 +1,5 @@
-// The reader of texts: what passes the checks of the grammar, of declared names and of counts is written as the file of the diagram that it
-// declares, and that file is read.
+// The reader of texts: what passes the checks of the grammar, of declared names and of counts is written as the edition 2 file of the diagram
+// that it declares, and that file is read.
 #![tactic(auto)]
 
 ghost use Rattle.std.specs.Prelude.{◌≡◌};
@@ -22,11 +22,11 @@ use text_rows::State;
 // The diagram of a body that passes these checks, with the names of its value types.
 fn read_declared(o: &CompleteOutline, values: &Names) -> Result<ReadDiagram, Refusal>
     requires { Writable (declarations_by o.now.outline.now.body.now) × (names_in values.now ≡ value_names (declarations_by o.now.outline.now.body.now)) }
-    ensures { Loads (write_diagram (declared (declarations_by o.now.outline.now.body.now))) result }
+    ensures { Loads (write_diagram 2 (declared (declarations_by o.now.outline.now.body.now))) result }
 {
     let types = text_checks::type_names(o);
-    // In fixed memory: the file has at most 3,936 bytes.
-    let mut file = [0; 4096];
+    // In fixed memory: the file has at most 4,000 bytes, and the writer asks for 160 more.
+    let mut file = [0; 4160];
     let size = text_writing::put_diagram(&mut file, o, &types, values);
     loading::read_diagram(&file[..size])
 }

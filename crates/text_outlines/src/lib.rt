@@ -26,7 +26,7 @@ pub(crate) struct Outlined {
 }
 
 // A body, how many declarations it has, in all, and, since there is no heap, room for the first 52 of them: that many are 12 enumerations,
-// 24 types and 16 associations. And whether some cardinality is none that 01 allows.
+// 24 types and 16 associations. And whether some cardinality is forbidden.
 #[derive(Drop)]
 pub struct Outline<'a> {
     pub body: &'a [u8],

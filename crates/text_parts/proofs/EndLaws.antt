@@ -1,6 +1,6 @@
 -- The parts of an end, as calls give them: its role, and its limits as the code has them.
 -- Assumes nothing.
-use Prim.Native.Nat.{min, ℕ}
+use Prim.Native.Nat.{ℕ}
 use mathlib.Core.Bool.{Bool, cond, false, not, true}
 use mathlib.Core.List.{List, [], ◌∷◌}
 use mathlib.Core.Path.{◌≡◌, ap, refl, subst, sym, ◌∙◌}
@@ -9,11 +9,12 @@ use borrow.Author.Rules.{rules}
 use borrow.Author.Tests.{eq-eqb, ne_eqb}
 use lib.Dec.{eqb}
 use lib.ListN.{get_or, length}
+use Rattle.files.specs.Limit.{none_of}
 use Rattle.files.specs.Name.{Name}
 use Rattle.texts.specs.Declaration.{lowered, value}
 use Rattle.texts.specs.Table.{declaration_in, end_for, limits_in, passes, role_in, words_for}
 use Rattle.text_rows.specs.RowAt.{declaration_by, row_at}
-use Rattle.text_parts.specs.Ends.{Capped, capped_upper, end_on, role_given, role_word, role_words, type_words}
+use Rattle.text_parts.specs.Ends.{Capped, capped, capped_upper, end_on, role_given, role_word, role_words, type_words}
 use Rattle.text_parts.specs.declared.Limits.{Limits as CappedLimits}
 use Rattle.text_parts.specs.declared.Side.{Side}
 use Rattle.text_parts.specs.declared.Side.TheVariants.{Left, Right}
@@ -59,22 +60,22 @@ module _ (side : Side) (s : List ℕ) where
 -- ---- limits
 
 module _ (lows : List Name) (dots : Bool) (ups : List Name) {n : ℕ} (count : n ≡ length lows) where
-  pub limits-free : n ≡ 0 → Capped (limits_in lows dots ups) (record { low = 0; up = 255 })
+  pub limits-free : n ≡ 0 → {u : ℕ} → u ≡ none_of 2 → Capped (limits_in lows dots ups) (record { low = 0; up = u })
   unfolding limits_in capped_upper
-  limits-free z = let e = eq-eqb (length lows) 0 (sym count ∙ z) in record { low-is = rw e; up_is = rw e }
+  limits-free z q = let e = eq-eqb (length lows) 0 (sym count ∙ z) in record { low-is = rw e; up_is = rw (e, q) }
 
-  module _ {a : ℕ} {w : Name} {d : Bool} (some : n ≡ 0 → ⊥) (first : w ≡ get_or lows 0 []) (low : a ≡ min (value w) 101) (asked : d ≡ dots) where
+  module _ {a : ℕ} {w : Name} {d : Bool} (some : n ≡ 0 → ⊥) (first : w ≡ get_or lows 0 []) (low : a ≡ capped (value w)) (asked : d ≡ dots) where
     pub limits-one : d ≡ false → Capped (limits_in lows dots ups) (record { low = a; up = a })
     unfolding limits_in capped_upper
     limits-one t = let e = ne_eqb (length lows) 0 (λ z. some (count ∙ z)) in record { low-is = rw (e, low, first); up_is = rw (e, sym asked ∙ t, low, first) }
 
-    pub limits-up : (o : Option (Bor (List ℕ))) {b : ℕ} → d ≡ true → IsFirst ups o → MatchOption o (b ≡ 255) (λ v. b ≡ min (value v.now) 101)
+    pub limits-up : (o : Option (Bor (List ℕ))) {b u : ℕ} → d ≡ true → IsFirst ups o → u ≡ none_of 2 → MatchOption o (b ≡ u) (λ v. b ≡ capped (value v.now))
         → Capped (limits_in lows dots ups) (record { low = a; up = b })
     unfolding limits_in capped_upper
-    limits-up None t z up =
+    limits-up None t z q up =
         let e = ne_eqb (length lows) 0 (λ z. some (count ∙ z)) in
-        record { low-is = rw (e, low, first); up_is = rw (e, sym asked ∙ t, eq-eqb (length ups) 0 z, up) }
-    limits-up (Some v) t l up =
+        record { low-is = rw (e, low, first); up_is = rw (e, sym asked ∙ t, eq-eqb (length ups) 0 z, up, q) }
+    limits-up (Some v) t l q up =
         let e = ne_eqb (length lows) 0 (λ z. some (count ∙ z)) in
         record { low-is = rw (e, low, first); up_is = rw (e, sym asked ∙ t, ne_eqb (length ups) 0 l.0, up, l.1) }
 

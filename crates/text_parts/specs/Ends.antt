@@ -1,7 +1,8 @@
 -- The ends of an association in a text: which states of the table their parts lead to, and their limits as the code has them.
 -- Assumes nothing.
-use Rattle.std.specs.Prelude.{min, ℕ, Bool, cond, not, List, [], ◌≡◌, eqb, get_or, length}
+use Rattle.std.specs.Prelude.{◌+◌, min, ℕ, Bool, cond, not, List, [], ◌≡◌, eqb, get_or, length}
 use Rattle.files.specs.Diagram.{Limits, Upper, at_most, no_limit}
+use Rattle.files.specs.Limit.{most_of, none_of}
 use Rattle.files.specs.Name.{Name}
 use Rattle.texts.specs.Declaration.{Declaration, DeclaredEnd}
 use Rattle.texts.specs.Table.{Symbol, words_for}
@@ -13,13 +14,16 @@ abbrev pub end_on : Side → Declaration → DeclaredEnd
 end_on Left d = d.left_end
 end_on Right d = d.right_end
 
--- a limit as the code has it: above 100 it is 101, and 255 is no upper limit
+-- an integer as the code has it: all that are larger than any limit are the one above the largest limit
+abbrev pub capped : ℕ → ℕ
+capped n = min n (most_of 2 + 1)
+
 unfoldable pub capped_upper : Upper → ℕ
-capped_upper (at_most n) = min n 101
-capped_upper no_limit = 255
+capped_upper (at_most n) = capped n
+capped_upper no_limit = none_of 2
 
 pub record Capped (l : Limits) (r : CappedLimits) : Type 0 where
-  pub low-is : r.low ≡ min l.low 101
+  pub low-is : r.low ≡ capped l.low
   pub up_is : r.up ≡ capped_upper l.up
 
 -- ---- roles

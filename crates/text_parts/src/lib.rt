@@ -1,7 +1,7 @@
 // The parts of the declaration at the front of what is left of a text.
 #![tactic(auto)]
 
-ghost use Rattle.std.specs.Prelude.{◌≡◌, true, [], min, ◌*◌, ◌+◌, ◌-◌, ◌≤◌, get_or, length};
+ghost use Rattle.std.specs.Prelude.{◌≡◌, true, [], ◌*◌, ◌+◌, ◌-◌, ◌≤◌, get_or, length};
 ghost use Rattle.files.specs.Diagram.{Limits as FileLimits};
 ghost use Rattle.texts.specs.Declaration.{Declaration, value};
 ghost use Rattle.texts.specs.Declared.{parent_names};
@@ -10,16 +10,20 @@ ghost use Rattle.texts.specs.TextChecks.{ends_forbidden, limits_forbidden};
 ghost use Rattle.text_rows.specs.Noted.{word_or};
 ghost use Rattle.text_rows.specs.RowAt.{declaration_by, row_at};
 ghost use Rattle.text_rows.specs.Scan.{IsFirst};
-ghost use Rattle.text_parts.specs.Ends.{Capped, end_on, role_word, role_words};
+ghost use Rattle.text_parts.specs.Ends.{Capped, capped, end_on, role_word, role_words};
 ghost use Rattle.text_parts.specs.Sort.{kind_test, number_of, of_kind, sort_number};
 
 use text_rows::{Scanned, State, Word};
 
-// The limits of an end, as bytes of the file: above 100 each is 101, and up is 255 where there is no upper limit.
+// What an integer that is larger than any limit is kept as: the number above the largest limit.
+const TOO_LARGE: u16 = 4001;
+
+// The limits of an end. Where there is no upper limit, up is what it is in an edition 2 file; an integer that is larger than any limit is
+// TOO_LARGE in each.
 #[derive(Clone, Copy)]
 pub struct Limits {
-    pub low: u8,
-    pub up: u8,
+    pub low: u16,
+    pub up: u16,
 }
 
 // An end of an association.
@@ -272,20 +276,20 @@ pub fn role_word<'a>(row: &Scanned<'a>, side: Side) -> &'a [u8]
     written_role(row, side).unwrap_or(end_type(row, side))
 }
 
-// A digit behind digits of the value v, 101 where the value is above 100.
-fn with_digit(v: u32, b: u8) -> u32
-    ensures { result ≡ min (min v 101 * 10 + (b - 48)) 101 }
+// A digit behind digits of the value v, TOO_LARGE where the value is larger than any limit.
+fn with_digit(v: u16, b: u8) -> u16
+    ensures { result ≡ capped (capped v * 10 + (b - 48)) }
 {
-    let more = v.min(101) * 10 + u32::from(b.saturating_sub(48));
-    more.min(101)
+    let more = v.min(TOO_LARGE) * 10 + u16::from(b.saturating_sub(48));
+    more.min(TOO_LARGE)
 }
 
-// The value of a run of digits, 101 where it is above 100, so that `as u8` keeps it. No `parse`: that takes a `&str`, and refuses a number
-// that is too large, where the value is to stay at 101.
-fn value_of(w: &[u8]) -> u8
-    ensures { result ≡ min (value w.now) 101 }
+// The value of a run of digits, TOO_LARGE where it is larger than any limit. No `parse`: that takes a `&str`, and refuses a number that
+// is too large for its type, where the value is to stay at TOO_LARGE.
+fn value_of(w: &[u8]) -> u16
+    ensures { result ≡ capped (value w.now) }
 {
-    w.iter().fold(0, |v, b| with_digit(v, *b)) as u8
+    w.iter().fold(0, |v, b| with_digit(v, *b))
 }
 
 // The limits of the end whose low integer, ".." and high integer lead to these states.
@@ -293,7 +297,10 @@ fn limits_for(row: &Scanned, low: State, dots: State, up: State) -> Limits
     ensures { Capped (limits_in (words_for low.number low.number low.number (row_at row.now.rest.now)) (passes dots.number (row_at row.now.rest.now)) (words_for up.number up.number up.number (row_at row.now.rest.now))) result }
 {
     let Some(first) = row.first_for(low) else {
-        return Limits { low: 0, up: 255 };
+        return Limits {
+            low: 0,
+            up: layouts::none_of(2),
+        };
     };
     let n = value_of(first);
     if !row.is_passed(dots) {
@@ -301,7 +308,7 @@ fn limits_for(row: &Scanned, low: State, dots: State, up: State) -> Limits
     }
     Limits {
         low: n,
-        up: row.first_for(up).map_or(255, value_of),
+        up: row.first_for(up).map_or(layouts::none_of(2), value_of),
     }
 }
 
@@ -314,14 +321,14 @@ pub fn end_limits(row: &Scanned, side: Side) -> Limits
     }
 }
 
-// 01: "Low is 0 to 100; up is 0 to 100 and not below low".
+// 01: "up is .. not below low"; 02 3/12: "range 0 to 4,000", as in an edition 2 file.
 fn is_forbidden(l: Limits) -> bool
     ensures { (m : FileLimits) → Capped m l → result ≡ limits_forbidden m }
 {
-    !layouts::limits_laid(l.low, l.up)
+    !layouts::limits_laid(2, l.low, l.up)
 }
 
-// One of its cardinalities is none that 01 allows.
+// One of its cardinalities is forbidden.
 pub fn has_forbidden_end(row: &Scanned) -> bool
     ensures { result ≡ ends_forbidden (declaration_by row.now.rest.now) }
 {

@@ -60,12 +60,12 @@ module _ (ds : List Declaration) (k : ℕ) {d : Declaration} (i : d ≡ declarat
     unfolding end_in
     end-by x = ap (λ (n : ℕ). record { type = n; limits = x.limits; role = x.role }) (place-by x.type)
 
-    pub association-field : is_association (declaration_at ds k) ≡ true → field 0x50 (association_bytes (association_by types d)) ≡ association_piece ds k
+    pub association-field : is_association (declaration_at ds k) ≡ true → field 0x50 (association_bytes 2 (association_by types d)) ≡ association_piece ds k
     unfolding association_piece
     association-field t =
         let x = declaration_at ds k in
-        ap (λ (x : Declaration). field 0x50 (association_bytes (association_by types x))) i
-        ∙ ap₂ (λ (l r : End). field 0x50 (association_bytes (record { form = x.what - 5; arrow = x.arrow; left = l; right = r }))) (end-by x.left_end) (end-by x.right_end)
+        ap (λ (x : Declaration). field 0x50 (association_bytes 2 (association_by types x))) i
+        ∙ ap₂ (λ (l r : End). field 0x50 (association_bytes 2 (record { form = x.what - 5; arrow = x.arrow; left = l; right = r }))) (end-by x.left_end) (end-by x.right_end)
         ∙ there t
 
   module _ (values : List Name) (e : values ≡ value_names ds) where

@@ -1,4 +1,4 @@
--- The pieces of the declarations, tag by tag and one behind the other, are the one file of the diagram that they declare.
+-- The pieces of the declarations, tag by tag and one behind the other, are the edition 2 file of the diagram that they declare.
 -- Assumes nothing.
 use Prim.Native.Nat.{◌+◌, ◌-◌, ◌<◌, ◌≤◌, ℕ}
 use native.Mathlib.Omega.{arith}
@@ -103,17 +103,17 @@ module _ (ds : List Declaration) where
       rows-joined attribute_field none (attributes_in ds) (length ds)
       ∙ joined-ext _ _ (length ds) (λ k l. rows-listed attribute_field none (attribute_of ds k) (length (declaration_at ds k).attribute_types))
 
-  association-pieces : joined (λ i. field 0x50 (association_bytes (association_at (declared ds) i))) (length (declared ds).associations)
+  association-pieces : joined (λ i. field 0x50 (association_bytes 2 (association_at (declared ds) i))) (length (declared ds).associations)
       ≡ joined (association_piece ds) (length ds)
   unfolding declared association_piece
   association-pieces =
-      joined-picked (λ a. field 0x50 (association_bytes a)) (λ k. is_association (declaration_at ds k)) (association_of ds)
+      joined-picked (λ a. field 0x50 (association_bytes 2 a)) (λ k. is_association (declaration_at ds k)) (association_of ds)
       (record { form = 0; arrow = 0; left = no_end; right = no_end }) (length ds)
 
   -- ---- the file
 
-  pub file-pieces : write_diagram (declared ds) ≡ field 0x10 (1 ∷ []) ++ declared_part ds
+  pub file-pieces : write_diagram 2 (declared ds) ≡ field 0x10 (2 ∷ []) ++ declared_part ds
   unfolding write_diagram declared_part types_to_associations_part attributes_and_associations_part
   file-pieces =
-      ap₂ (λ (v r : List ℕ). field 0x10 (1 ∷ []) ++ (v ++ r)) value-types
+      ap₂ (λ (v r : List ℕ). field 0x10 (2 ∷ []) ++ (v ++ r)) value-types
       (ap₂ (λ (t r : List ℕ). t ++ r) type-pieces (ap₂ (λ (a s : List ℕ). a ++ s) attribute-pieces association-pieces))

@@ -57,12 +57,12 @@ module _ (ds : List Declaration) where
 
   -- ---- the file
 
-  pub file-parts : Parts (head 0x10 1 1) (declared_part ds) (write_diagram (declared ds))
+  pub file-parts : Parts (head 0x10 1 2) (declared_part ds) (write_diagram 2 (declared ds))
   unfolding field
   file-parts = record { whole = sym (file-pieces ds) }
 
-  pub file-room : {room : ℕ} → Writable ds → 4096 ≤ room → length (write_diagram (declared ds)) + 160 ≤ room
+  pub file-room : {room : ℕ} → Writable ds → 4160 ≤ room → length (write_diagram 2 (declared ds)) + 160 ≤ room
   file-room w h = omega (arith, text-size ds w.fits w.few)
 
-  pub file-size : {r : ℕ} {d d' : List ℕ} → Writable ds → Put (write_diagram (declared ds)) d r d' → r ≤ 3936
+  pub file-size : {r : ℕ} {d d' : List ℕ} → Writable ds → Put (write_diagram 2 (declared ds)) d r d' → r ≤ 4000
   file-size w p = omega (arith, text-size ds w.fits w.few, p.length-is)

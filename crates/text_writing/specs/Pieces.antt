@@ -1,4 +1,4 @@
--- The fields that each declaration of a text adds to the file of the diagram, by tag: nothing where it is of another kind.
+-- The fields that each declaration of a text adds to the edition 2 file of the diagram, by tag: nothing where it is of another kind.
 -- Assumes nothing.
 use Rattle.std.specs.Prelude.{◌+◌, ◌-◌, ◌<◌, ◌≤◌, ℕ, cond, false, List, [], ◌++◌, ◌≡◌, get_or, length}
 use Rattle.laws.specs.Bounded.{tally}
@@ -32,7 +32,7 @@ attributes_piece ds k = joined (λ i. field 0x40 (attribute_bytes (attribute_of 
 
 -- 0x50
 unfoldable pub association_piece : List Declaration → ℕ → List ℕ
-association_piece ds k = cond (is_association (declaration_at ds k)) (field 0x50 (association_bytes (association_of ds k))) []
+association_piece ds k = cond (is_association (declaration_at ds k)) (field 0x50 (association_bytes 2 (association_of ds k))) []
 
 -- ---- all of them
 

@@ -1,5 +1,5 @@
-// The file of the diagram that the declarations of a text declare, tag by tag into the unused rest of a buffer. What each declaration
-// is and where it starts is read from the outline of the body.
+// The edition 2 file of the diagram that the declarations of a text declare, tag by tag into the unused rest of a buffer. What each
+// declaration is and where it starts is read from the outline of the body.
 #![tactic(auto)]
 
 ghost use Rattle.std.specs.Prelude.{[], ◌≡◌, ◌+◌, ◌-◌, ◌<◌, ◌≤◌, get_or, length};
@@ -202,12 +202,12 @@ impl Named<'_> {
     }
 }
 
-// The whole file.
+// The whole file, of edition 2, whose range of limits is that of a text.
 pub fn put_diagram(out: &mut [u8], o: &CompleteOutline, types: &Names, values: &Names) -> usize
-    requires { Writable (declarations_by o.now.outline.now.body.now) × ((names_in types.now ≡ names_of_kind is_type (declarations_by o.now.outline.now.body.now)) × ((names_in values.now ≡ value_names (declarations_by o.now.outline.now.body.now)) × (4096 ≤ length out.old))) }
-    ensures { (result ≤ 3936) × Put (write_diagram (declared (declarations_by o.now.outline.now.body.now))) out.old result out.new }
+    requires { Writable (declarations_by o.now.outline.now.body.now) × ((names_in types.now ≡ names_of_kind is_type (declarations_by o.now.outline.now.body.now)) × ((names_in values.now ≡ value_names (declarations_by o.now.outline.now.body.now)) × (4160 ≤ length out.old))) }
+    ensures { (result ≤ 4000) × Put (write_diagram 2 (declared (declarations_by o.now.outline.now.body.now))) out.old result out.new }
 {
-    field_writers::put_head(out, 0x10, 1, 1);
+    field_writers::put_head(out, 0x10, 1, 2);
     let named = Named {
         outline: o.outline,
         types,

@@ -14,7 +14,7 @@ use borrow.Author.Tests.{eq-eqb, eqb-true, ltb-false, not-false}
 use Rattle.laws.specs.Bounded.{any}
 use Rattle.laws.specs.Connective.{both}
 use Rattle.files.specs.Diagram.{Upper, association_at, at_most, is_composition, no_limit}
-use Rattle.files.specs.WellFormedDiagram.{WfUpper}
+use Rattle.files.specs.WellFormedDiagram.{FitsUpper}
 use Rattle.texts.specs.Declaration.{Declaration, DeclaredEnd, declaration_at, is_association, is_type}
 use Rattle.texts.specs.Declared.{association_of, declared, end_in, type_index}
 use Rattle.texts.specs.TextChecks.{has_unknown_end, has_whole_right, limits_forbidden, upper_forbidden}
@@ -26,9 +26,9 @@ use Rattle.files.proofs.LaidDiagram.{KnownEnds, LaidAssociation, LaidEnd}
 use Rattle.texts.proofs.DeclaredCountLaws.{types-counted}
 use Rattle.texts.proofs.TypeIndexLaws.{Known, known-declared, type-index-below}
 
-upper-allowed : (low : ℕ) (up : Upper) → upper_forbidden low up ≡ false → WfUpper low up
+upper-allowed : (low : ℕ) (up : Upper) → upper_forbidden low up ≡ false → FitsUpper 2 low up
 unfolding upper_forbidden
-upper-allowed low (at_most up) e = let a = either-neither _ _ e in (ltb-false up low a.1, ltb-false 100 up a.0)
+upper-allowed low (at_most up) e = let a = either-neither _ _ e in (ltb-false up low a.1, omega (arith, ltb-false _ up a.0))
 upper-allowed low no_limit e = tt
 
 association-what : (d : Declaration) → is_association d ≡ true → d.what - 5 ≤ 1
@@ -52,16 +52,16 @@ under true false c f = refl
 under false false c f = refl
 
 module _ (ds : List Declaration) where
-  end-laid : (e : DeclaredEnd) → WfDeclaredEnd e → LaidEnd (end_in ds e)
+  end-laid : (e : DeclaredEnd) → WfDeclaredEnd e → LaidEnd 2 (end_in ds e)
   unfolding end_in limits_forbidden
   end-laid e f =
       let a = either-neither _ _ f.limits-allowed in
-      record { low_small = ltb-false 100 _ a.0; up_fits = upper-allowed _ _ a.1; role-named = f.role-named }
+      record { limits-fit = record { low-fits = omega (arith, ltb-false _ _ a.0); up-fits = upper-allowed _ _ a.1 }; role-named = f.role-named }
 
-  pub association-laid : WfDeclarations ds → (i : ℕ) → i < length (declared ds).associations → LaidAssociation (association_at (declared ds) i)
+  pub association-laid : WfDeclarations ds → (i : ℕ) → i < length (declared ds).associations → LaidAssociation 2 (association_at (declared ds) i)
   unfolding declared
   association-laid f =
-      picked-each LaidAssociation (λ k. is_association (declaration_at ds k)) (association_of ds) _ (length ds) (λ k l a.
+      picked-each (LaidAssociation 2) (λ k. is_association (declaration_at ds k)) (association_of ds) _ (length ds) (λ k l a.
       let g = f.each k l in
       record {
         form-known = association-what (declaration_at ds k) a;

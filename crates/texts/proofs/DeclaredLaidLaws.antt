@@ -40,7 +40,7 @@ module _ (ds : List Declaration) (wf : WfDeclarations ds) (few : Few ds) where
       let q = few.parents k l in
       record { kind-known = leb-true (declaration_at ds k).what 3 t; named = (wf.each k l).type-named t; few-parents = omega arith })
 
-  pub declared-laid : LaidDiagram (declared ds)
+  pub declared-laid : LaidDiagram 2 (declared ds)
   declared-laid =
       let v = value-types-counted ds in
       let v' = few.value-types in

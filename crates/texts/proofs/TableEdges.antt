@@ -7,7 +7,7 @@ use mathlib.Core.Logic.{inl, inr}
 use mathlib.Core.Path.{◌∙◌, ◌≡◌, ap, subst, sym}
 use lib.ListN.{get_or}
 use Rattle.texts.specs.Grammar.{abstract, arrow_token, association, both_ways, close_brace, comma, composition, form_token, left, modifier_tokens, no-head, open_brace, plain, quoted, right, semicolon, singleton, star}
-use Rattle.texts.specs.Table.{Edge, name, next, table}
+use Rattle.texts.specs.Table.{Edge, name, table}
 use Rattle.texts.specs.Token.{Token, mark, singleton_word, word}
 use Rattle.texts.proofs.ItemParts.{Attributes, Body, ClassRest, Constants, EnumRest, InterfaceRest, Items, LeftEnd, RightEnd, association-items, class-items, enum-items, interface-items, no-attributes, no_body, no-constants, no_items, some-attributes, some-body, some-constants}
 use Rattle.texts.proofs.Parts.{AfterBracket, AfterDots, AfterLow, Arrowed, Clause, Follow, Further, Limited, Mark, Named, Role, arrowed, marked, named-part, no-cardinality, no-clause, no-further, no-role, number-part, some-cardinality, some-clause, some-further, some-role}

@@ -2,6 +2,7 @@
 -- Assumes nothing.
 use mathlib.Core.Bool.{Bool, false, not, true}
 use mathlib.Core.List.{List}
+use mathlib.Core.Logic.{inr}
 use mathlib.Core.Path.{◌∙◌, ◌≡◌, ap, ap₂, refl, sym}
 use lib.ListN.{length}
 use Rattle.laws.specs.Bounded.{any}
@@ -51,14 +52,14 @@ module _ (ds : List Declaration) (wf : WfDeclarations ds) (known : has_unknown d
       ∙ ap (λ (b : Bool). either (not (differ (names_of_kind is_enumeration ds))) (either (not (differ (names_of_kind is_type ds))) b)) (sym (any-either _ _ (length ds)))
 
 pub text-file : (ds : List Declaration) → WfDeclarations ds → has_unknown ds ≡ false → is_overfull ds ≡ false
-    → read_diagram (write_diagram (declared ds)) ≡ or_refused (refuse (has_twice ds) 5 (refuse (has_whole_right ds) 8 0)) (accepted (declared ds))
+    → read_diagram (write_diagram 2 (declared ds)) ≡ or_refused (refuse (has_twice ds) 5 (refuse (has_whole_right ds) 8 0)) (accepted (declared ds))
 text-file ds wf known e =
-    diagram-read (declared ds) (declared-laid ds wf (few ds e)) (declared_known ds known wf)
+    diagram-read 2 (inr refl) (declared ds) (declared-laid ds wf (few ds e)) (declared_known ds known wf)
     ∙ ap₂ (λ (x y : Bool). or_refused (refuse x 5 (refuse y 8 0)) (accepted (declared ds))) (twice ds wf known) (whole-right ds)
 
 -- a text that passes all checks declares a well-formed diagram
 pub declared-wf : (ds : List Declaration) → WfDeclarations ds → has_unknown ds ≡ false → is_overfull ds ≡ false → has_twice ds ≡ false → has_whole_right ds ≡ false
     → WfDiagram (declared ds)
 declared-wf ds wf known e t r =
-    diagram-wf (write_diagram (declared ds)) (declared ds)
+    diagram-wf (write_diagram 2 (declared ds)) (declared ds)
     (text-file ds wf known e ∙ ap₂ (λ (x y : Bool). or_refused (refuse x 5 (refuse y 8 0)) (accepted (declared ds))) t r ∙ (unfold refuse or_refused in refl))

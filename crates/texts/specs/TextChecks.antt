@@ -7,6 +7,7 @@ use Rattle.laws.specs.Bounded.{any, tally}
 use Rattle.laws.specs.Connective.{both, either, refuse}
 use Rattle.laws.specs.Lists.{member, picked}
 use Rattle.files.specs.Diagram.{Limits, Upper, at_most, no_limit}
+use Rattle.files.specs.Limit.{most_of}
 use Rattle.files.specs.Name.{Name, differ, same_name}
 use Rattle.texts.specs.Declaration.{Declaration, declaration_at, declarations, is_association, is_class, is_enumeration, is_interface_type, is_type}
 use Rattle.texts.specs.Declared.{parent_names, types_before, used_types, value_types_of}
@@ -24,14 +25,14 @@ long_items (i ∷ is) = either (member is_long (item_names i)) (long_items is)
 unfoldable pub has_long_name : Tree → Bool
 has_long_name t = either (is_long t.name) (long_items t.items)
 
--- ---- 23: "a cardinality that 01 forbids"; 01: "Low is 0 to 100; up is 0 to 100 and not below low"
+-- ---- 23: "a cardinality that 01 forbids"; 01: "up is .. not below low"; 02 3/12: "range 0 to 4,000", "Text takes the wider range too."
 
 unfoldable pub upper_forbidden : ℕ → Upper → Bool
-upper_forbidden low (at_most up) = either (ltb 100 up) (ltb up low)
+upper_forbidden low (at_most up) = either (ltb (most_of 2) up) (ltb up low)
 upper_forbidden low no_limit = false
 
 unfoldable pub limits_forbidden : Limits → Bool
-limits_forbidden l = either (ltb 100 l.low) (upper_forbidden l.low l.up)
+limits_forbidden l = either (ltb (most_of 2) l.low) (upper_forbidden l.low l.up)
 
 unfoldable pub ends_forbidden : Declaration → Bool
 ends_forbidden d = either (limits_forbidden d.left_end.limits) (limits_forbidden d.right_end.limits)

@@ -1,5 +1,5 @@
 -- 02 1/12: what holds of the declarations of a text that passes check 23, each by itself: names have 1 to 16 name bytes, ends have a
--- role and limits that 01 allows, and what does not belong to a declaration is empty (proofs/DeclarationWellFormed, `belongs-wf`).
+-- role and limits within a text's range, and what does not belong to a declaration is empty (proofs/DeclarationWellFormed, `belongs-wf`).
 -- Besides this, at each index no name is over 16 bytes.
 -- Assumes nothing.
 use Rattle.std.specs.Prelude.{◌<◌, ◌≤◌, ℕ, false, true, List, [], ◌≡◌, get_or, length}

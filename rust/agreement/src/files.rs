@@ -4,6 +4,7 @@ use crate::product;
 use brute::{read_diagram, read_record};
 use generators::damage::{cuts, damaged};
 use generators::diagrams::{diagram, LARGE, SMALL};
+use generators::edition_faults::with_edition_fault;
 use generators::faults::faulty;
 use generators::fields::{file, Field};
 use generators::hex::hex;
@@ -13,7 +14,7 @@ use generators::{CallPlan, DiagramPlan, Random};
 /// How often each reply came: index 0 counts accepted files, the others refusals by number.
 pub type Tally = [usize; 11];
 
-/// The diagram files of a seed: one diagram whole, cut and damaged.
+/// The diagram files of a seed: one diagram whole, cut, damaged, and with faults of its edition.
 pub fn diagram_files(seed: u64) -> Vec<Vec<u8>> {
     let mut random = Random::new(seed);
     let size = if random.chance(1, 8) { LARGE } else { SMALL };
@@ -21,6 +22,9 @@ pub fn diagram_files(seed: u64) -> Vec<Vec<u8>> {
     let mut files = variants(&mut random, &plan.fields());
     for _ in 0..20 {
         files.push(faulty(&mut random, &plan).file());
+    }
+    for _ in 0..10 {
+        files.push(with_edition_fault(&mut random, &plan));
     }
     files
 }

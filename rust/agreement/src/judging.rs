@@ -1,12 +1,11 @@
 //! Are records judged and evaluated, and diagrams compiled, alike?
 
 use crate::product;
-use crate::questions::{answers, questions};
-use brute::read_diagram;
+use crate::questions::{answers, questions, records};
+use brute::{read_diagram, Entry};
 use generators::diagrams::{diagram, Size, SMALL};
 use generators::edits::edited;
 use generators::hex::hex;
-use generators::records::record;
 use generators::{CallPlan, DiagramPlan, Random};
 
 /// How often each rule was the lowest broken (index 0: legal), and how often evaluate found a
@@ -32,11 +31,7 @@ pub fn judging_agrees(seed: u64, tally: &mut Tally) {
     let size = if random.chance(1, 10) { LARGE } else { SMALL };
     let plan = diagram(&mut random, size);
     let other = edited(&mut random, &plan);
-    let mut records = Vec::new();
-    for _ in 0..30 {
-        let most = random.between(0, 8);
-        records.push(record(&mut random, &plan, most).file());
-    }
+    let records = records(&mut random, &plan, 30);
     under(seed, &plan, &records, tally);
     under(seed, &other, &records, tally);
 }
@@ -76,7 +71,10 @@ fn message(seed: u64, plan: &DiagramPlan, call: &CallPlan) -> String {
 fn count(tally: &mut Tally, answers: &[Vec<u8>]) {
     let (compiled, judged) = (&answers[0], &answers[1..]);
     let number = compiled[1];
-    for entry in compiled[2..].chunks(5).take(usize::from(number)) {
+    for entry in compiled[2..]
+        .chunks(size_of::<Entry>())
+        .take(usize::from(number))
+    {
         tally.kinds[usize::from(entry[0])] += 1;
     }
     for pair in judged.chunks(2) {

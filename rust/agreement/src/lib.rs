@@ -6,7 +6,9 @@
 //! `soak.rs` on ever more of them. Worked cases have their replies in `crates/cases` and in
 //! `generators::worked_texts`.
 
+pub mod alike;
 pub mod comparing;
+pub mod editions;
 pub mod files;
 pub mod heads;
 pub mod judging;

@@ -1,6 +1,6 @@
 //! Are two diagrams compared alike by their texts and by their files?
 
-use crate::product;
+use crate::alike;
 use generators::diagrams::{diagram, TINY};
 use generators::edits::edited;
 use generators::fillings::searched_soon;
@@ -26,24 +26,13 @@ pub fn compared_alike(seed: u64) -> bool {
         place,
         file: files[usize::from(place)].clone(),
     };
-    let compare = CallPlan::Compare {
-        bound: bound.unwrap_or(0) as u8,
-    };
-    let hand_out = CallPlan::HandOut { room: 60_000 };
-    let pairs = [
+    let loads = [
         [load_text(0), load_text(1)],
         [load(0), load_text(1)],
         [load_text(0), load(1)],
         [load(0), load(1)],
     ];
-    let asked = |pair: [CallPlan; 2]| {
-        let calls = [&pair[..], &[compare.clone(), hand_out.clone()]].concat();
-        product::replies(&calls)
-    };
-    let [by_texts, others @ ..] = pairs.map(asked);
-    let shown = texts.map(|text| text.escape_ascii().to_string()).join("\n");
-    for replies in others {
-        assert!(replies == by_texts, "seed {seed}: other replies\n{shown}");
-    }
-    by_texts[2].len() == 3
+    let [old, new] = texts.each_ref().map(|text| text.escape_ascii());
+    let shown = format!("seed {seed}\nold: {old}\nnew: {new}");
+    alike::compared_alike(&loads, bound.unwrap_or(0), &shown)
 }

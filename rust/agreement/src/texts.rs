@@ -1,11 +1,10 @@
 //! Are the same texts accepted, refused for the same reason, and read as the same diagram?
 
 use crate::product;
-use crate::questions::{answers, questions};
-use brute::{compare_within, read_text, write_diagram, Diagram};
+use crate::questions::{answers, questions, records};
+use brute::{compare_within, read_text, write_diagram, Diagram, Edition};
 use generators::diagrams::{diagram, LARGE, SMALL};
 use generators::faults::faulty;
-use generators::records::record;
 use generators::text_damage::{damaged_bytes, damaged_tokens};
 use generators::text_layout::laid_out;
 use generators::texts::{faulty_text, text, Token};
@@ -87,7 +86,8 @@ fn shown(seed: u64, text: &[u8]) -> String {
 pub fn texts_agree(seed: u64, texts: &[Vec<u8>], tally: &mut Tally) {
     let load = |(at, text): (usize, &Vec<u8>)| load_text(at as u8 % 2, text);
     let calls: Vec<CallPlan> = texts.iter().enumerate().map(load).collect();
-    let records = records(seed, &made_up(&mut Random::new(seed)));
+    let plan = made_up(&mut Random::new(seed));
+    let records = records(&mut Random::new(seed), &plan, 4);
     for (text, reply) in texts.iter().zip(product::replies(&calls)) {
         let read = read_text(text);
         let expected = read.as_ref().err().copied().unwrap_or(0);
@@ -112,18 +112,16 @@ pub fn whole_texts_agree(seed: u64, tally: &mut Tally) {
         let shown = shown(seed, &text);
         let read = read_text(&text);
         let diagram = read.unwrap_or_else(|refusal| panic!("refusal {refusal}\n{shown}"));
-        let file = write_diagram(&diagram);
+        let file = write_diagram(edition_of(&plan), &diagram);
         assert_eq!(file, plan.file(), "another diagram\n{shown}");
-        same_diagram(seed, &text, &diagram, &records(seed, &plan));
+        let records = records(&mut Random::new(seed), &plan, 4);
+        same_diagram(seed, &text, &diagram, &records);
     }
 }
 
-/// A few records for a diagram.
-fn records(seed: u64, plan: &DiagramPlan) -> Vec<Vec<u8>> {
-    let mut random = Random::new(seed);
-    (0..4)
-        .map(|_| record(&mut random, plan, 6).file())
-        .collect()
+/// The edition of a plan of a file that is accepted.
+pub fn edition_of(plan: &DiagramPlan) -> Edition {
+    Edition::of_byte(plan.edition).expect("the plan has an edition")
 }
 
 /// A load of a text, in short.
@@ -135,7 +133,7 @@ fn load_text(place: u8, text: &[u8]) -> CallPlan {
 /// The product holds the diagram of an accepted text: it replies as to the diagram's file and as
 /// the independent judge does, and finds no difference from that file either way.
 fn same_diagram(seed: u64, text: &[u8], diagram: &Diagram, records: &[Vec<u8>]) {
-    let file = write_diagram(diagram);
+    let file = write_diagram(Edition::Two, diagram);
     let load = |place| CallPlan::Load {
         place,
         file: file.clone(),

@@ -7,6 +7,14 @@ pub fn p() -> Vec<u8> {
     shelf_and_card("01 01", "00 04")
 }
 
+/// P in edition 2.
+pub fn p_in_edition_2() -> Vec<u8> {
+    bytes(
+        "10 00 01 02  30 00 08 00 05 53 68 65 6C 66 00  30 00 07 00 04 43 61 72 64 00
+         50 00 18 01 01 00 00 01 00 01 05 73 68 65 6C 66 01 00 00 00 04 05 63 61 72 64 73",
+    )
+}
+
 /// As P, with at most two cards.
 pub fn q() -> Vec<u8> {
     shelf_and_card("01 01", "00 02")

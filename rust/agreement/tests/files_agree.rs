@@ -2,6 +2,7 @@
 
 use agreement::files::{diagram_files, diagrams_agree, record_files, records_agree, Tally};
 use generators::damage::damaged;
+use generators::diagrams::{diagram, SMALL};
 use generators::limits::full;
 use generators::record_limits::largest;
 use generators::Random;
@@ -26,6 +27,18 @@ fn diagram_files_agree() {
 }
 
 #[test]
+fn files_with_the_number_of_the_other_edition_agree() {
+    let mut tally = Tally::default();
+    for seed in 0..600 {
+        let mut file = diagram(&mut Random::new(seed), SMALL).file();
+        file[3] = 3 - file[3];
+        diagrams_agree(seed, &[file], &mut tally);
+    }
+    occurred(&tally, 3..=3, 200);
+    assert_eq!(tally[0] + tally[3], 600, "{tally:?}");
+}
+
+#[test]
 fn record_files_agree() {
     let mut tally = Tally::default();
     for seed in 0..1_500 {
@@ -47,8 +60,9 @@ fn files_at_the_limits_agree() {
 fn damage_of_the_largest_files_agrees() {
     let mut tally = Tally::default();
     let mut random = Random::new(1);
-    let (diagram, record) = (full().fields(), largest().fields());
-    let diagrams: Vec<_> = (0..300).map(|_| damaged(&mut random, &diagram)).collect();
+    let (wide, narrow, record) = (full(2).fields(), full(1).fields(), largest().fields());
+    let mut diagrams: Vec<_> = (0..200).map(|_| damaged(&mut random, &wide)).collect();
+    diagrams.extend((0..200).map(|_| damaged(&mut random, &narrow)));
     let records: Vec<_> = (0..60).map(|_| damaged(&mut random, &record)).collect();
     diagrams_agree(1, &diagrams, &mut tally);
     records_agree(1, &records, &mut tally);

@@ -1,6 +1,7 @@
 //! ↔ against no arrowhead: the product tells no difference, whatever it is asked.
 
-use agreement::heads::{heads_do_not_matter, Tally};
+use agreement::alike::Tally;
+use agreement::heads::heads_do_not_matter;
 
 #[test]
 fn heads_are_not_told_apart() {

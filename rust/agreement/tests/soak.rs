@@ -1,7 +1,9 @@
 //! The same checks on ever more seeds, and a solver's answers beside both comparers: `make soak`
 //! runs them for SOAK_MINUTES minutes.
 
-use agreement::{comparing, files, heads, judging, rows, solving, text_pairs, texts};
+use agreement::{
+    alike, comparing, editions, files, heads, judging, rows, solving, text_pairs, texts,
+};
 use std::time::{Duration, Instant, SystemTime, UNIX_EPOCH};
 
 /// A number from the environment, or this one.
@@ -27,7 +29,7 @@ fn every_check_on_many_seeds() {
     let (mut diagrams, mut records) = (files::Tally::default(), files::Tally::default());
     let (mut judged, mut compared) = (judging::Tally::default(), comparing::Tally::default());
     let (mut called, mut read) = (rows::Tally::default(), texts::Tally::default());
-    let mut headed = heads::Tally::default();
+    let (mut headed, mut in_both) = (alike::Tally::default(), alike::Tally::default());
     let (mut solved, mut solving_time) = (solving::Tally::default(), Duration::ZERO);
     while seed == first || start.elapsed() < Duration::from_secs(60 * minutes) {
         files::diagrams_agree(seed, &files::diagram_files(seed), &mut diagrams);
@@ -40,6 +42,8 @@ fn every_check_on_many_seeds() {
         comparing::four_objects_agree(seed, &mut compared);
         text_pairs::compared_alike(seed);
         heads::heads_do_not_matter(seed, &mut headed);
+        editions::editions_do_not_matter(seed, &mut in_both);
+        editions::compared_alike(seed);
         rows::rows_agree(seed, &mut called);
         // The solver takes far longer than the other checks: half of the time is its share.
         if solving_time * 2 <= start.elapsed() {
@@ -60,6 +64,7 @@ fn every_check_on_many_seeds() {
     println!("judging: {judged:?}");
     println!("comparing: {compared:?}");
     println!("heads: {headed:?}");
+    println!("editions: {in_both:?}");
     println!("solving: {solved:?}");
     println!("rows: {called:?}");
 }

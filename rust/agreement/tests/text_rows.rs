@@ -136,7 +136,7 @@ fn refusals_change_nothing(side: Side) {
 
 fn text_and_file_are_one_diagram(side: Side) {
     let (file, text, empty) = (p(), shelf_and_card(4), empty());
-    let compiled = "3 1 0 0 0 4 3 0 0 1 1 6 0 0 0 0";
+    let compiled = "3 1 0 0 0 0 0 4 3 0 0 0 1 0 1 6 0 0 0 0 0 0";
     let mut steps = vec![(load(0, &file), "0"), (load_text(1, &text), "0")];
     steps.extend((0..=4).map(|bound| (compare(bound), "no difference")));
     steps.extend([0, 1].map(|place| (Call::Compile { place }, compiled)));
@@ -191,7 +191,7 @@ fn lines_with_and_without_arrowheads(side: Side) {
     let (headless, headed) = (line_and_port(" -- "), line_and_port(" <-> "));
     let file = b"\x60\x00\x01\x02\x61\x00\x05\x04Line\x61\x00\x05\x04Port\
         \x63\x00\x07\x00\x04port\x01";
-    let compiled = "3 1 0 0 0 1 1 0 1 0 1 5 0 0 0 0";
+    let compiled = "3 1 0 0 0 0 0 1 1 0 1 0 0 0 1 5 0 0 0 0 0 0";
     for [old, new] in [[&headless, &headed], [&headed, &headless]] {
         let mut steps = vec![(load_text(0, old), "0"), (load_text(1, new), "0")];
         for place in [0, 1] {

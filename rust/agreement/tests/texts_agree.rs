@@ -2,7 +2,7 @@
 //! holds the diagram that the text declares.
 
 use agreement::text_pairs::compared_alike;
-use agreement::texts::{texts_agree, whole_texts, whole_texts_agree, Tally};
+use agreement::texts::{edition_of, texts_agree, whole_texts, whole_texts_agree, Tally};
 use agreement::texts::{texts_damaged_by_byte, texts_damaged_by_token};
 use brute::{read_text, write_diagram};
 use generators::limits::full;
@@ -55,7 +55,7 @@ fn damage_of_the_largest_text_agrees() {
     let mut random = Random::new(1);
     let mut texts = Vec::new();
     for _ in 0..100 {
-        let written = text(&mut random, &full());
+        let written = text(&mut random, &full(2));
         texts.push(laid_out(&mut random, &written.tokens));
         let tokens = damaged_tokens(&mut random, &written.tokens);
         texts.push(laid_out(&mut random, &tokens));
@@ -76,7 +76,7 @@ fn pairs_are_compared_alike_by_texts_and_by_files() {
 fn the_independent_reader_declares_what_was_made_up() {
     for seed in 0..500 {
         for (text, plan) in whole_texts(seed) {
-            let read = read_text(&text).map(|diagram| write_diagram(&diagram));
+            let read = read_text(&text).map(|diagram| write_diagram(edition_of(&plan), &diagram));
             assert_eq!(
                 read,
                 Ok(plan.file()),

@@ -2,11 +2,14 @@
 
 use agreement::table::{cases, Case};
 use agreement::words::said;
-use agreement::worked_files::{card, e, empty, main_record, p, q, s, shelf3, z};
+use agreement::worked_files::{card, e, empty, main_record, p, p_in_edition_2, q, s, shelf3, z};
 use boundary::{run, Call, Reply};
 use brute::{judge, read_diagram, read_record};
 
 const BUFFER: Call = Call::HandOut { room: 60_000 };
+
+/// What P becomes.
+const P_COMPILED: &str = "3 1 0 0 0 0 0 4 3 0 0 0 1 0 1 6 0 0 0 0 0 0";
 
 /// A load, in short.
 fn load(place: u8, file: &[u8]) -> Call<'_> {
@@ -21,7 +24,7 @@ fn judging(place: u8, file: &[u8]) -> Call<'_> {
 #[test]
 fn diagram_files() {
     let cases = cases("D");
-    assert!(cases.len() >= 70);
+    assert!(cases.len() >= 125);
     for case in cases {
         let replies = run(&[load(0, &case.files[0])]);
         assert_eq!(said(&replies[0]), case.answers[0], "{}", case.name);
@@ -48,7 +51,7 @@ fn record_files() {
 #[test]
 fn records_judged_and_evaluated() {
     let cases = cases("J");
-    assert!(cases.len() >= 78);
+    assert!(cases.len() >= 87);
     for case in cases {
         let (file, place) = (case.files[1].as_slice(), 1);
         let diagram = load(1, &case.files[0]);
@@ -61,7 +64,7 @@ fn records_judged_and_evaluated() {
 #[test]
 fn compiled_lists() {
     let cases = cases("C");
-    assert!(cases.len() >= 16);
+    assert!(cases.len() >= 22);
     for case in cases {
         let replies = run(&[load(1, &case.files[0]), Call::Compile { place: 1 }]);
         assert_eq!(said(&replies[1]), case.answers[0], "{}", case.name);
@@ -71,7 +74,7 @@ fn compiled_lists() {
 #[test]
 fn diagrams_compared() {
     let cases = cases("FW");
-    assert!(cases.len() >= 65);
+    assert!(cases.len() >= 96);
     for case in cases {
         compared(&case);
     }
@@ -194,10 +197,7 @@ fn row_4_refusals_keep_the_witness() {
         (Call::Clear { place: 2 }, "10"),
         (Call::Compare { bound: 9 }, "9"),
         (judging(0, &[0x60, 0, 1, 9]), "3"),
-        (
-            Call::Compile { place: 0 },
-            "3 1 0 0 0 4 3 0 0 1 1 6 0 0 0 0",
-        ),
+        (Call::Compile { place: 0 }, P_COMPILED),
         (
             Call::Evaluate {
                 place: 1,
@@ -284,8 +284,22 @@ fn rows_11_and_12_refusals_change_nothing() {
     let (p, shelf3) = (p(), shelf3());
     row(&[
         (load(0, &p), "0"),
-        (load(0, &[0x10, 0, 1, 2]), "3"),
+        (load(0, &[0x10, 0, 1, 3]), "3"),
         (judging(0, &shelf3), "0"),
         (Call::HandOut { room: 10 }, "refused 22"),
     ]);
+}
+
+#[test]
+fn row_13_the_editions_are_mixed() {
+    let (one, two, q) = (p(), p_in_edition_2(), q());
+    for [old, new] in [[&one, &two], [&two, &one]] {
+        let mut steps = vec![(load(0, old), "0"), (load(1, new), "0")];
+        steps.extend((0..=8).map(|bound| (Call::Compare { bound }, "no difference")));
+        row(&steps);
+    }
+    let mut steps = difference(&two, &q);
+    steps.push((load(1, &one), "0"));
+    steps.extend([0, 1].map(|place| (Call::Compile { place }, P_COMPILED)));
+    row(&steps);
 }

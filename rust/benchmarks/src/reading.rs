@@ -20,7 +20,7 @@ pub fn report() {
     }
     file(
         "as large as the format allows",
-        &generators::limits::full().file(),
+        &generators::limits::full(2).file(),
     );
 }
 

@@ -22,7 +22,7 @@ pub fn report() {
         text(&name, &example);
     }
     let mut random = Random::new(1);
-    let largest = texts::text(&mut random, &limits::full());
+    let largest = texts::text(&mut random, &limits::full(2));
     let largest = text_layout::laid_out(&mut random, &largest.tokens);
     text("as large as the format allows", &largest);
 }
@@ -33,7 +33,7 @@ fn text(name: &str, text: &[u8]) {
         eprintln!("{name}: the text is refused.");
         return;
     };
-    let file = brute::write_diagram(&diagram);
+    let file = brute::write_diagram(brute::Edition::Two, &diagram);
     let product = loads(&Call::LoadText { place: 0, text });
     let independent = timing::for_each_call(CALLS, || {
         for _ in 0..CALLS {

@@ -17,7 +17,7 @@ pub enum Call<'a> {
 pub(crate) const LIST_ENTRIES: usize = 64;
 
 /// Bytes of one entry of a compiled list.
-pub(crate) const ENTRY_BYTES: usize = 5;
+pub(crate) const ENTRY_BYTES: usize = 7;
 
 /// Bytes in front of the lent buffer in a reply of hand out: the status and the length written.
 pub(crate) const HAND_OUT_HEAD: usize = 5;
@@ -158,7 +158,7 @@ mod tests {
             },
         ];
         let rooms: Vec<usize> = calls.iter().map(|&call| room_for(&[call])).collect();
-        assert_eq!(rooms, [1, 1, 2, 322, 2, 3, 12, 1]);
-        assert_eq!(room_for(&calls), 344);
+        assert_eq!(rooms, [1, 1, 2, 450, 2, 3, 12, 1]);
+        assert_eq!(room_for(&calls), 472);
     }
 }

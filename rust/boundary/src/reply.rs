@@ -9,7 +9,8 @@ pub enum Reply {
     Done,
     /// Judge: 0, or the lowest rule broken.
     Rule(u8),
-    /// Compile: the compiled predicates (kind, association, side, low, up).
+    /// Compile: the compiled predicates (kind, association, side, and two bytes each, high byte
+    /// first, of low and up).
     Records(Vec<[u8; ENTRY_BYTES]>),
     /// Evaluate: the index of the first predicate that does not hold, or their number.
     FirstFalse(u8),
@@ -72,8 +73,8 @@ fn decode_one(call: &Call, rest: &mut &[u8]) -> Option<Reply> {
 fn compile_reply(rest: &mut &[u8]) -> Option<Reply> {
     let number = usize::from(take(rest, 1)?[0]);
     let list = take(rest, LIST_ENTRIES * ENTRY_BYTES)?;
-    let entries = list.chunks_exact(ENTRY_BYTES).take(number);
-    let records = entries.map(|entry| [entry[0], entry[1], entry[2], entry[3], entry[4]]);
+    let (entries, _) = list.as_chunks::<ENTRY_BYTES>();
+    let records = entries.iter().take(number).copied();
     Some(Reply::Records(records.collect()))
 }
 
@@ -184,12 +185,12 @@ mod tests {
 
     #[test]
     fn a_compiled_list_ends_at_its_number() {
-        let mut replies = vec![0, 2, 1, 0, 0, 0, 4, 3, 0, 0, 1, 1];
-        replies.resize(2 + 320, 0);
+        let mut replies = vec![0, 2, 1, 0, 0, 0, 0, 1, 0, 3, 0, 0, 0, 1, 15, 160];
+        replies.resize(2 + 448, 0);
         replies.push(21);
         let calls = [Call::Compile { place: 0 }, Call::Compile { place: 1 }];
         let expected = [
-            Reply::Records(vec![[1, 0, 0, 0, 4], [3, 0, 0, 1, 1]]),
+            Reply::Records(vec![[1, 0, 0, 0, 0, 1, 0], [3, 0, 0, 0, 1, 15, 160]]),
             Reply::Refused(21),
         ];
         assert_eq!(decode(&calls, &replies), expected);

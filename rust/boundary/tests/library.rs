@@ -13,6 +13,13 @@ const NEW: &[u8] = b"\x10\x00\x01\x01\x30\x00\x08\x00\x05Shelf\x00\x30\x00\x07\x
 /// One Card, the only least difference between the two.
 const CARD: &[u8] = b"\x60\x00\x01\x01\x61\x00\x05\x04Card";
 
+/// What the latter becomes: 0 to 4 cards a shelf, 1 shelf a card, at most one whole a card.
+const PREDICATES: [[u8; 7]; 3] = [
+    [1, 0, 0, 0, 0, 0, 4],
+    [3, 0, 0, 0, 1, 0, 1],
+    [6, 0, 0, 0, 0, 0, 0],
+];
+
 #[test]
 fn a_row_of_all_calls() {
     let calls = [
@@ -56,7 +63,7 @@ fn a_row_of_all_calls() {
         },
         Reply::Rule(0),
         Reply::Rule(7),
-        Reply::Records(vec![[1, 0, 0, 0, 4], [3, 0, 0, 1, 1], [6, 0, 0, 0, 0]]),
+        Reply::Records(PREDICATES.to_vec()),
         Reply::FirstFalse(1),
         Reply::Done,
         Reply::NotWritten {
@@ -92,11 +99,35 @@ fn a_text_is_loaded_as_the_file_of_its_diagram() {
     let expected = [
         Reply::Done,
         Reply::Done,
-        Reply::Records(vec![[1, 0, 0, 0, 4], [3, 0, 0, 1, 1], [6, 0, 0, 0, 0]]),
+        Reply::Records(PREDICATES.to_vec()),
         Reply::Difference(1),
         Reply::Refused(23),
         Reply::Refused(24),
         Reply::Refused(10),
+        Reply::Rule(7),
+    ];
+    assert_eq!(run(&calls), expected);
+}
+
+#[test]
+fn an_edition_2_file_has_wide_limits() {
+    let file = b"\x10\x00\x01\x02\x30\x00\x08\x00\x05Shelf\x00\x30\x00\x07\x00\x04Card\x00\
+        \x50\x00\x18\x01\x01\x00\x00\x01\x00\x01\x05shelf\x01\x01\x00\x0F\xA0\x05cards";
+    let calls = [
+        Call::Load { place: 0, file },
+        Call::Compile { place: 0 },
+        Call::Judge {
+            place: 0,
+            file: CARD,
+        },
+    ];
+    let expected = [
+        Reply::Done,
+        Reply::Records(vec![
+            [1, 0, 0, 1, 0, 15, 160],
+            [3, 0, 0, 0, 1, 0, 1],
+            [6, 0, 0, 0, 0, 0, 0],
+        ]),
         Reply::Rule(7),
     ];
     assert_eq!(run(&calls), expected);

@@ -4,7 +4,7 @@
 use crate::compare::compare;
 use crate::diagram::Diagram;
 use crate::diagram_file::read_diagram;
-use crate::predicates::{compile, evaluate};
+use crate::predicates::{compile, evaluate, Entry};
 use crate::record::Record;
 use crate::record_file::{read_record, write_record};
 use crate::refusal::{
@@ -50,7 +50,7 @@ impl Bench {
     }
 
     /// Gives the compiled records: 10, 21.
-    pub fn compile(&self, place: u8) -> Result<Vec<[u8; 5]>, u8> {
+    pub fn compile(&self, place: u8) -> Result<Vec<Entry>, u8> {
         Ok(compile(self.diagram(place)?))
     }
 

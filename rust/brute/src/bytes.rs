@@ -68,6 +68,11 @@ impl Content<'_> {
         Ok(byte)
     }
 
+    /// Takes two bytes as one number, the high one first.
+    pub fn two_bytes(&mut self) -> Result<u16, u8> {
+        Ok(u16::from_be_bytes([self.byte()?, self.byte()?]))
+    }
+
     /// Takes a name of 1 to 16 bytes.
     pub fn name(&mut self) -> Result<Name, u8> {
         self.name_of_length(1..=16)

@@ -53,8 +53,8 @@ pub enum Form {
 /// Limits; `up` is none where there is no upper limit.
 #[derive(Clone, Copy, Debug, PartialEq, Eq)]
 pub struct Limits {
-    pub low: u8,
-    pub up: Option<u8>,
+    pub low: u16,
+    pub up: Option<u16>,
 }
 
 /// An end of an association with the name of its type.

@@ -2,6 +2,7 @@
 
 use crate::bytes::{all_differ, each_field, strictly_rising, Content};
 use crate::diagram::{Association, Attribute, Diagram, End, Form, Kind, Limits, Type, ValueType};
+use crate::edition::Edition;
 use crate::refusal::{
     require, COMPOSITION_BACKWARDS, INTERFACE_BELOW_CLASS, NAMES_NOTHING, NOT_DIFFERENT,
     OFF_LAYOUT, TOO_MANY,
@@ -11,23 +12,27 @@ use crate::Name;
 /// Reads a diagram file, or gives its refusal.
 pub fn read_diagram(file: &[u8]) -> Result<Diagram, u8> {
     let mut diagram = Diagram::default();
+    let mut edition = None;
     each_field(
         file,
         &[0x10, 0x20, 0x30, 0x40, 0x50],
         |tag, content| match tag {
-            0x10 => take_edition(content),
+            0x10 => take_edition(&mut edition, content),
             0x20 => take_value_type(&mut diagram, content),
             0x30 => take_type(&mut diagram, content),
             0x40 => take_attribute(&mut diagram, content),
-            _ => take_association(&mut diagram, content),
+            _ => {
+                let edition = edition.expect("the edition comes first");
+                take_association(&mut diagram, edition, content)
+            }
         },
     )?;
     Ok(diagram)
 }
 
 /// Tries the edition for 3.
-fn take_edition(mut content: Content) -> Result<(), u8> {
-    content.byte_within(1..=1)?;
+fn take_edition(edition: &mut Option<Edition>, mut content: Content) -> Result<(), u8> {
+    *edition = Some(Edition::of_byte(content.byte()?).ok_or(OFF_LAYOUT)?);
     content.end()
 }
 
@@ -117,17 +122,23 @@ struct EndFields {
 }
 
 /// Takes an end off a content; its type is looked up once the whole content is tried for 3.
-fn take_end(content: &mut Content) -> Result<EndFields, u8> {
+fn take_end(edition: Edition, content: &mut Content) -> Result<EndFields, u8> {
     let index = content.byte()?;
-    let low = content.byte_within(0..=100)?;
-    let up = content.byte()?;
-    require(up == 255 || (low <= up && up <= 100), OFF_LAYOUT)?;
-    let up = (up != 255).then_some(up);
+    let low = take_limit(edition, content)?;
+    let up = take_limit(edition, content)?;
     Ok(EndFields {
         index,
-        limits: Limits { low, up },
+        limits: edition.limits(low, up).ok_or(OFF_LAYOUT)?,
         role: content.name()?,
     })
+}
+
+/// Takes the number of a limit off a content.
+fn take_limit(edition: Edition, content: &mut Content) -> Result<u16, u8> {
+    match edition {
+        Edition::One => content.byte().map(u16::from),
+        Edition::Two => content.two_bytes(),
+    }
 }
 
 /// The end with the name of its type.
@@ -140,15 +151,19 @@ fn named_end(diagram: &Diagram, end: EndFields) -> Result<End, u8> {
 }
 
 /// Tries an association for 4, 3, 6 and 8.
-fn take_association(diagram: &mut Diagram, mut content: Content) -> Result<(), u8> {
+fn take_association(
+    diagram: &mut Diagram,
+    edition: Edition,
+    mut content: Content,
+) -> Result<(), u8> {
     require(diagram.associations.len() < 16, TOO_MANY)?;
     let form = match content.byte_within(0..=1)? {
         0 => Form::Association,
         _ => Form::Composition,
     };
     let arrow = content.byte_within(1..=4)?;
-    let left = take_end(&mut content)?;
-    let right = take_end(&mut content)?;
+    let left = take_end(edition, &mut content)?;
+    let right = take_end(edition, &mut content)?;
     content.end()?;
     let left = named_end(diagram, left)?;
     let right = named_end(diagram, right)?;

@@ -1,12 +1,15 @@
 //! The writer of diagram files.
 
 use crate::bytes::{put_field, put_name};
-use crate::diagram::{Association, Attribute, Diagram, End, Form, Kind, Type, ValueType};
+use crate::diagram::{Association, Attribute, Diagram, End, Form, Kind, Limits, Type, ValueType};
+use crate::edition::Edition;
 
-/// The diagram's file. All its names must name something, as they do in a diagram that was read.
-pub fn write_diagram(diagram: &Diagram) -> Vec<u8> {
+/// The diagram's file of an edition. All its names must name something, as they do in a diagram
+/// that was read; and the edition must hold it, as edition 2 holds every diagram that was read.
+pub fn write_diagram(edition: Edition, diagram: &Diagram) -> Vec<u8> {
+    assert!(edition.holds(diagram), "{edition:?} has other limits");
     let mut file = Vec::new();
-    put_field(&mut file, 0x10, &[1]);
+    put_field(&mut file, 0x10, &[edition.byte()]);
     for value_type in &diagram.value_types {
         put_field(&mut file, 0x20, &value_type_content(value_type));
     }
@@ -17,7 +20,8 @@ pub fn write_diagram(diagram: &Diagram) -> Vec<u8> {
         put_field(&mut file, 0x40, &attribute_content(diagram, attribute));
     }
     for association in &diagram.associations {
-        put_field(&mut file, 0x50, &association_content(diagram, association));
+        let content = association_content(edition, diagram, association);
+        put_field(&mut file, 0x50, &content);
     }
     file
 }
@@ -73,20 +77,26 @@ fn attribute_content(diagram: &Diagram, attribute: &Attribute) -> Vec<u8> {
 }
 
 /// Form, arrow and both ends.
-fn association_content(diagram: &Diagram, association: &Association) -> Vec<u8> {
+fn association_content(edition: Edition, diagram: &Diagram, association: &Association) -> Vec<u8> {
     let form = match association.form {
         Form::Association => 0,
         Form::Composition => 1,
     };
     let mut content = vec![form, association.arrow];
-    put_end(&mut content, diagram, &association.left);
-    put_end(&mut content, diagram, &association.right);
+    put_end(&mut content, edition, diagram, &association.left);
+    put_end(&mut content, edition, diagram, &association.right);
     content
 }
 
-/// Type, limits and role; 255 stands for no upper limit.
-fn put_end(content: &mut Vec<u8>, diagram: &Diagram, end: &End) {
+/// Type, limits and role.
+fn put_end(content: &mut Vec<u8>, edition: Edition, diagram: &Diagram, end: &End) {
+    let Limits { low, up } = end.limits;
     content.push(type_index(diagram, &end.type_name));
-    content.extend([end.limits.low, end.limits.up.unwrap_or(255)]);
+    for limit in [low, edition.number_of(up)] {
+        match edition {
+            Edition::One => content.push(u8::try_from(limit).expect("edition 1 has small limits")),
+            Edition::Two => content.extend(limit.to_be_bytes()),
+        }
+    }
     put_name(content, &end.role);
 }

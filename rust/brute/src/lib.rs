@@ -7,6 +7,7 @@ mod compare;
 mod diagram;
 mod diagram_file;
 mod diagram_writer;
+mod edition;
 mod objects;
 mod predicates;
 mod record;
@@ -23,7 +24,8 @@ pub use diagram::{
 };
 pub use diagram_file::read_diagram;
 pub use diagram_writer::write_diagram;
-pub use predicates::{compile, evaluate};
+pub use edition::Edition;
+pub use predicates::{compile, evaluate, Entry};
 pub use record::{Link, Record, Value};
 pub use record_file::{read_record, write_record};
 pub use replay::replay;

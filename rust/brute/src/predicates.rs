@@ -6,8 +6,12 @@ use crate::record::{Link, Record};
 use crate::rules::links::{mirrors, sources_fit, targets_fit};
 use crate::rules::wholes::whole_count;
 
+/// A compiled record: kind, association, side, low and up, "low and up taking two each, high byte
+/// first".
+pub type Entry = [u8; 7];
+
 /// Gives the compiled records, associations in file order.
-pub fn compile(d: &Diagram) -> Vec<[u8; 5]> {
+pub fn compile(d: &Diagram) -> Vec<Entry> {
     let mut list = Vec::new();
     for (index, association) in (0u8..).zip(&d.associations) {
         compile_one(&mut list, index, association);
@@ -18,29 +22,36 @@ pub fn compile(d: &Diagram) -> Vec<[u8; 5]> {
 /// "→ side 0 by rule 6, side 0 by rule 7; ← side 1, side 1; ↔ side 0 and 1 by rule 6, then
 /// kind 5"; "the compiled row of arrow 4 gains BidiAssoc in the same spot as ↔", which makes it
 /// the row of ↔. "A composition adds kind 6 last."
-fn compile_one(list: &mut Vec<[u8; 5]>, index: u8, a: &Association) {
+fn compile_one(list: &mut Vec<Entry>, index: u8, a: &Association) {
     let rule_6 = |side: Side| limit_record([1, 2], index, side, a.target(side).limits);
     let rule_7 = |side: Side| limit_record([3, 4], index, side, a.source(side).limits);
     match a.arrow {
         1 => list.extend([rule_6(Side::R2), rule_7(Side::R2)]),
         2 => list.extend([rule_6(Side::R1), rule_7(Side::R1)]),
-        _ => list.extend([rule_6(Side::R2), rule_6(Side::R1), [5, index, 0, 0, 0]]),
+        _ => list.extend([rule_6(Side::R2), rule_6(Side::R1), without_limits(5, index)]),
     }
     if a.form == Form::Composition {
-        list.push([6, index, 0, 0, 0]);
+        list.push(without_limits(6, index));
     }
 }
 
+/// "kinds 5, 6 have side, low, up 0"
+fn without_limits(kind: u8, index: u8) -> Entry {
+    [kind, index, 0, 0, 0, 0, 0]
+}
+
 /// A record of the first kind where there is an upper limit, else of the second with up 0.
-fn limit_record(kinds: [u8; 2], index: u8, side: Side, limits: Limits) -> [u8; 5] {
+fn limit_record(kinds: [u8; 2], index: u8, side: Side, limits: Limits) -> Entry {
     let side = match side {
         Side::R2 => 0,
         Side::R1 => 1,
     };
-    match limits.up {
-        Some(up) => [kinds[0], index, side, limits.low, up],
-        None => [kinds[1], index, side, limits.low, 0],
-    }
+    let (kind, up) = match limits.up {
+        Some(up) => (kinds[0], up),
+        None => (kinds[1], 0),
+    };
+    let ([low_high, low_low], [up_high, up_low]) = (limits.low.to_be_bytes(), up.to_be_bytes());
+    [kind, index, side, low_high, low_low, up_high, up_low]
 }
 
 /// Gives the number of compiled records if all hold, else the index of the first that doesn't.
@@ -55,12 +66,15 @@ pub fn evaluate(d: &Diagram, r: &Record) -> u8 {
 }
 
 /// Tells whether one compiled record holds, with its own limits.
-fn holds(objects: &Objects, links: &[Link], entry: &[u8; 5]) -> bool {
-    let [kind, index, side, low, up] = *entry;
+fn holds(objects: &Objects, links: &[Link], entry: &Entry) -> bool {
+    let [kind, index, side, low_high, low_low, up_high, up_low] = *entry;
     let a = &objects.diagram.associations[usize::from(index)];
     let side = if side == 0 { Side::R2 } else { Side::R1 };
-    let up = [1, 3].contains(&kind).then_some(up);
-    let limits = Limits { low, up };
+    let up = u16::from_be_bytes([up_high, up_low]);
+    let limits = Limits {
+        low: u16::from_be_bytes([low_high, low_low]),
+        up: [1, 3].contains(&kind).then_some(up),
+    };
     match kind {
         1 | 2 => targets_fit(objects, links, a, side, limits),
         3 | 4 => sources_fit(objects, links, a, side, limits),

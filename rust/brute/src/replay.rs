@@ -1,6 +1,7 @@
 //! A coded list of calls, run from a fresh bench; its replies, coded too.
 
 use crate::bench::Bench;
+use crate::predicates::Entry;
 
 /// A call taken off the front of the coded list.
 enum Call<'a> {
@@ -89,10 +90,10 @@ fn run_call(bench: &mut Bench, call: Call, out: &mut [u8]) -> Option<usize> {
 }
 
 /// The number of records and the list of 64, zero past the number.
-fn list_bytes(list: &[[u8; 5]]) -> Vec<u8> {
+fn list_bytes(list: &[Entry]) -> Vec<u8> {
     let mut bytes = vec![u8::try_from(list.len()).expect("a list has at most 64 records")];
     bytes.extend(list.concat());
-    bytes.resize(1 + 64 * 5, 0);
+    bytes.resize(1 + 64 * size_of::<Entry>(), 0);
     bytes
 }
 

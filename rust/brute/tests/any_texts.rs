@@ -1,6 +1,6 @@
 //! Texts of any bytes and of any length: the reader always answers, with one of its numbers.
 
-use brute::{read_text, write_diagram};
+use brute::{read_text, write_diagram, Edition};
 use generators::diagrams::{diagram, SMALL};
 use generators::limits::full;
 use generators::text_damage::{damaged_bytes, damaged_tokens};
@@ -49,7 +49,7 @@ fn texts_damaged_many_times() {
 #[test]
 fn texts_cut_off_anywhere() {
     let mut random = Random::new(3);
-    let tokens = text(&mut random, &full()).tokens;
+    let tokens = text(&mut random, &full(2)).tokens;
     let whole = tokens.join(&b' ');
     assert_eq!(number(&whole), 0);
     for end in 0..whole.len() {
@@ -60,11 +60,11 @@ fn texts_cut_off_anywhere() {
 #[test]
 fn the_largest_diagram() {
     let mut random = Random::new(4);
-    let written = text(&mut random, &full());
+    let written = text(&mut random, &full(2));
     let diagram = read_text(&laid_out(&mut random, &written.tokens)).expect("it is accepted");
-    let file = write_diagram(&diagram);
+    let file = write_diagram(Edition::Two, &diagram);
     assert_eq!(file, written.plan.file());
-    assert_eq!(file.len(), 3_926);
+    assert_eq!(file.len(), 3_990);
 }
 
 #[test]

@@ -83,7 +83,7 @@ fn a_reply_without_room_is_not_written() {
     let sizes = [
         (judge(0, CARD_RECORD), 2),
         (evaluate(0, CARD_RECORD), 2),
-        (compile(0), 2 + 64 * 5),
+        (compile(0), 450),
         (compare(3), 2),
         (compare(4), 3),
         (clear(0), 1),

@@ -1,9 +1,9 @@
-//! Files with bytes changed, cut out or put in: the readers take any bytes, and an accepted
-//! record file is the writing of what was read.
+//! Files with bytes changed, cut out or put in: the readers take any bytes, and an accepted file is
+//! the writing of what was read.
 
 mod common;
 
-use brute::{read_diagram, read_record, write_record, Link, Record, Value};
+use brute::{read_diagram, read_record, write_diagram, write_record, Link, Record, Value};
 use common::*;
 use generators::Random;
 
@@ -71,16 +71,31 @@ fn damaged_record_files() {
 
 #[test]
 fn damaged_diagram_files() {
+    expect_every_reply(1, b"\x50\x00\x0C\x01\x01\x01\x01\x01\x01l\x02\x00\xFF\x01r");
+    expect_every_reply(
+        2,
+        b"\x50\x00\x10\x01\x01\x01\x00\x01\x01\x00\x01l\x02\x00\x00\xFF\xFF\x01r",
+    );
+}
+
+/// A file of an edition with this association, damaged often, gets every reply that it can get.
+fn expect_every_reply(edition: u8, association: &[u8]) {
     let mut random = Random::new(2);
-    let mut whole = b"\x10\x00\x01\x01\x20\x00\x07\x01C\x02\x01r\x01g".to_vec();
+    let mut whole = vec![0x10, 0, 1, edition];
+    whole.extend(b"\x20\x00\x07\x01C\x02\x01r\x01g");
     whole.extend(b"\x30\x00\x04\x02\x01I\x00\x30\x00\x05\x00\x01J\x01\x00");
     whole.extend(b"\x30\x00\x05\x02\x01K\x01\x00\x40\x00\x04\x01\x01a\x00");
-    whole.extend(b"\x50\x00\x0C\x01\x01\x01\x01\x01\x01l\x02\x00\xFF\x01r");
+    whole.extend(association);
     let mut seen = [0; 9];
     for _ in 0..50_000 {
         let file = damaged(&mut random, &whole);
-        let refusal = read_diagram(&file).err().unwrap_or(0);
-        seen[usize::from(refusal)] += 1;
+        match read_diagram(&file) {
+            Ok(read) => {
+                assert_eq!(write_diagram(edition_of(&file), &read), file);
+                seen[0] += 1;
+            }
+            Err(refusal) => seen[usize::from(refusal)] += 1,
+        }
     }
     // A file of this size comes near no limit on the number of fields, which 4 asks for.
     let refusals = [0, 1, 2, 3, 5, 6, 7, 8];

@@ -35,7 +35,7 @@ impl Reply {
             Done | Refused(_) => 1,
             Number(_) | NoDifference => 2,
             Difference(_) => 3,
-            Records(_) => 2 + 64 * 5,
+            Records(_) => 450,
             Kept(_, room) | Written(_, room) | FourObjects(room) => 5 + room,
         }
     }
@@ -61,8 +61,8 @@ impl Reply {
 
 fn check_list(number: u8, bytes: &[u8]) {
     assert_eq!(bytes[..2], [0, number]);
-    let (entries, past) = bytes[2..].split_at(usize::from(number) * 5);
-    assert!(entries.chunks(5).all(|entry| entry[0] != 0));
+    let (entries, past) = bytes[2..].split_at(usize::from(number) * 7);
+    assert!(entries.chunks(7).all(|entry| entry[0] != 0));
     assert!(past.iter().all(|&byte| byte == 0));
 }
 
@@ -244,10 +244,26 @@ fn fewest_objects() {
 }
 
 #[test]
+fn editions_are_mixed() {
+    run_after_difference(vec![
+        (load(0, FOUR_CARDS_2), Done),
+        (compare(4), Difference(4)),
+        (hand_out(60_000), FourObjects(60_000)),
+        (load(1, &four_cards()), Done),
+        (compare(4), NoDifference),
+        (load(0, &four_cards()), Done),
+        (load(1, FOUR_CARDS_2), Done),
+        (compare(4), NoDifference),
+        (load(0, &two_cards()), Done),
+        (compare(4), NoDifference),
+    ]);
+}
+
+#[test]
 fn refused_load_keeps_the_place() {
     run(vec![
         (load(0, &four_cards()), Done),
-        (load(0, b"\x10\x00\x01\x02"), Refused(3)),
+        (load(0, b"\x10\x00\x01\x03"), Refused(3)),
         (judge(0, &three_cards_record()), Number(0)),
     ]);
 }

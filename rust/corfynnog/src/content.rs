@@ -59,6 +59,16 @@ impl<'a> Content<'a> {
         })
     }
 
+    /// Any number of two bytes, high byte first.
+    pub fn two_byte_number(&mut self, what: &str) -> Result<Number, Fault> {
+        let high = self.number(what)?;
+        let low = self.number(&format!("low byte of the {what}"))?;
+        Ok(Number {
+            value: high.value * 256 + low.value,
+            byte: high.byte,
+        })
+    }
+
     /// A number within a range; what to do about another one.
     pub fn number_in(
         &mut self,
@@ -71,11 +81,10 @@ impl<'a> Content<'a> {
             return Ok(found.value);
         }
         let (least, most) = (range.start(), range.end());
-        let allowed = match least == most {
-            true => format!("only {most} is allowed"),
-            false => format!("only {least} to {most} are allowed"),
-        };
-        let what = format!("the {what} is {}, but {allowed}", found.value);
+        let what = format!(
+            "the {what} is {}, but only {least} to {most} are allowed",
+            found.value
+        );
         Err(self.fault(3, found.byte, what, to_do))
     }
 

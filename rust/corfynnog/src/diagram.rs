@@ -173,6 +173,12 @@ impl Association {
         }
     }
 
+    /// The largest limit at either end.
+    pub fn largest_limit(&self) -> usize {
+        let of_end = |end: &End| end.limits.up.unwrap_or(end.limits.low);
+        of_end(&self.left).max(of_end(&self.right))
+    }
+
     /// The side whose targets are counted by their sources, of a one-way arrow.
     pub fn counted_side(&self) -> Option<u8> {
         match self.arrow {

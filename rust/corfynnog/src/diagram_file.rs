@@ -1,22 +1,19 @@
 //! A diagram file taken apart, or its first fault.
 
+mod association;
+
 use crate::content::{Content, FoundName, Number};
-use crate::diagram::{Arrow, Association, Attribute, Diagram, End, Kind, Limits, Type, ValueType};
+use crate::diagram::{Attribute, Diagram, Kind, Type, ValueType};
+use crate::edition::{Edition, EDITION_1};
 use crate::fault::Fault;
 use crate::fields::{Field, Fields, DIAGRAM};
 use crate::names::numbers_below;
-
-/// The limit byte for "no upper limit".
-pub const NO_UPPER: usize = 255;
-
-/// The largest limit.
-const LIMIT_MOST: usize = 100;
+use association::association;
 
 /// What to do about numbers out of their range.
+const EDITIONS: &str = "write 1 where each limit has one byte, 2 where each has two";
 const KINDS: &str =
     "write 0 for a class, 1 for an abstract class, 2 for an interface, 3 for a singleton class";
-const FORMS: &str = "write 0 for an association, 1 for a composition";
-const ARROWS: &str = "write 1 for ->, 2 for <-, 3 for <->, 4 for --";
 const TOO_MANY_CONSTANTS: &str =
     "take constants out until 8 are left, and correct their number and the field's length";
 const TOO_MANY_PARENTS: &str =
@@ -30,24 +27,35 @@ const DOUBLED_PARENT: &str =
 /// The diagram in a file; each field is tried for 3, 5, 6, 7 and 8 in this order.
 pub fn read_diagram(file: &[u8]) -> Result<Diagram, Fault> {
     let mut fields = Fields::of(file, &DIAGRAM);
+    let mut edition = EDITION_1;
     let mut diagram = Diagram::default();
     while let Some(field) = fields.next()? {
         match field.tag {
-            0x10 => edition(field)?,
+            0x10 => edition = edition_of(field)?,
             0x20 => diagram.value_types.push(value_type(field, &diagram)?),
             0x30 => diagram.types.push(type_of(field, &diagram)?),
             0x40 => diagram.attributes.push(attribute(field, &diagram)?),
-            _ => diagram.associations.push(association(field, &diagram)?),
+            _ => diagram
+                .associations
+                .push(association(field, edition, &diagram)?),
         }
     }
     Ok(diagram)
 }
 
-/// 0x10: only edition 1 is known.
-fn edition(field: Field) -> Result<(), Fault> {
+/// 0x10: the edition, one of the two.
+fn edition_of(field: Field) -> Result<Edition, Fault> {
     let mut content = Content::of(field);
-    content.number_in("edition", 1..=1, "write the file in edition 1")?;
-    content.end()
+    let number = content.number("edition")?;
+    let Some(edition) = Edition::of(number.value) else {
+        let what = format!(
+            "the edition is {}, but there are only edition 1 and edition 2",
+            number.value
+        );
+        return Err(content.fault(3, number.byte, what, EDITIONS));
+    };
+    content.end()?;
+    Ok(edition)
 }
 
 /// 0x20: a name and its constants.
@@ -170,13 +178,8 @@ fn attribute(field: Field, diagram: &Diagram) -> Result<Attribute, Fault> {
     let name = content.name("attribute's name")?;
     let value_type = content.number("value type's index")?;
     content.end()?;
-    try_index(&content, owner, "type", diagram.types.len())?;
-    try_index(
-        &content,
-        value_type,
-        "value type",
-        diagram.value_types.len(),
-    )?;
+    try_index(field, owner, "type", diagram.types.len())?;
+    try_index(field, value_type, "value type", diagram.value_types.len())?;
     Ok(Attribute {
         owner: owner.value,
         name: name.text,
@@ -184,70 +187,8 @@ fn attribute(field: Field, diagram: &Diagram) -> Result<Attribute, Fault> {
     })
 }
 
-/// An end whose type's index is not yet known to name anything.
-struct ReadEnd {
-    of: Number,
-    limits: Limits,
-    role: String,
-}
-
-/// 0x50: form, arrow and the two ends.
-fn association(field: Field, diagram: &Diagram) -> Result<Association, Fault> {
-    let mut content = Content::of(field);
-    let form = content.number_in("form", 0..=1, FORMS)?;
-    let arrow_byte = field.content_start() + 1;
-    let arrow = Arrow::of(content.number_in("arrow", 1..=4, ARROWS)?);
-    let left = end(&mut content, "left")?;
-    let right = end(&mut content, "right")?;
-    content.end()?;
-    try_index(&content, left.of, "type", diagram.types.len())?;
-    try_index(&content, right.of, "type", diagram.types.len())?;
-    if form == 1 && arrow == Arrow::Left {
-        let what = "a composition points from its whole, the left end, to its part";
-        let to_do = "exchange the two ends, and write arrow 1 (->)";
-        return Err(content.fault(8, arrow_byte, what, to_do));
-    }
-    let known = |end: ReadEnd| End {
-        of: end.of.value,
-        limits: end.limits,
-        role: end.role,
-    };
-    Ok(Association {
-        composition: form == 1,
-        arrow,
-        left: known(left),
-        right: known(right),
-    })
-}
-
-/// An end: type, low, up and role.
-fn end(content: &mut Content, side: &str) -> Result<ReadEnd, Fault> {
-    let of = content.number(&format!("{side} type's index"))?;
-    let low = content.number_in(
-        &format!("{side} lower limit"),
-        0..=LIMIT_MOST,
-        &format!("write 0 to {LIMIT_MOST}"),
-    )?;
-    let up = content.number(&format!("{side} upper limit"))?;
-    if up.value != NO_UPPER && !(low..=LIMIT_MOST).contains(&up.value) {
-        let what = format!(
-            "the {side} upper limit is {}, but it is 255 (none) or lies between the lower limit, {low}, and {LIMIT_MOST}",
-            up.value
-        );
-        let to_do = format!("write {low} to {LIMIT_MOST}, or 255 for no upper limit");
-        return Err(content.fault(3, up.byte, what, to_do));
-    }
-    let role = content.name(&format!("{side} role name"))?.text;
-    let up = (up.value != NO_UPPER).then_some(up.value);
-    Ok(ReadEnd {
-        of,
-        limits: Limits { low, up },
-        role,
-    })
-}
-
 /// An index names one of so many.
-fn try_index(content: &Content, index: Number, what: &str, count: usize) -> Result<(), Fault> {
+fn try_index(field: Field, index: Number, what: &str, count: usize) -> Result<(), Fault> {
     if index.value < count {
         return Ok(());
     }
@@ -262,5 +203,5 @@ fn try_index(content: &Content, index: Number, what: &str, count: usize) -> Resu
         "there is no {what} {}; the file declares {count} of them, counted from 0",
         index.value
     );
-    Err(content.fault(6, index.byte, what, to_do))
+    Err(Fault::within(&field, 6, index.byte, what, to_do))
 }

@@ -1,13 +1,13 @@
-//! A diagram as a diagram file.
+//! A diagram as a diagram file of edition 2, which has room for the limits of both.
 
 use crate::diagram::{Association, Attribute, Diagram, End, Type, ValueType};
-use crate::diagram_file::NO_UPPER;
-use crate::field_writer::{byte, field, name};
+use crate::edition::EDITION_2;
+use crate::field_writer::{byte, field, name, two_bytes};
 
 /// The diagram's file. One with more parts than a file may have is written too, and refused by every
 /// reader.
 pub fn write_diagram(diagram: &Diagram) -> Vec<u8> {
-    let mut file = field(0x10, &[1]);
+    let mut file = field(0x10, &[byte(EDITION_2.number)]);
     let parts = diagram.value_types.iter().map(value_type);
     let parts = parts
         .chain(diagram.types.iter().map(type_of))
@@ -51,26 +51,36 @@ fn association(of: &Association) -> Vec<u8> {
 
 /// An end: type, low, up and role.
 fn end(of: &End) -> Vec<u8> {
-    let up = of.limits.up.unwrap_or(NO_UPPER);
-    let numbers = [of.of, of.limits.low, up].map(byte);
-    [&numbers[..], &name(&of.role)].concat()
+    let up = of.limits.up.unwrap_or(EDITION_2.none);
+    let limits = [of.limits.low, up].map(two_bytes);
+    [&[byte(of.of)], limits.as_flattened(), &name(&of.role)].concat()
 }
 
 #[cfg(test)]
 mod tests {
     use super::*;
     use crate::diagram_file::read_diagram;
+    use crate::edition::Edition;
     use generators::diagrams::{diagram, LARGE, SMALL, TINY};
     use generators::Random;
+
+    /// What is written of a file's diagram is read as that diagram; of an edition 2 file it is the
+    /// file itself.
+    fn expect_again(file: &[u8]) {
+        let read = read_diagram(file).expect("a diagram");
+        let written = write_diagram(&read);
+        assert_eq!(read_diagram(&written), Ok(read));
+        if Edition::of_file(file) == Some(EDITION_2) {
+            assert_eq!(written, file);
+        }
+    }
 
     #[test]
     fn what_is_read_is_written_again() {
         let mut random = Random::new(1);
         for size in [TINY, SMALL, LARGE] {
             for _ in 0..50 {
-                let file = diagram(&mut random, size).file();
-                let read = read_diagram(&file).expect("a diagram");
-                assert_eq!(write_diagram(&read), file);
+                expect_again(&diagram(&mut random, size).file());
             }
         }
     }
@@ -81,9 +91,9 @@ mod tests {
             &include_bytes!("../../../examples/line_cards/old.diagram")[..],
             include_bytes!("../../../examples/card_states/new.diagram"),
             include_bytes!("../../../examples/new_families/new.diagram"),
+            include_bytes!("../../../examples/line_groups/new.diagram"),
         ] {
-            let read = read_diagram(file).expect("a diagram");
-            assert_eq!(write_diagram(&read), file);
+            expect_again(file);
         }
     }
 }

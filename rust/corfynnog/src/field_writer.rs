@@ -2,8 +2,7 @@
 
 /// A field with this content.
 pub fn field(tag: u8, content: &[u8]) -> Vec<u8> {
-    let length = u16::try_from(content.len()).unwrap_or(u16::MAX);
-    let [high, low] = length.to_be_bytes();
+    let [high, low] = two_bytes(content.len());
     [&[tag, high, low], content].concat()
 }
 
@@ -12,7 +11,12 @@ pub fn name(text: &str) -> Vec<u8> {
     [&[byte(text.len())], text.as_bytes()].concat()
 }
 
-/// A number of a content. All are below 256; a larger one is written as one that is refused.
+/// A number of one byte. All are below 256; a larger one is written as one that is refused.
 pub fn byte(number: usize) -> u8 {
     u8::try_from(number).unwrap_or(u8::MAX)
+}
+
+/// A number of two bytes, high byte first. All are below 65,536.
+pub fn two_bytes(number: usize) -> [u8; 2] {
+    u16::try_from(number).unwrap_or(u16::MAX).to_be_bytes()
 }

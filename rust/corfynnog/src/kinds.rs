@@ -1,6 +1,7 @@
 //! Which kind of file this is, told by its start.
 
 use crate::disk::Loaded;
+use crate::edition::Edition;
 use crate::fields::{FileKind, DIAGRAM, RECORD};
 use crate::proved;
 use crate::text::first_word;
@@ -32,7 +33,7 @@ impl FileIs {
     }
 
     /// The kind that a file is taken for where any kind will do.
-    fn of(file: &[u8]) -> FileIs {
+    pub fn of(file: &[u8]) -> FileIs {
         FileIs::by_start(file).unwrap_or(FileIs::DiagramText)
     }
 
@@ -43,6 +44,14 @@ impl FileIs {
             FileIs::DiagramText => "diagram text",
             FileIs::RecordFile => "record file",
             FileIs::SiteText => "site text",
+        }
+    }
+
+    /// The edition of an accepted file; diagram files alone have one.
+    pub fn edition(self, file: &[u8]) -> Option<Edition> {
+        match self {
+            FileIs::DiagramFile => Edition::of_file(file),
+            _ => None,
         }
     }
 

@@ -17,6 +17,7 @@ mod diagram_text;
 mod diagram_writer;
 mod disk;
 pub mod early_end;
+mod edition;
 mod fault;
 mod field_writer;
 mod fields;

@@ -117,6 +117,8 @@ mod tests {
             (0, Some(0), "[0]", "exactly 0"),
             (0, Some(4), "[0..4]", "at most 4"),
             (2, Some(100), "[2..100]", "2 to 100"),
+            (0, Some(256), "[0..256]", "at most 256"),
+            (4000, None, "[4000..*]", "at least 4000"),
         ];
         for (low, up, text, words) in cases {
             let limits = Limits { low, up };

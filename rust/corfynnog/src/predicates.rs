@@ -12,19 +12,19 @@ pub struct Predicate {
     pub kind: u8,
     pub association: usize,
     pub side: u8,
-    pub low: u8,
-    pub up: u8,
+    pub low: u16,
+    pub up: u16,
 }
 
 impl Predicate {
-    /// The predicate of a compiled list's five bytes.
-    pub fn of([kind, association, side, low, up]: [u8; 5]) -> Predicate {
+    /// The predicate of a compiled list's seven bytes; low and up have two each, high byte first.
+    pub fn of([kind, association, side, low @ .., up_high, up_low]: [u8; 7]) -> Predicate {
         Predicate {
             kind,
             association: usize::from(association),
             side,
-            low,
-            up,
+            low: u16::from_be_bytes(low),
+            up: u16::from_be_bytes([up_high, up_low]),
         }
     }
 
@@ -118,5 +118,23 @@ impl Predicate {
                 Json::or_null(diagram, |d| Json::Text(self.in_words(d))),
             ),
         ])
+    }
+}
+
+#[cfg(test)]
+mod tests {
+    use super::*;
+
+    #[test]
+    fn limits_have_their_high_byte_first() {
+        let predicate = Predicate::of([1, 15, 1, 1, 2, 15, 160]);
+        let expected = Predicate {
+            kind: 1,
+            association: 15,
+            side: 1,
+            low: 258,
+            up: 4000,
+        };
+        assert_eq!(predicate, expected);
     }
 }

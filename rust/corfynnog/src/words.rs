@@ -107,7 +107,7 @@ pub fn refusal_in_words(number: u8) -> RefusalWords {
             "give one digit from 0 to 8",
         ),
         23 => (
-            "a text follows the grammar, its names have at most 16 bytes, its limits are 0 to 100 with the lower one first",
+            "a text follows the grammar, its names have at most 16 bytes, its limits are 0 to 4,000 with the lower one first",
             "correct the text; 'corfynnog check --help' shows how it is written",
         ),
         24 => (

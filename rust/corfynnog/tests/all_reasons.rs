@@ -518,6 +518,10 @@ fn the_examples() {
         changes_of_example("card_states", "old.cd", "new.diagram"),
         ["enum State {spare, working, testing;} becomes enum State {spare, working, testing, blocked;}."]
     );
+    assert_eq!(
+        changes_of_example("line_groups", "old.diagram", "new.diagram"),
+        ["composition [1] Exchange (exchange) -> (groups) Group [1] becomes composition [1] Exchange (exchange) -> (groups) Group [1..3]."]
+    );
     let families = changes_of_example("new_families", "new.cd", "old.cd");
     for sentence in [
         "class ClockCard extends Card is added.",

@@ -129,7 +129,7 @@ fn check_tells_the_two_kinds_apart() {
     let folder = folder("check");
     assert_eq!(
         folder.answer(0, "check p.diagram"),
-        "Accepted: p.diagram is a diagram file with no value types, 2 types, no attributes, 1 association.\n"
+        "Accepted: p.diagram is a diagram file of edition 1 with no value types, 2 types, no attributes, 1 association.\n"
     );
     assert_eq!(
         folder.answer(0, "check shelf3.record"),

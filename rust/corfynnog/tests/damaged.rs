@@ -46,6 +46,7 @@ fn diagrams() -> Vec<Vec<u8>> {
         sites::p(),
         sites::z(),
         sites::line_and_port(3),
+        sites::wide((1, 1), (0, 256)),
         bytes(values),
     ]
 }
@@ -121,7 +122,7 @@ const ALIKE: [&str; 6] = [
     "A B C I M E F V",
     "a b v e x y z",
     "-> <- <-> --",
-    "0 1 2 4 101",
+    "0 1 2 4 256 4001",
     "extends implements",
     "composition association",
 ];

@@ -52,8 +52,9 @@ fn the_answers_of_the_examples() {
     for (example, number) in [
         ("card_states", 1),
         ("line_cards", 1),
+        ("line_groups", 2),
         ("new_families", 2),
-        ("shelf_and_card", 8),
+        ("shelf_and_card", 9),
     ] {
         let document = format!("examples/{example}/README.md");
         expect_answers(&document, &copy_of(example, &document), number);

@@ -51,7 +51,7 @@ fn types(answer: &Value) -> Vec<String> {
 #[test]
 fn the_files_are_those_that_the_program_writes() {
     let pairs = pairs::pairs();
-    assert_eq!(pairs.len(), 3);
+    assert_eq!(pairs.len(), 4);
     for (name, old, new) in pairs {
         expect_files(name, "diagram", vec![("old", old), ("new", new)]);
     }
@@ -107,7 +107,7 @@ fn shelf_text(file: &str) -> String {
 #[test]
 fn the_texts_of_shelf_and_card_are_those_of_show() {
     let folder = example(shelf_and_card::FOLDER);
-    let accepted = |name: &str| !name.ends_with("_17");
+    let accepted = |name: &str| !name.ends_with("_17") && !name.ends_with("_4001");
     for (name, _) in shelf_and_card::diagrams() {
         if accepted(name) {
             let text = shelf_text(&format!("{name}.cd"));
@@ -134,6 +134,8 @@ fn the_texts_that_are_refused_have_one_more_than_those_accepted() {
         "classdiagram associations_17",
     );
     assert_eq!(shelf_text("associations_17.cd"), named);
+    let limit = shelf_text("lines_4000.cd").replace("4000", "4001");
+    assert_eq!(shelf_text("lines_4001.cd"), limit);
 }
 
 #[test]
@@ -148,6 +150,21 @@ fn line_cards_differ_as_texts_and_as_files() {
             reason.get("places").at(0).get("text").text(),
             "Card0 has no link of role lines; allowed: 1 to 32."
         );
+    }
+}
+
+#[test]
+fn line_groups_differ_in_their_number_alone() {
+    for (old, new) in [
+        ("old.diagram", "new.diagram"),
+        ("old.cd", "new.diagram"),
+        ("old.cd", "new.cd"),
+    ] {
+        let (status, answer) = compare("line_groups", old, new, "8");
+        assert_eq!((status, answer.get("result").text()), (1, "difference"));
+        assert_eq!(types(&answer), ["Exchange", "Group", "Group"]);
+        let (status, answer) = compare("line_groups", new, old, "5");
+        assert_eq!((status, answer.get("result").text()), (0, "no difference"));
     }
 }
 

@@ -13,7 +13,7 @@ fn folder(test: &str) -> Folder {
     let folder = sites::folder(test);
     folder.put("every.diagram", &constructs::file());
     folder.put("every.cd", constructs::TEXT.as_bytes());
-    folder.put("bad.diagram", b"\x10\x00\x01\x02");
+    folder.put("bad.diagram", b"\x10\x00\x01\x03");
     folder.put("bad.cd", b"classdiagram d { class A; class A; }");
     folder.put("bad.record", b"\x60\x00\x01\x01");
     folder.put("card.od", b"objectdiagram site { Card0:Card {} }");

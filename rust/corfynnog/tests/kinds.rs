@@ -215,7 +215,7 @@ fn check_and_show_take_every_kind() {
     for (file, words, kind, form) in [
         (
             "p.diagram",
-            "diagram file with no value types, 2 types",
+            "diagram file of edition 1 with no value types, 2 types",
             "diagram",
             "file",
         ),

@@ -9,6 +9,9 @@ use generators::hex::bytes;
 /// In the tables below: a diagram file with one class, A.
 const CLASS_A: &str = "10 00 01 01 30 00 04 00 01 41 00";
 
+/// The same as a file of edition 2.
+const WIDE_CLASS: &str = "10 00 01 02 30 00 04 00 01 41 00";
+
 /// In the tables below: a record file with one object, of type A.
 const OBJECT_A: &str = "60 00 01 01 61 00 02 01 41";
 
@@ -22,11 +25,15 @@ const DIAGRAMS: &str = "\
 1 | 3 | 14 | CLASS_A 0A 0A 0A | a line end stands behind the last field (3 bytes) | LINE_END
 1 | 3 | 15 | CLASS_A 44 65 61 72 | announces 25953 bytes | correct the length of field 2, or take out what stands behind it
 2 | 2 | 4 | 10 00 01 01 10 00 01 01 | which comes once | take this field out
+2 | 2 | 4 | 10 00 01 02 10 00 01 01 | which comes once | take this field out
 2 | 3 | 11 | CLASS_A 20 00 03 01 56 00 | tags never fall | put this field in front of the first one with tag 0x30
 2 | 3 | 11 | CLASS_A 51 00 00 | no fields with tag 0x51 | correct the length of field 2, or take out what stands behind it
-3 | 1 | 3 | 10 00 01 02 | the edition is 2, but only 1 is allowed | write the file in edition 1
+3 | 1 | 3 | 10 00 01 00 | the edition is 0, but there are only edition 1 and edition 2 | EDITIONS
+3 | 1 | 3 | 10 00 01 03 | the edition is 3, but there are only edition 1 and edition 2 | EDITIONS
+3 | 1 | 3 | 10 00 02 00 02 | the edition is 0, but there are only edition 1 and edition 2 | EDITIONS
 3 | 1 | 3 | 10 00 00 | the content ends before the edition | MISSING
 3 | 1 | 4 | 10 00 02 01 01 | one byte too many | take it out, and correct the field's length
+3 | 1 | 4 | 10 00 02 02 02 | one byte too many | take it out, and correct the field's length
 3 | 1 | 4 | 10 00 03 01 01 01 | 2 bytes too many | take them out, and correct the field's length
 3 | 2 | 8 | 10 00 01 01 30 00 14 00 11 NAME_OF_17 00 | the type's name has 17 bytes | shorten the name, and correct its length and the field's
 3 | 2 | 8 | 10 00 01 01 30 00 03 00 00 00 | the type's name has 0 bytes | put in a name, and correct its length and the field's
@@ -38,13 +45,25 @@ const DIAGRAMS: &str = "\
 3 | 2 | 10 | 10 00 01 01 30 00 09 00 01 41 05 00 01 02 03 04 | the number of parents is 5 | take parents out until 4 are left, and correct their number and the field's length
 3 | 3 | 14 | CLASS_A 50 00 0C 02 01 00 00 01 01 6C 00 00 00 01 72 | the form is 2 | write 0 for an association, 1 for a composition
 3 | 3 | 15 | CLASS_A 50 00 0C 00 00 00 00 01 01 6C 00 00 00 01 72 | the arrow is 0 | write 1 for ->, 2 for <-, 3 for <->, 4 for --
-3 | 3 | 18 | CLASS_A 50 00 0C 00 01 00 02 01 01 6C 00 00 00 01 72 | the left upper limit is 1 | write 2 to 100, or 255 for no upper limit
-3 | 3 | 23 | CLASS_A 50 00 0C 00 01 00 02 02 01 6C 00 00 65 01 72 | the right upper limit is 101 | write 0 to 100, or 255 for no upper limit
-3 | 3 | 22 | CLASS_A 50 00 0C 00 01 00 00 FF 01 6C 00 65 FF 01 72 | the right lower limit is 101 | write 0 to 100
+3 | 3 | 18 | CLASS_A 50 00 0C 00 01 00 02 01 01 6C 00 00 00 01 72 | the left upper limit is 1, but in edition 1 it is 255 (none) or lies between the lower limit, 2, and 100 | write 2 to 100, or 255 for no upper limit
+3 | 3 | 23 | CLASS_A 50 00 0C 00 01 00 02 02 01 6C 00 00 65 01 72 | the right upper limit is 101, but in edition 1 it is 255 (none) | write 0 to 100, or 255 for no upper limit; a file of edition 2 has limits up to 4000
+3 | 3 | 18 | CLASS_A 50 00 0C 00 01 00 64 65 01 6C 00 00 00 01 72 | the left upper limit is 101, but in edition 1 it is 255 (none) or 100 | write 100, or 255 for no upper limit; a file of edition 2 has limits up to 4000
+3 | 3 | 22 | CLASS_A 50 00 0C 00 01 00 00 FF 01 6C 00 65 FF 01 72 | the right lower limit is 101, but only 0 to 100 are allowed in edition 1 | write 0 to 100; a file of edition 2 has limits up to 4000
+3 | 3 | 17 | CLASS_A 50 00 10 00 01 00 00 00 01 00 01 6C 00 00 00 FF FF 01 72 | the limits are written as in edition 2, in two bytes each, but the file is of edition 1 | AS_EDITION_1
+3 | 3 | 17 | WIDE_CLASS 50 00 0C 00 01 00 00 FF 01 6C 00 00 FF 01 72 | the limits are written as in edition 1, in one byte each, but the file is of edition 2 | AS_EDITION_2
+3 | 3 | 17 | WIDE_CLASS 50 00 10 00 01 00 0F A1 FF FF 01 6C 00 00 00 00 00 01 72 | the left lower limit is 4001, but only 0 to 4000 are allowed in edition 2 | write 0 to 4000
+3 | 3 | 17 | WIDE_CLASS 50 00 10 00 01 00 FF FF FF FF 01 6C 00 00 00 00 00 01 72 | the left lower limit is 65535, but only 0 to 4000 are allowed in edition 2 | write 0 to 4000
+3 | 3 | 19 | WIDE_CLASS 50 00 10 00 01 00 01 00 00 FF 01 6C 00 00 00 00 00 01 72 | the left upper limit is 255, but in edition 2 it is 65535 (none) or lies between the lower limit, 256, and 4000 | write 256 to 4000, or 65535 for no upper limit
+3 | 3 | 26 | WIDE_CLASS 50 00 10 00 01 00 00 00 00 00 01 6C 00 00 00 0F A1 01 72 | the right upper limit is 4001 | write 0 to 4000, or 65535 for no upper limit
+3 | 3 | 26 | WIDE_CLASS 50 00 10 00 01 00 00 00 00 00 01 6C 00 0F A0 FF FE 01 72 | the right upper limit is 65534, but in edition 2 it is 65535 (none) or 4000 | write 4000, or 65535 for no upper limit
+3 | 3 | 18 | WIDE_CLASS 50 00 04 00 01 00 00 | the content ends before the low byte of the left lower limit | MISSING
+3 | 3 | 29 | WIDE_CLASS 50 00 0F 00 01 00 00 00 00 00 01 6C 00 00 00 00 00 01 | the right role name announces 1 byte, but the content ends | correct the length of the name, or of the field
+3 | 3 | 30 | WIDE_CLASS 50 00 11 00 01 00 00 00 00 00 01 6C 00 00 00 00 00 01 72 00 | one byte too many | take it out, and correct the field's length
 4 | 14 | 76 | 10 00 01 01 VALUE_TYPES_13 | the 13th value type, but at most 12 are allowed | take value types out until 12 are left
 4 | 26 | 172 | 10 00 01 01 TYPES_25 | the 25th type, but at most 24 are allowed | take types out until 24 are left
 4 | 36 | 241 | 10 00 01 01 20 00 03 01 56 00 30 00 04 00 01 41 00 ATTRIBUTES_33 | the 33rd attribute, but at most 32 are allowed | take attributes out until 32 are left
 4 | 19 | 251 | CLASS_A ASSOCIATIONS_17 | the 17th association, but at most 16 are allowed | take associations out until 16 are left
+4 | 19 | 315 | WIDE_CLASS WIDE_17 | the 17th association, but at most 16 are allowed | take associations out until 16 are left
 5 | 3 | 13 | 10 00 01 01 20 00 03 01 56 00 20 00 03 01 56 00 | a second value type with the name V | rename one of the two value types
 5 | 3 | 15 | CLASS_A 30 00 04 02 01 41 00 | a second type with the name A | rename one of the two types
 5 | 2 | 12 | 10 00 01 01 20 00 07 01 56 02 01 61 01 61 | the constant a stands twice in V | rename the second one, or take it out and correct the number of constants and the field's length
@@ -57,8 +76,10 @@ const DIAGRAMS: &str = "\
 6 | 3 | 17 | CLASS_A 40 00 04 00 01 61 00 | there is no value type 0 | declare the value type in front of this field
 6 | 3 | 21 | CLASS_A 50 00 0C 01 02 00 00 00 01 6C 01 00 00 01 72 | there is no type 1 | write 0, or declare the missing type
 6 | 4 | 23 | CLASS_A 30 00 04 00 01 42 00 50 00 0C 00 01 02 00 00 01 6C 00 00 00 01 72 | there is no type 2 | write 0 to 1, or declare the missing type
+6 | 3 | 16 | WIDE_CLASS 50 00 10 00 01 07 00 00 0F A0 01 6C 00 00 00 00 00 01 72 | there is no type 7 | write 0, or declare the missing type
 7 | 3 | 18 | CLASS_A 30 00 05 02 01 49 01 00 | the parent A, which is of kind class | make A an interface, or I a class
 8 | 3 | 15 | CLASS_A 50 00 0C 01 02 00 00 00 01 6C 00 00 00 01 72 | points from its whole | exchange the two ends, and write arrow 1 (->)
+8 | 3 | 15 | WIDE_CLASS 50 00 10 01 02 00 00 00 00 00 01 6C 00 00 00 00 00 01 72 | points from its whole | exchange the two ends, and write arrow 1 (->)
 ";
 
 /// As above.
@@ -93,10 +114,22 @@ const RECORDS: &str = "\
 ";
 
 /// What to do, where many faults share it.
-const SHARED: [(&str, &str); 3] = [
+const SHARED: [(&str, &str); 6] = [
+    (
+        "AS_EDITION_1",
+        "write 2 as the edition (byte 3), if all limits of the file are written like these; or write each in one byte (0 to 100, or 255 for no upper limit), and correct the field's length",
+    ),
+    (
+        "AS_EDITION_2",
+        "write 1 as the edition (byte 3), if all limits of the file are written like these; or write each in two bytes, high byte first (0 to 4000, or 65535 for no upper limit), and correct the field's length",
+    ),
     (
         "CUT_OFF",
         "the file was probably cut off: fetch or write it again, or correct the field's length",
+    ),
+    (
+        "EDITIONS",
+        "write 1 where each limit has one byte, 2 where each has two",
     ),
     ("LINE_END", "take away the line end at the end of the file"),
     (
@@ -119,8 +152,10 @@ fn file_of(digits: &str) -> Vec<u8> {
     let values = many(257, |i| format!("62 00 09 00 04 {} 01 56 00", name_of(i)));
     let links = many(2049, |i| format!("63 00 07 00 04 {} 00", name_of(i)));
     let association = "50 00 0C 00 01 00 00 FF 01 6C 00 00 FF 01 72";
+    let wide = "50 00 10 00 01 00 00 00 FF FF 01 6C 00 00 00 FF FF 01 72";
     let digits = digits
         .replace("CLASS_A", CLASS_A)
+        .replace("WIDE_CLASS", WIDE_CLASS)
         .replace("OBJECT_A", OBJECT_A)
         .replace("NAME_OF_17", &"41".repeat(17))
         .replace("VALUE_TYPES_13", &value_types)
@@ -129,6 +164,7 @@ fn file_of(digits: &str) -> Vec<u8> {
         .replace("OBJECTS_9", &"61 00 02 01 41".repeat(9))
         .replace("VALUES_257", &values)
         .replace("LINKS_2049", &links)
+        .replace("WIDE_17", &wide.repeat(17))
         .replace("ASSOCIATIONS_17", &association.repeat(17));
     bytes(&digits)
 }
@@ -190,13 +226,18 @@ fn files_at_the_limits_are_accepted() {
     let types = many(24, |i| format!("30 00 04 00 01 {:02X} 00", 0x41 + i));
     let attributes = "40 00 04 00 01 61 0B".repeat(32);
     let associations = "50 00 0C 00 01 17 64 64 01 6C 00 64 FF 01 72".repeat(16);
+    let wide = "50 00 10 00 01 17 0F A0 0F A0 01 6C 00 0F A0 FF FF 01 72".repeat(16);
     let constants = many(8, |i| format!("01 {:02X}", 0x61 + i));
     let name_of_16 = "41".repeat(16);
     let values = "62 00 06 07 01 61 01 56 00";
     for (digits, words) in [
         (
             format!("10 00 01 01 {value_types} {types} {attributes} {associations}"),
-            "12 value types, 24 types, 32 attributes, 16 associations",
+            "of edition 1 with 12 value types, 24 types, 32 attributes, 16 associations",
+        ),
+        (
+            format!("10 00 01 02 {value_types} {types} {attributes} {wide}"),
+            "of edition 2 with 12 value types, 24 types, 32 attributes, 16 associations",
         ),
         (
             format!("10 00 01 01 20 00 13 01 56 08 {constants}"),
@@ -222,7 +263,7 @@ fn files_at_the_limits_are_accepted() {
 fn the_right_file_is_named() {
     let folder = Folder::of("refused_which");
     folder.put("good.diagram", &sites::p());
-    folder.put("bad.diagram", &bytes("10 00 01 02"));
+    folder.put("bad.diagram", &bytes("10 00 01 03"));
     folder.put("bad.record", &bytes("60 00 01 09"));
     for (line, file) in [
         ("compare bad.diagram good.diagram", "bad.diagram"),

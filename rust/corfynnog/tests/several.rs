@@ -9,7 +9,7 @@ fn folder(test: &str) -> Folder {
     let folder = sites::folder(test);
     folder.put("p.cd", b"classdiagram P {\n  class Shelf;\n}\n");
     folder.put("bad.cd", b"classdiagram d {\n  class extends A;\n}\n");
-    folder.put("bad.diagram", b"\x10\x00\x01\x02");
+    folder.put("bad.diagram", b"\x10\x00\x01\x03");
     folder.put("bad.record", b"\x60\x00\x01\x01");
     folder
 }
@@ -28,9 +28,9 @@ fn check_has_a_line_for_each_file() {
         "Accepted: card.record is a record file with 1 object, no values, no links.\n\
          Refused: bad.cd is not an acceptable diagram text (refusal 23), line 2, column 9: read \"extends\", expected a name for the class.\n\
          Unreadable: gone: no such file or directory.\n\
-         Refused: bad.diagram is not an acceptable diagram file (refusal 3), field 1, byte 3: the edition is 2, but only 1 is allowed.\n\
+         Refused: bad.diagram is not an acceptable diagram file (refusal 3), field 1, byte 3: the edition is 3, but there are only edition 1 and edition 2.\n\
          Refused: bad.record is not an acceptable record file (refusal 4), byte 4: the object count is 1, but no object follows.\n\
-         Accepted: e.diagram is a diagram file with no value types, no types, no attributes, no associations.\n"
+         Accepted: e.diagram is a diagram file of edition 1 with no value types, no types, no attributes, no associations.\n"
     );
 }
 

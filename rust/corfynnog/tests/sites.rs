@@ -90,7 +90,7 @@ fn check_tells_a_site() {
     );
     assert_eq!(
         folder.answer(0, "check shelf3.od --json"),
-        "{\"command\": \"check\", \"file\": \"shelf3.od\", \"kind\": \"record\", \"form\": \"text\", \"result\": \"accepted\"}\n"
+        "{\"command\": \"check\", \"file\": \"shelf3.od\", \"kind\": \"record\", \"form\": \"text\", \"edition\": null, \"result\": \"accepted\"}\n"
     );
 }
 

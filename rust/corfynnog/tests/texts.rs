@@ -129,7 +129,7 @@ fn a_refused_text_is_explained() {
          d.cd:3:8: read \"extends\", expected a name for the class\n\
          \x20    class extends Card;\n\
          \x20          ^\n\
-         \x20 rule:  a text follows the grammar, its names have at most 16 bytes, its limits are 0 to 100 with the lower one first\n\
+         \x20 rule:  a text follows the grammar, its names have at most 16 bytes, its limits are 0 to 4,000 with the lower one first\n\
          \x20 to do: this word belongs to the grammar and is no name; spelled otherwise (Class) it is one\n"
     );
     let object = read(&folder.line("check d.cd --json").out);
@@ -152,7 +152,10 @@ fn a_refused_text_is_explained() {
 const REFUSED: &str = "\
 23 | 2:7: the name \"A2345678901234567\" has 17 bytes | class A2345678901234567;
 23 | 2:33: the upper limit 1 is below the lower limit 2 | class A; association A -> A [2..1];
-23 | 2:30: the limit \"101\" is too large | class A; association A -> A [101];
+23 | 2:30: the limit \"4001\" is too large, at most 4000 is allowed | class A; association A -> A [4001];
+23 | 2:33: the limit \"65535\" is too large, at most 4000 is allowed | class A; association A -> A [0..65535];
+23 | 2:30: the limit \"99999999999999999999\" is too large | class A; association A -> A [99999999999999999999];
+23 | 2:35: the upper limit 255 is below the lower limit 256 | class A; association A -> A [256..255];
 23 | 2:10: read \"}\", expected a name for a constant | enum E { }
 24 | 2:35: \"Shelv\" is no class or interface of this text | class Shelf; association Shelf -> Shelv;
 24 | 2:17: \"A\" is declared only at line 3 | class B extends A;~class A;

@@ -1,5 +1,8 @@
 //! A list of calls in the coding of the exported function, and its replies taken apart.
 
+/// The bytes of an accepted reply to compile: status, number and 64 entries of seven bytes.
+const COMPILED: usize = 2 + 64 * 7;
+
 /// One call, whether or not its operands are ones that a bench accepts.
 #[derive(Clone, Debug, PartialEq, Eq)]
 pub enum CallPlan {
@@ -39,7 +42,7 @@ impl CallPlan {
             _ if !accepted => 1,
             CallPlan::Load { .. } | CallPlan::LoadText { .. } | CallPlan::Clear { .. } => 1,
             CallPlan::Judge { .. } | CallPlan::Evaluate { .. } => 2,
-            CallPlan::Compile { .. } => 2 + 64 * 5,
+            CallPlan::Compile { .. } => COMPILED,
             CallPlan::Compare { .. } => 2 + usize::from(replies[1]),
         }
     }
@@ -48,7 +51,7 @@ impl CallPlan {
     pub fn longest_reply(&self) -> usize {
         match self {
             CallPlan::HandOut { room } => 5 + *room as usize,
-            CallPlan::Compile { .. } => 2 + 64 * 5,
+            CallPlan::Compile { .. } => COMPILED,
             _ => 3,
         }
     }

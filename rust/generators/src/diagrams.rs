@@ -1,5 +1,6 @@
 //! Diagrams that a reader accepts, small and of every kind.
 
+use crate::editions::{largest, NO_UPPER_LIMIT};
 use crate::names::{fresh, one_of, ATTRIBUTES, CONSTANTS, ROLES, TYPES, VALUE_TYPES};
 use crate::plan::{Association, Attribute, DiagramPlan, End, Type, ValueType};
 use crate::random::Random;
@@ -53,9 +54,12 @@ pub const WIDE: Size = Size {
     associations: 4,
 };
 
-/// A diagram of at most this size that keeps every demand of the file format.
+/// A diagram of either edition and of at most this size that keeps every demand of the file format.
 pub fn diagram(random: &mut Random, size: Size) -> DiagramPlan {
-    let mut plan = DiagramPlan::default();
+    let mut plan = DiagramPlan {
+        edition: *random.pick(&[1, 2]),
+        ..DiagramPlan::default()
+    };
     for _ in 0..random.between(0, size.value_types) {
         add_value_type(random, &mut plan);
     }
@@ -80,7 +84,7 @@ pub fn loosened(random: &mut Random, plan: &DiagramPlan) -> DiagramPlan {
     }
     for a in &mut result.associations {
         for end in [&mut a.left, &mut a.right] {
-            end.low = u8::from(end.up > 0 && random.chance(1, 6));
+            end.low = u16::from(end.up > 0 && random.chance(1, 6));
         }
     }
     result
@@ -136,8 +140,8 @@ pub fn add_association(random: &mut Random, plan: &mut DiagramPlan) {
     }
     let form = u8::from(random.chance(1, 3));
     let arrow = *random.pick(if form == 1 { &[1, 3, 4] } else { &[1, 2, 3, 4] });
-    let left = end(random, plan.types.len());
-    let right = end(random, plan.types.len());
+    let left = end(random, plan);
+    let right = end(random, plan);
     plan.associations.push(Association {
         form,
         arrow,
@@ -147,27 +151,36 @@ pub fn add_association(random: &mut Random, plan: &mut DiagramPlan) {
 }
 
 /// An end at any type, with limits that are mostly small.
-pub fn end(random: &mut Random, types: usize) -> End {
-    let (low, up) = limits(random);
+fn end(random: &mut Random, plan: &DiagramPlan) -> End {
+    let (low, up) = limits(random, plan.edition);
     End {
-        of: random.below(types) as u8,
+        of: random.below(plan.types.len()) as u8,
         low,
         up,
         role: one_of(random, &ROLES),
     }
 }
 
-/// Limits that a file may hold, mostly ones that few objects can meet.
-pub fn limits(random: &mut Random) -> (u8, u8) {
+/// Limits that a file of this edition may hold, mostly ones that few objects can meet.
+pub fn limits(random: &mut Random, edition: u8) -> (u16, u16) {
     let low = *random.pick(&[0, 0, 0, 0, 1, 1, 2, 3]);
     let up = match random.below(8) {
-        0 | 1 => 255,
+        0 | 1 => NO_UPPER_LIMIT,
         2 => low,
-        3 => 100,
-        _ => low + random.below(3) as u8,
+        3 => large_limit(random, edition),
+        _ => low + random.below(3) as u16,
     };
     if random.chance(1, 60) {
-        return (100, *random.pick(&[100, 255]));
+        let low = large_limit(random, edition);
+        return (low, *random.pick(&[low, largest(edition), NO_UPPER_LIMIT]));
     }
     (low, up)
+}
+
+/// A large limit of this edition; some of edition 2 would be small if they were cut to a byte.
+fn large_limit(random: &mut Random, edition: u8) -> u16 {
+    *random.pick(match edition {
+        1 => &[100],
+        _ => &[100, 101, 255, 256, 257, 258, 4_000],
+    })
 }

@@ -1,6 +1,7 @@
 //! Small edits of a diagram: what may change from one release to the next.
 
 use crate::diagrams::{add_association, add_attribute, add_type, add_value_type, limits};
+use crate::editions::{in_any_edition, largest, NO_UPPER_LIMIT};
 use crate::names::{fresh, one_of, ATTRIBUTES, CONSTANTS, ROLES, TYPES, VALUE_TYPES};
 use crate::plan::{Association, DiagramPlan, End};
 use crate::random::Random;
@@ -36,7 +37,8 @@ const EDITS: [Edit; 24] = [
 
 const LINK_EDITS: [Edit; 4] = [change_arrow, change_form, share_role, disagree_on_role];
 
-/// A diagram that differs from this one by one or a few edits and is accepted too.
+/// A diagram that differs from this one by one or a few edits and is accepted too, now and then in
+/// the other edition.
 pub fn edited(random: &mut Random, plan: &DiagramPlan) -> DiagramPlan {
     edited_by(random, plan, &EDITS)
 }
@@ -49,7 +51,7 @@ pub fn redrawn(random: &mut Random, plan: &DiagramPlan) -> DiagramPlan {
 /// Tries edits of the list until one or a few changed something and kept the format.
 fn edited_by(random: &mut Random, plan: &DiagramPlan, list: &[Edit]) -> DiagramPlan {
     let edits = *random.pick(&[1, 1, 1, 2, 3]);
-    let mut result = plan.clone();
+    let mut result = in_any_edition(random, plan);
     let mut done = 0;
     for _ in 0..40 {
         let mut next = result.clone();
@@ -96,7 +98,7 @@ fn some_end<'a>(random: &mut Random, plan: &'a mut DiagramPlan) -> Option<&'a mu
 
 /// Gives one end other limits.
 fn change_limits(random: &mut Random, plan: &mut DiagramPlan) {
-    let (low, up) = limits(random);
+    let (low, up) = limits(random, plan.edition);
     if let Some(end) = some_end(random, plan) {
         (end.low, end.up) = (low, up);
     }
@@ -105,11 +107,12 @@ fn change_limits(random: &mut Random, plan: &mut DiagramPlan) {
 /// Moves one limit by one, the smallest change there is.
 fn nudge_limit(random: &mut Random, plan: &mut DiagramPlan) {
     let (upper, raise) = (random.chance(1, 2), random.chance(1, 2));
+    let largest = largest(plan.edition);
     if let Some(end) = some_end(random, plan) {
         match (upper, raise) {
-            (true, true) if end.up < 100 => end.up += 1,
-            (true, false) if end.up > end.low && end.up <= 100 => end.up -= 1,
-            (false, true) if end.low < end.up && end.low < 100 => end.low += 1,
+            (true, true) if end.up < largest => end.up += 1,
+            (true, false) if end.up > end.low && end.up != NO_UPPER_LIMIT => end.up -= 1,
+            (false, true) if end.low < end.up && end.low < largest => end.low += 1,
             (false, false) if end.low > 0 => end.low -= 1,
             _ => {}
         }
@@ -262,7 +265,7 @@ fn disagree_on_role(random: &mut Random, plan: &mut DiagramPlan) {
     let Some(mut again) = association(random, plan).map(|a| a.clone()) else {
         return;
     };
-    let right = random.chance(1, 2);
+    let (right, edition) = (random.chance(1, 2), plan.edition);
     let end = if right {
         &mut again.right
     } else {
@@ -271,7 +274,7 @@ fn disagree_on_role(random: &mut Random, plan: &mut DiagramPlan) {
     if random.chance(1, 2) {
         end.of = random.below(plan.types.len()) as u8;
     } else {
-        (end.low, end.up) = limits(random);
+        (end.low, end.up) = limits(random, edition);
     }
     plan.associations.push(again);
 }

@@ -1,6 +1,7 @@
 //! Diagrams that break one of the format's demands, or several at once.
 
 use crate::diagrams::{add_association, add_attribute, add_type, add_value_type};
+use crate::editions::NO_UPPER_LIMIT;
 use crate::plan::{Association, DiagramPlan, End};
 use crate::random::Random;
 
@@ -121,9 +122,37 @@ fn composition_with_arrow_2(random: &mut Random, plan: &mut DiagramPlan) {
     }
 }
 
-/// Gives an end limits that are out of range or in the wrong order.
+/// Limits of edition 1 that are out of range or in the wrong order.
+const BAD_LIMITS_1: [(u16, u16); 7] = [
+    (101, NO_UPPER_LIMIT),
+    (255, NO_UPPER_LIMIT),
+    (0, 101),
+    (0, 254),
+    (2, 1),
+    (1, 0),
+    (100, 99),
+];
+
+/// The same of edition 2; some would be in range or in order with their bytes exchanged.
+const BAD_LIMITS_2: [(u16, u16); 10] = [
+    (4_001, NO_UPPER_LIMIT),
+    (65_535, NO_UPPER_LIMIT),
+    (0, 4_001),
+    (0, 65_534),
+    (4_001, 4_001),
+    (2, 1),
+    (255, 254),
+    (256, 1),
+    (256, 255),
+    (4_000, 3_999),
+];
+
+/// Gives an end limits that its edition does not have.
 fn bad_limits(random: &mut Random, plan: &mut DiagramPlan) {
-    let (low, up) = *random.pick(&[(101, 255), (0, 101), (0, 254), (2, 1), (1, 0), (100, 99)]);
+    let (low, up) = match plan.edition {
+        1 => *random.pick(&BAD_LIMITS_1),
+        _ => *random.pick(&BAD_LIMITS_2),
+    };
     if let Some(end) = some_end(random, plan) {
         (end.low, end.up) = (low, up);
     }

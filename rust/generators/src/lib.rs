@@ -10,6 +10,8 @@ pub mod arrangement;
 pub mod calls;
 pub mod damage;
 pub mod diagrams;
+pub mod edition_faults;
+pub mod editions;
 pub mod edits;
 pub mod faults;
 pub mod fields;

@@ -10,14 +10,18 @@
 //!
 //! A text that is not written like this ends in a panic: it stands in the program's own code.
 
+use crate::editions::{in_edition, NO_UPPER_LIMIT};
 use crate::plan::{Association, Attribute, DiagramPlan, End, Type, ValueType};
 
-/// The diagram of a text.
+/// The diagram of a text, in edition 1 if that has its limits, else in edition 2.
 pub fn diagram(text: &str) -> DiagramPlan {
     let words = words(text);
     let mut reader = Reader {
         words: words.iter(),
-        plan: DiagramPlan::default(),
+        plan: DiagramPlan {
+            edition: 2,
+            ..DiagramPlan::default()
+        },
     };
     while let Some(word) = reader.words.next() {
         match word.as_str() {
@@ -31,7 +35,7 @@ pub fn diagram(text: &str) -> DiagramPlan {
             other => panic!("'{other}' starts no part of a diagram"),
         }
     }
-    reader.plan
+    in_edition(1, &reader.plan).unwrap_or(reader.plan)
 }
 
 /// The words of a text; brackets, commas and semicolons are words of their own.
@@ -161,15 +165,15 @@ impl<'t> Reader<'t> {
     }
 
     /// `[2]`, `[0..4]`, `[1..*]` or `[*]`
-    fn limits(&mut self) -> (u8, u8) {
+    fn limits(&mut self) -> (u16, u16) {
         self.pass("[");
         let word = self.word();
         self.pass("]");
         let number = |text: &str| text.parse().expect("a limit is a number");
         match word.split_once("..") {
-            None if word == "*" => (0, 255),
+            None if word == "*" => (0, NO_UPPER_LIMIT),
             None => (number(word), number(word)),
-            Some((low, "*")) => (number(low), 255),
+            Some((low, "*")) => (number(low), NO_UPPER_LIMIT),
             Some((low, up)) => (number(low), number(up)),
         }
     }

@@ -1,5 +1,6 @@
 //! What a diagram file or a record file is to say.
 
+use crate::editions::put_limit;
 use crate::fields::{file, put_name, Field};
 
 #[derive(Clone, Debug, PartialEq, Eq)]
@@ -22,12 +23,12 @@ pub struct Attribute {
     pub value_type: u8,
 }
 
-/// One end of an association: its type, its limits and its role.
+/// One end of an association: its type, its limits and its role. `NO_UPPER_LIMIT` stands for none.
 #[derive(Clone, Debug, PartialEq, Eq)]
 pub struct End {
     pub of: u8,
-    pub low: u8,
-    pub up: u8,
+    pub low: u16,
+    pub up: u16,
     pub role: Vec<u8>,
 }
 
@@ -39,8 +40,9 @@ pub struct Association {
     pub right: End,
 }
 
-#[derive(Clone, Debug, Default, PartialEq, Eq)]
+#[derive(Clone, Debug, PartialEq, Eq)]
 pub struct DiagramPlan {
+    pub edition: u8,
     pub value_types: Vec<ValueType>,
     pub types: Vec<Type>,
     pub attributes: Vec<Attribute>,
@@ -105,8 +107,10 @@ impl Attribute {
 
 impl End {
     /// Adds the end to its association's content.
-    fn put(&self, content: &mut Vec<u8>) {
-        content.extend_from_slice(&[self.of, self.low, self.up]);
+    fn put(&self, content: &mut Vec<u8>, edition: u8) {
+        content.push(self.of);
+        put_limit(content, edition, self.low);
+        put_limit(content, edition, self.up);
         put_name(content, &self.role);
     }
 }
@@ -117,23 +121,36 @@ impl Association {
         matches!(self.arrow, 3 | 4)
     }
 
-    /// The part's field.
-    fn field(&self) -> Field {
+    /// The part's field in a file of an edition.
+    fn field(&self, edition: u8) -> Field {
         let mut content = vec![self.form, self.arrow];
-        self.left.put(&mut content);
-        self.right.put(&mut content);
+        self.left.put(&mut content, edition);
+        self.right.put(&mut content, edition);
         Field::new(0x50, &content)
+    }
+}
+
+impl Default for DiagramPlan {
+    /// The empty diagram, in edition 1.
+    fn default() -> Self {
+        DiagramPlan {
+            edition: 1,
+            value_types: Vec::new(),
+            types: Vec::new(),
+            attributes: Vec::new(),
+            associations: Vec::new(),
+        }
     }
 }
 
 impl DiagramPlan {
     /// The fields of the diagram file.
     pub fn fields(&self) -> Vec<Field> {
-        let mut fields = vec![Field::new(0x10, &[1])];
+        let mut fields = vec![Field::new(0x10, &[self.edition])];
         fields.extend(self.value_types.iter().map(ValueType::field));
         fields.extend(self.types.iter().map(Type::field));
         fields.extend(self.attributes.iter().map(Attribute::field));
-        fields.extend(self.associations.iter().map(Association::field));
+        fields.extend(self.associations.iter().map(|a| a.field(self.edition)));
         fields
     }
 

@@ -3,6 +3,7 @@
 use crate::calls::{coded, CallPlan};
 use crate::damage::damaged;
 use crate::diagrams::{diagram, Size};
+use crate::edition_faults::with_edition_fault;
 use crate::edits::edited;
 use crate::plan::DiagramPlan;
 use crate::random::Random;
@@ -134,9 +135,12 @@ impl Row<'_> {
 
     /// Loads a file that may be refused or may be another diagram.
     fn load_damaged(&mut self, random: &mut Random) {
-        let fields = random.pick(&self.diagrams).fields();
+        let plan = random.pick(&self.diagrams);
         let place = any_place(random);
-        let file = damaged(random, &fields);
+        let file = match random.chance(1, 6) {
+            true => with_edition_fault(random, plan),
+            false => damaged(random, &plan.fields()),
+        };
         self.calls.push(CallPlan::Load { place, file });
         self.holds(place, Held::Unknown);
     }

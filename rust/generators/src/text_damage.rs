@@ -25,7 +25,7 @@ pub const MARKS: [&str; 16] = [
 ];
 
 /// Words and marks beside those of the grammar, and numbers around the limits.
-const OTHERS: [&str; 20] = [
+const OTHERS: [&str; 23] = [
     "singleton",
     "Class",
     "ENUM",
@@ -36,6 +36,9 @@ const OTHERS: [&str; 20] = [
     "101",
     "255",
     "256",
+    "4000",
+    "4001",
+    "0004000",
     "65535",
     "1a",
     "A",

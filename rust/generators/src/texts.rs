@@ -2,6 +2,7 @@
 //! declarations in any order.
 
 use crate::arrangement::arranged;
+use crate::editions::NO_UPPER_LIMIT;
 use crate::names::{one_of, FOREIGN, TYPES};
 use crate::plan::{Association, DiagramPlan, End, Type, ValueType};
 use crate::random::Random;
@@ -216,7 +217,7 @@ fn push_role(random: &mut Random, tokens: &mut Vec<Token>, plan: &DiagramPlan, e
 
 /// Adds the limits in any of their forms.
 fn push_limits(random: &mut Random, tokens: &mut Vec<Token>, end: &End) {
-    let any = (end.low, end.up) == (0, 255);
+    let any = (end.low, end.up) == (0, NO_UPPER_LIMIT);
     if any && random.chance(1, 2) {
         return;
     }
@@ -228,7 +229,7 @@ fn push_limits(random: &mut Random, tokens: &mut Vec<Token>, end: &End) {
         if end.up != end.low || random.chance(1, 2) {
             push(tokens, "..");
             tokens.push(match end.up {
-                255 => b"*".to_vec(),
+                NO_UPPER_LIMIT => b"*".to_vec(),
                 up => integer(random, up),
             });
         }
@@ -237,7 +238,7 @@ fn push_limits(random: &mut Random, tokens: &mut Vec<Token>, end: &End) {
 }
 
 /// A number, now and then with zeros in front.
-fn integer(random: &mut Random, number: u8) -> Token {
+fn integer(random: &mut Random, number: u16) -> Token {
     let zeros = match random.below(8) {
         0 => random.between(1, 3),
         1 => random.between(0, 40),

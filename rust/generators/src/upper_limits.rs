@@ -8,7 +8,7 @@ pub fn widened(random: &mut Random, plan: &DiagramPlan) -> DiagramPlan {
     let mut result = plan.clone();
     for end in ends(&mut result) {
         if random.chance(1, 2) {
-            end.up = end.low.max(random.between(3, 8) as u8);
+            end.up = end.low.max(random.between(3, 8) as u16);
         }
     }
     result

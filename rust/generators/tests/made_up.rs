@@ -2,6 +2,8 @@
 
 use generators::damage::{cuts, damaged};
 use generators::diagrams::{diagram, SMALL};
+use generators::edition_faults::with_edition_fault;
+use generators::editions::{in_edition, NO_UPPER_LIMIT};
 use generators::edits::{edited, redrawn};
 use generators::fillings::fillings;
 use generators::heads::headed_pair;
@@ -20,7 +22,7 @@ fn class(name: &str) -> Type {
 }
 
 /// An end with its limits.
-fn end(of: u8, low: u8, up: u8, role: &str) -> End {
+fn end(of: u8, low: u16, up: u16, role: &str) -> End {
     let role = role.as_bytes().to_vec();
     End { of, low, up, role }
 }
@@ -47,18 +49,20 @@ fn a_seed_gives_the_same_input_again() {
             let plan = diagram(&mut random, SMALL);
             let other = edited(&mut random, &plan);
             let file = damaged(&mut random, &other.fields());
-            (plan, other, file)
+            let faulty = with_edition_fault(&mut random, &plan);
+            (plan, other, file, faulty)
         };
         assert_eq!(make(), make());
     }
 }
 
 #[test]
-fn most_edits_change_the_file() {
+fn most_edits_change_more_than_the_edition() {
     let changed = (0..200).filter(|seed| {
         let mut random = Random::new(*seed);
         let plan = diagram(&mut random, SMALL);
-        edited(&mut random, &plan).file() != plan.file()
+        let other = edited(&mut random, &plan);
+        in_edition(other.edition, &plan) != Some(other)
     });
     assert!(changed.count() >= 190);
 }
@@ -81,7 +85,8 @@ fn edits_change_every_arrow_to_every_other() {
             let plan = diagram(&mut random, SMALL);
             let mut other = edit(&mut random, &plan);
             let changed = changed_arrows(&plan, &other);
-            // Nothing but arrows differs.
+            // Nothing but arrows and editions differs.
+            other.edition = plan.edition;
             for (a, b) in other.associations.iter_mut().zip(&plan.associations) {
                 a.arrow = b.arrow;
             }
@@ -129,6 +134,45 @@ fn a_file_has_the_bytes_of_the_worked_example() {
     );
     assert_eq!(shelf_and_card().file(), bytes);
     assert_eq!(cuts(&bytes).len(), 48);
+}
+
+#[test]
+fn a_file_of_edition_2_has_two_bytes_for_each_limit() {
+    let mut plan = shelf_and_card();
+    plan.associations[0].right.up = 256;
+    assert_eq!(in_edition(1, &plan), None);
+    plan.associations[0].left.up = NO_UPPER_LIMIT;
+    let file = in_edition(2, &plan).map(|plan| plan.file());
+    let bytes = generators::hex::bytes(
+        "10 00 01 02 30 00 08 00 05 53 68 65 6C 66 00 30 00 07 00 04 43 61 72 64 00
+         50 00 18 01 01 00 00 01 FF FF 05 73 68 65 6C 66 01 00 00 01 00 05 63 61 72 64 73",
+    );
+    assert_eq!(file, Some(bytes));
+}
+
+#[test]
+fn pairs_mix_the_editions() {
+    let mut pairs = [[0; 2]; 2];
+    let mut wide = 0;
+    for seed in 0..1000 {
+        let mut random = Random::new(seed);
+        let plan = diagram(&mut random, SMALL);
+        let other = edited(&mut random, &plan);
+        pairs[usize::from(plan.edition) - 1][usize::from(other.edition) - 1] += 1;
+        wide += usize::from(in_edition(1, &plan).is_none());
+    }
+    let often = pairs.iter().flatten().all(|times| *times >= 100);
+    assert!(often && wide >= 50, "{pairs:?}, {wide}");
+}
+
+#[test]
+fn edition_faults_change_most_files() {
+    let changed = (0..200).filter(|seed| {
+        let mut random = Random::new(*seed);
+        let plan = diagram(&mut random, SMALL);
+        with_edition_fault(&mut random, &plan) != plan.file()
+    });
+    assert!(changed.count() >= 160);
 }
 
 #[test]

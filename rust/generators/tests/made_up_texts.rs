@@ -75,6 +75,8 @@ fn every_form_comes() {
         "extends B , A",
         "implements",
         " 00",
+        "[ 256",
+        ".. 4000 ]",
     ];
     for form in forms {
         assert!(all.contains(form), "'{form}' never comes");
@@ -84,7 +86,7 @@ fn every_form_comes() {
 #[test]
 fn every_layout_comes() {
     let mut random = Random::new(2);
-    let tokens = text(&mut random, &full()).tokens;
+    let tokens = text(&mut random, &full(2)).tokens;
     let texts: Vec<Vec<u8>> = (0..20).map(|_| laid_out(&mut random, &tokens)).collect();
     let together = tokens.concat();
     let blanks = |text: &[u8]| text.iter().filter(|byte| b" \t\r\n".contains(byte)).count();
@@ -141,7 +143,7 @@ fn a_text_keeps_all_but_the_attributes_of_interfaces() {
 #[test]
 fn damage_changes_most_texts() {
     let mut random = Random::new(3);
-    let tokens = text(&mut random, &full()).tokens;
+    let tokens = text(&mut random, &full(2)).tokens;
     let whole = laid_out(&mut random, &tokens);
     let by_token = (0..100).filter(|_| damaged_tokens(&mut random, &tokens) != tokens);
     assert!(by_token.count() >= 80);

@@ -1,5 +1,4 @@
 use lib.ListN.{length-set}
-use Prim.Native.Nat.{◌-◌}
 use borrow.Author.Rules.{rules}
 use Rattle.cases.proofs.decode.Goals as goal
 

@@ -1,11 +1,7 @@
 use mathlib.Core.Path.{◌∙◌}
 use Rattle.compiling.proofs.ByteLaws.{compiled-bytes}
-use Rattle.compiling.proofs.SmallLaws.{compiled-small}
 use Rattle.compiling.proofs.GatherLaws.{compiled-number}
 use Rattle.compiling.proofs.compile.Goals as goal
-
-pub list_bytes-list-requires : goal.list_bytes-list-requires
-list_bytes-list-requires c = compiled-small c.args.d.stored c.compile_entries-e.result c.args.d.held c.compile_entries-e.ensures
 
 pub returns : goal.returns
 returns c = let d = c.args.d.stored in

@@ -1,8 +1,5 @@
-use Rattle.files.specs.DiagramLayout.{end_laid}
-use Rattle.files.specs.Content.{at_end}
-use Rattle.laws.specs.Connective.{both, either}
+use Rattle.layouts.proofs.LimitLaws.{end_is}
 use Rattle.layouts.proofs.end_laid.Goals as goal
 
 pub returns : goal.returns
-unfolding end_laid both either at_end
-returns c = cc
+returns c = end_is c.args.edition c.args.c.now c.low_of.ensures c.up_of.ensures c.limits_laid.ensures c.role_of.ensures c.starts_name.ensures

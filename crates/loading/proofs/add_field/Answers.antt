@@ -24,8 +24,8 @@ pub returns-in-64 : goal.returns-in-64
 returns-in-64 c = search grown-attribute
 
 pub add_association-requires : goal.add_association-requires
-add_association-requires c = allowed-association c.args.d.now c.args.tag c.args.c.now c.requires (λ h. omega arith) (λ h. omega arith) (λ h. omega arith) (λ h. omega arith)
+add_association-requires c = allowed-association c.args.edition c.args.d.now c.args.tag c.args.c.now c.requires (λ h. omega arith) (λ h. omega arith) (λ h. omega arith) (λ h. omega arith)
 
 pub returns-in_default : goal.returns-in_default
 returns-in_default c =
-    grown-association c.args.d.now c.args.tag c.args.c.now c.requires _ (λ h. omega arith) (λ h. omega arith) (λ h. omega arith) (λ h. omega arith) c.add_association.ensures
+    grown-association c.args.edition c.args.d.now c.args.tag c.args.c.now c.requires _ (λ h. omega arith) (λ h. omega arith) (λ h. omega arith) (λ h. omega arith) c.add_association.ensures

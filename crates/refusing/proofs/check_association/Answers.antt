@@ -1,4 +1,5 @@
-use Rattle.refusing.specs.Numbers.{association_no}
+use mathlib.Core.Path.{◌≡◌}
+use Rattle.refusing.specs.Numbers.{association_no, whole_right}
 use Rattle.refusing.proofs.NumberLaws.{numbers}
 use Rattle.refusing.proofs.check_association.Goals as goal
 
@@ -16,8 +17,12 @@ returns-then-not-ends_known c = search numbers depth 14 fits 20000
 
 pub returns-then-whole_right : goal.returns-then-whole_right
 unfolding association_no
-returns-then-whole_right c = search numbers depth 14 fits 20000
+returns-then-whole_right c =
+    let w : c.whole_right.result ≡ whole_right c.args.edition c.args.c.now = c.whole_right.ensures c.args.edition in
+    search numbers depth 14 fits 20000
 
 pub returns : goal.returns
 unfolding association_no
-returns c = search numbers depth 14 fits 20000
+returns c =
+    let w : c.whole_right.result ≡ whole_right c.args.edition c.args.c.now = c.whole_right.ensures c.args.edition in
+    search numbers depth 14 fits 20000

@@ -5,5 +5,5 @@ use Rattle.laws.specs.Connective.{both}
 use Rattle.refusing.proofs.whole_right.Goals as goal
 
 pub returns : goal.returns
-unfolding whole_right association_of is_composition both
-returns c = cc
+unfolding whole_right is_composition association_of both
+returns c e = cc

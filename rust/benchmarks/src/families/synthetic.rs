@@ -3,6 +3,7 @@
 
 use super::pair;
 use crate::inputs::Pair;
+use generators::editions::NO_UPPER_LIMIT;
 use generators::edits::edited;
 use generators::names::numbered;
 use generators::upper_limits::tightened;
@@ -12,17 +13,17 @@ use generators::{Association, DiagramPlan, End, Random, Type};
 const TYPES: [usize; 5] = [5, 10, 15, 20, 24];
 
 /// Limits of an end: few that demand something, so that there are legal sites.
-const LIMITS: [(u8, u8); 10] = [
+const LIMITS: [(u16, u16); 10] = [
     (0, 1),
     (0, 1),
     (0, 2),
     (0, 3),
     (0, 4),
-    (0, 255),
-    (0, 255),
+    (0, NO_UPPER_LIMIT),
+    (0, NO_UPPER_LIMIT),
     (1, 1),
     (1, 2),
-    (1, 255),
+    (1, NO_UPPER_LIMIT),
 ];
 
 /// All sizes.

@@ -266,7 +266,7 @@ impl<'t> Parser<'_, 't> {
     }
 
     /// An integer that may be a limit.
-    fn limit(&mut self) -> Option<u8> {
+    fn limit(&mut self) -> Option<u16> {
         match self.next()? {
             Token::Word(word) if is_integer(word) => limit(word),
             _ => None,

@@ -1,6 +1,8 @@
 //! Files and coded calls that several tests use.
 #![allow(dead_code)]
 
+use brute::Edition;
+
 pub const EMPTY_DIAGRAM: &[u8] = b"\x10\x00\x01\x01";
 pub const MAIN_DIAGRAM: &[u8] = b"\x10\x00\x01\x01\x30\x00\x07\x03\x04Main\x00";
 pub const EMPTY_RECORD: &[u8] = b"\x60\x00\x01\x00";
@@ -24,6 +26,11 @@ pub fn four_cards() -> Vec<u8> {
     shelf_diagram(1, 4)
 }
 
+/// P in edition 2.
+pub const FOUR_CARDS_2: &[u8] =
+    b"\x10\x00\x01\x02\x30\x00\x08\x00\x05Shelf\x00\x30\x00\x07\x00\x04Card\x00\
+      \x50\x00\x18\x01\x01\x00\x00\x01\x00\x01\x05shelf\x01\x00\x00\x00\x04\x05cards";
+
 /// Q of the worked cases.
 pub fn two_cards() -> Vec<u8> {
     shelf_diagram(1, 2)
@@ -45,6 +52,11 @@ pub fn three_cards_record() -> Vec<u8> {
         file.push(card);
     }
     file
+}
+
+/// The edition of a diagram file that is accepted.
+pub fn edition_of(file: &[u8]) -> Edition {
+    Edition::of_byte(file[3]).expect("an accepted file has an edition")
 }
 
 fn with_file(code: u8, place: u8, file: &[u8]) -> Vec<u8> {

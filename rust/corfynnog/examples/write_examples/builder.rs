@@ -1,8 +1,8 @@
 //! Diagram files from names. The files are as good as the calls: nothing is checked here.
 
 /// A diagram file that grows field by field.
-#[derive(Default)]
 pub struct DiagramFile {
+    edition: u8,
     value_types: Vec<&'static str>,
     types: Vec<&'static str>,
     bytes: Vec<u8>,
@@ -19,18 +19,26 @@ pub const RIGHT: u8 = 1;
 pub const BOTH: u8 = 3;
 pub const NO_ARROWHEAD: u8 = 4;
 
-/// The limit byte for "no upper limit".
-pub const MANY: u8 = 255;
+/// No upper limit.
+pub const MANY: u16 = 65_535;
 
 /// An association's end: type, low, up, role.
-pub type End = (&'static str, u8, u8, &'static str);
+pub type End = (&'static str, u16, u16, &'static str);
 
 impl DiagramFile {
-    /// The edition alone.
+    /// The edition alone, edition 1.
     pub fn new() -> DiagramFile {
-        let mut file = DiagramFile::default();
-        file.field(0x10, vec![1]);
-        file
+        DiagramFile::of_edition(1)
+    }
+
+    /// The edition alone.
+    pub fn of_edition(edition: u8) -> DiagramFile {
+        DiagramFile {
+            edition,
+            value_types: Vec::new(),
+            types: Vec::new(),
+            bytes: field(0x10, &[edition]),
+        }
     }
 
     /// An enumeration, or a plain type where there are no constants.
@@ -82,11 +90,21 @@ impl DiagramFile {
     fn link_field(mut self, form: u8, left: End, arrow: u8, right: End) -> DiagramFile {
         let mut content = vec![form, arrow];
         for (of, low, up, role) in [left, right] {
-            content.extend([index(&self.types, of), low, up]);
+            content.push(index(&self.types, of));
+            content.extend([low, up].map(|limit| self.limit(limit)).concat());
             content.extend(coded(role));
         }
         self.field(0x50, content);
         self
+    }
+
+    /// A limit as the edition has it.
+    fn limit(&self, limit: u16) -> Vec<u8> {
+        match (self.edition, limit) {
+            (1, MANY) => vec![255],
+            (1, _) => vec![u8::try_from(limit).expect("a limit of one byte")],
+            _ => limit.to_be_bytes().to_vec(),
+        }
     }
 
     /// Appends a field.

@@ -11,11 +11,16 @@ pub fn pairs() -> Vec<Pair> {
         ("line_cards", line_cards(0), line_cards(1)),
         ("card_states", card_states(true), card_states(false)),
         ("new_families", few_families(), new_families()),
+        (
+            "line_groups",
+            line_groups(1, 3, 100),
+            line_groups(2, 1, 256),
+        ),
     ]
 }
 
 /// An exchange of 4 cards with 32 lines each; a card has at least so many lines.
-fn line_cards(least: u8) -> Vec<u8> {
+fn line_cards(least: u16) -> Vec<u8> {
     DiagramFile::new()
         .of_kind(SINGLETON, "Exchange", &[])
         .of_kind(CLASS, "Shelf", &[])
@@ -121,5 +126,16 @@ fn new_families() -> Vec<u8> {
         .parts(("Shelf", "shelf"), ("Card", 0, 8, "cards"))
         .parts(("LineCard", "lineCard"), ("Line", 0, MANY, "lines"))
         .parts(("TrunkCard", "trunkCard"), ("Trunk", 0, MANY, "trunks"))
+        .bytes()
+}
+
+/// An exchange with one to so many groups of up to so many lines, as a file of that edition.
+fn line_groups(edition: u8, groups: u16, lines: u16) -> Vec<u8> {
+    DiagramFile::of_edition(edition)
+        .of_kind(SINGLETON, "Exchange", &[])
+        .of_kind(CLASS, "Group", &[])
+        .of_kind(CLASS, "Line", &[])
+        .parts(("Exchange", "exchange"), ("Group", 1, groups, "groups"))
+        .parts(("Group", "group"), ("Line", 0, lines, "lines"))
         .bytes()
 }

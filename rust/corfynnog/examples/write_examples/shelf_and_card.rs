@@ -1,5 +1,5 @@
 //! The diagrams and records of the folder `shelf_and_card`: those of document 01's section "Shelf and
-//! card", and a line and a port with an arrow one way.
+//! card", a line and a port with an arrow one way, and files of edition 2.
 
 use super::builder::{DiagramFile, BOTH, CLASS, MANY, NO_ARROWHEAD, RIGHT, SINGLETON};
 use super::record_builder::RecordFile;
@@ -10,12 +10,13 @@ pub const FOLDER: &str = "shelf_and_card";
 /// A file's name without its suffix, and its bytes.
 pub type Named = (&'static str, Vec<u8>);
 
-/// The diagrams; those whose names end with 17 are refused.
+/// The diagrams; those whose names end with 17 or 4001 are refused.
 pub fn diagrams() -> Vec<Named> {
     vec![
-        ("p", shelf_and_card((1, 1), (0, 4))),
-        ("q", shelf_and_card((1, 1), (0, 2))),
-        ("s", shelf_and_card((0, 1), (0, 4))),
+        ("p", shelf_and_card(1, (1, 1), (0, 4))),
+        ("p_edition_2", shelf_and_card(2, (1, 1), (0, 4))),
+        ("q", shelf_and_card(1, (1, 1), (0, 2))),
+        ("s", shelf_and_card(1, (0, 1), (0, 4))),
         ("e", DiagramFile::new().bytes()),
         ("z", one_type(SINGLETON, "Main")),
         ("line_port_1", line_and_port(RIGHT)),
@@ -25,6 +26,8 @@ pub fn diagrams() -> Vec<Named> {
         ("associations_17", associations(17)),
         ("name_16", one_type(CLASS, "Card_of_16_bytes")),
         ("name_17", one_type(CLASS, "Cards_of_17_bytes")),
+        ("lines_4000", group_of_lines(4000)),
+        ("lines_4001", group_of_lines(4001)),
     ]
 }
 
@@ -41,15 +44,24 @@ pub fn records() -> Vec<Named> {
     ]
 }
 
-/// Shelves with cards; so many shelves a card, so many cards a shelf.
-fn shelf_and_card(shelves: (u8, u8), cards: (u8, u8)) -> Vec<u8> {
-    DiagramFile::new()
+/// Shelves with cards, as a file of that edition; so many shelves a card, so many cards a shelf.
+fn shelf_and_card(edition: u8, shelves: (u16, u16), cards: (u16, u16)) -> Vec<u8> {
+    DiagramFile::of_edition(edition)
         .of_kind(CLASS, "Shelf", &[])
         .of_kind(CLASS, "Card", &[])
         .composition(
             ("Shelf", shelves.0, shelves.1, "shelf"),
             ("Card", cards.0, cards.1, "cards"),
         )
+        .bytes()
+}
+
+/// Groups of up to so many lines, as a file of edition 2.
+fn group_of_lines(most: u16) -> Vec<u8> {
+    DiagramFile::of_edition(2)
+        .of_kind(CLASS, "Group", &[])
+        .of_kind(CLASS, "Line", &[])
+        .parts(("Group", "group"), ("Line", 0, most, "lines"))
         .bytes()
 }
 

@@ -39,10 +39,13 @@ fn check(path: &Path) -> Result<Outcome, Trouble> {
         }
         FileIs::RecordFile | FileIs::SiteText => record_of(&file)?.counts().to_vec(),
     };
+    let edition = is.edition(&file.bytes).map(|edition| edition.number);
+    let of_edition = edition.map(|number| format!(" of edition {number}"));
     let text = format!(
-        "Accepted: {} is a {} with {}.\n",
+        "Accepted: {} is a {}{} with {}.\n",
         file.name(),
         is.words(),
+        of_edition.unwrap_or_default(),
         counts_in_words(&counts)
     );
     let members = vec![
@@ -50,6 +53,7 @@ fn check(path: &Path) -> Result<Outcome, Trouble> {
         ("file", file.json_name()),
         ("kind", Json::text(is.holds().name)),
         ("form", Json::text(is.form())),
+        ("edition", Json::or_null(edition, Json::Number)),
         ("result", Json::text("accepted")),
     ];
     Ok(Outcome::answer(FINE, text, members))

@@ -19,7 +19,8 @@ use crate::unwritable::unwritable;
 pub fn run(path: &Path) -> Result<Outcome, Trouble> {
     let file = load(path)?;
     let mut remarks = Vec::new();
-    let (kind, text, content) = match accepted_kind(&file)? {
+    let is = accepted_kind(&file)?;
+    let (kind, text, content) = match is {
         FileIs::DiagramFile | FileIs::DiagramText => {
             let NamedDiagram { name, diagram } = named_diagram_of(&file)?;
             remarks = unwritable(&diagram);
@@ -32,10 +33,12 @@ pub fn run(path: &Path) -> Result<Outcome, Trouble> {
             ("record", text, record_json(&record))
         }
     };
+    let edition = is.edition(&file.bytes).map(|edition| edition.number);
     let members = vec![
         ("command", Json::text("show")),
         ("file", file.json_name()),
         ("kind", Json::text(kind)),
+        ("edition", Json::or_null(edition, Json::Number)),
         ("result", Json::text("shown")),
         ("diagram", Json::Null),
         ("record", Json::Null),

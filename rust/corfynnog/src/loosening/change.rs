@@ -128,7 +128,7 @@ impl Change {
     fn line(&self, before: &Diagram, after: &Diagram) -> Option<LineChange> {
         let value_type = |of: &ValueType| Line::of(value_type_text(of));
         let attribute = |index: usize| attribute_line(before, &before.attributes[index]);
-        let association = |of: &Association| Line::of(association_text(after, of));
+        let association = |of: &Association| association_line(after, of);
         Some(match self {
             Change::AddType(_) | Change::ReplaceType(..) => return None,
             Change::AddValueType(of) => LineChange::added(value_type(of)),
@@ -143,8 +143,8 @@ impl Change {
             Change::RemoveAttribute(index) => LineChange::becomes(attribute(*index), Vec::new()),
             Change::AddAssociation(of) => LineChange::added(association(of)),
             Change::ReplaceAssociation(index, by) => {
-                let earlier = association_text(before, &before.associations[*index]);
-                LineChange::becomes(Line::of(earlier), by.iter().map(association).collect())
+                let earlier = association_line(before, &before.associations[*index]);
+                LineChange::becomes(earlier, by.iter().map(association).collect())
             }
         })
     }
@@ -164,6 +164,7 @@ fn type_line(diagram: &Diagram, of: &Type) -> Line {
     Line {
         key: format!("{} {}: {}", of.kind.words(), of.name, parents.join(", ")),
         text: type_head(diagram, of),
+        largest_limit: 0,
     }
 }
 
@@ -174,6 +175,15 @@ fn attribute_line(diagram: &Diagram, of: &Attribute) -> Line {
     Line {
         key: format!("{value_type} {}; in {owner}", of.name),
         text: owned_attribute(diagram, of),
+        largest_limit: 0,
+    }
+}
+
+/// An association's line.
+fn association_line(diagram: &Diagram, of: &Association) -> Line {
+    Line {
+        largest_limit: of.largest_limit(),
+        ..Line::of(association_text(diagram, of))
     }
 }
 

@@ -1,5 +1,6 @@
 //! Changes of a diagram line by line, in words; and what a row of them comes to.
 
+use crate::edition::Edition;
 use crate::lists::listed;
 
 /// A line of a diagram.
@@ -8,6 +9,8 @@ pub struct Line {
     /// The same for the same part, whatever is written beside it.
     pub key: String,
     pub text: String,
+    /// The largest limit in it; 0 where there is none.
+    pub largest_limit: usize,
 }
 
 impl PartialEq for Line {
@@ -17,10 +20,13 @@ impl PartialEq for Line {
 }
 
 impl Line {
-    /// A line that is known by its text.
+    /// A line without limits that is known by its text.
     pub fn of(text: String) -> Line {
-        let key = text.clone();
-        Line { key, text }
+        Line {
+            key: text.clone(),
+            text,
+            largest_limit: 0,
+        }
     }
 }
 
@@ -48,22 +54,33 @@ impl LineChange {
         }
     }
 
-    /// The change in words.
-    pub fn sentence(&self) -> String {
+    /// The change in words, of a diagram from a file of this edition, or from a text; and what the
+    /// diagram needs to be where the edition lacks a limit.
+    pub fn sentence(&self, edition: Option<Edition>) -> String {
         let after: Vec<&str> = self.after.iter().map(|line| line.text.as_str()).collect();
         let after = listed(&after);
+        let needed = match edition.is_some_and(|edition| !self.has_limits_of(edition)) {
+            true => ", which needs a text or a diagram file of edition 2",
+            false => "",
+        };
         match (&self.before, self.after.is_empty()) {
-            (None, _) => format!("{after} is added."),
+            (None, _) => format!("{after} is added{needed}."),
             (Some(before), true) => format!("{} is taken out.", before.text),
-            (Some(before), false) => format!("{} becomes {after}.", before.text),
+            (Some(before), false) => format!("{} becomes {after}{needed}.", before.text),
         }
+    }
+
+    /// A file of this edition can hold what the line becomes.
+    fn has_limits_of(&self, edition: Edition) -> bool {
+        let mut after = self.after.iter();
+        after.all(|line| line.largest_limit <= edition.most)
     }
 }
 
 /// Changes that are made together, in words.
-pub fn sentences(changes: &[LineChange]) -> String {
-    let sentences: Vec<String> = changes.iter().map(LineChange::sentence).collect();
-    sentences.join(" ")
+pub fn sentences(changes: &[LineChange], edition: Option<Edition>) -> String {
+    let sentences = changes.iter().map(|change| change.sentence(edition));
+    sentences.collect::<Vec<String>>().join(" ")
 }
 
 /// What changes come to that are made one after the other: each line that is not there at the end as
@@ -94,6 +111,7 @@ pub fn net(changes: Vec<LineChange>) -> Vec<LineChange> {
 #[cfg(test)]
 mod tests {
     use super::*;
+    use crate::edition::{EDITION_1, EDITION_2};
 
     /// A change of lines that are known by their text; `-` stands for none.
     fn change(before: &str, after: &[&str]) -> LineChange {
@@ -106,7 +124,7 @@ mod tests {
 
     /// The net changes in words.
     fn told(changes: &[LineChange]) -> String {
-        sentences(&net(changes.to_vec()))
+        sentences(&net(changes.to_vec()), None)
     }
 
     #[test]
@@ -117,9 +135,23 @@ mod tests {
             change("c", &["d", "e"]),
         ];
         assert_eq!(
-            sentences(&all),
+            sentences(&all, None),
             "a is added. b is taken out. c becomes d and e."
         );
+    }
+
+    #[test]
+    fn a_limit_that_the_edition_lacks() {
+        let told = |largest_limit: usize, edition: Option<Edition>| {
+            let mut change = change("a", &["b"]);
+            change.after[0].largest_limit = largest_limit;
+            change.sentence(edition)
+        };
+        let needed = "a becomes b, which needs a text or a diagram file of edition 2.";
+        assert_eq!(told(101, Some(EDITION_1)), needed);
+        assert_eq!(told(100, Some(EDITION_1)), "a becomes b.");
+        assert_eq!(told(4_000, Some(EDITION_2)), "a becomes b.");
+        assert_eq!(told(4_000, None), "a becomes b.");
     }
 
     #[test]

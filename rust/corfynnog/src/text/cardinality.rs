@@ -1,6 +1,7 @@
 //! Cardinalities: `[*]`, `[2]`, `[0..4]`, `[2..*]`.
 
 use crate::diagram::Limits;
+use crate::edition::EDITION_2;
 
 use super::fault::{TextFault, TextRule};
 use super::reader::{name_of, Found, Reader};
@@ -8,8 +9,8 @@ use super::spelling::quoted;
 use super::tokens::{Read, Token};
 use super::wanted::Wanted::{Integer, Mark};
 
-/// The largest limit.
-const LIMIT_MOST: usize = 100;
+/// The largest limit, that of the wider edition of files.
+const LIMIT_MOST: usize = EDITION_2.most;
 
 /// Those of a cardinality that is left out, and of `[*]`.
 pub const NO_LIMITS: Limits = Limits { low: 0, up: None };
@@ -64,4 +65,27 @@ fn upper_limit(low: usize, token: Token) -> Found<usize> {
     let what = format!("the upper limit {up} is below the lower limit {low}");
     Err(TextFault::of(TextRule::Grammar, token.at, what)
         .with("write the smaller number first, as in [0..4], or raise the upper limit"))
+}
+
+#[cfg(test)]
+mod tests {
+    use super::*;
+    use crate::text::read_text;
+
+    #[test]
+    fn limits_that_are_allowed() {
+        for (cardinality, low, up) in [
+            ("[*]", 0, None),
+            ("[0..256]", 0, Some(256)),
+            ("[255]", 255, Some(255)),
+            ("[0..4000]", 0, Some(4000)),
+            ("[4000..*]", 4000, None),
+            ("[0004000]", 4000, Some(4000)),
+        ] {
+            let text = format!("classdiagram d {{class A; association {cardinality} A -> A;}}");
+            let read = read_text(text.as_bytes()).expect(cardinality);
+            let limits = read.diagram.associations[0].left.limits;
+            assert_eq!(limits, Limits { low, up }, "{cardinality}");
+        }
+    }
 }

@@ -23,9 +23,12 @@ classdiagram d {association [n] A -> A; | 23 1:30 | read \"n\", expected a numbe
 classdiagram d {association [1,2] A -> A; | 23 1:31 | read \",\", expected \"]\" or \"..\"
 classdiagram d {class A; # no | 23 1:26 | read \"#\", expected \"class\"
 classdiagram d {class A2345678901234567; | 23 1:23 | the name \"A2345678901234567\" has 17 bytes, at most 16 are allowed
-classdiagram d {association [101] A -> A; | 23 1:30 | the limit \"101\" is too large, at most 100 is allowed
-classdiagram d {association A -> A [0..255]; | 23 1:40 | the limit \"255\" is too large, at most 100 is allowed
+classdiagram d {association [4001] A -> A; | 23 1:30 | the limit \"4001\" is too large, at most 4000 is allowed
+classdiagram d {association [4001..*] A -> A; | 23 1:30 | the limit \"4001\" is too large, at most 4000 is allowed
+classdiagram d {association A -> A [0..65535]; | 23 1:40 | the limit \"65535\" is too large, at most 4000 is allowed
+classdiagram d {association A -> A [18446744073709551617]; | 23 1:37 | the limit \"18446744073709551617\" is too large, at most 4000 is allowed
 classdiagram d {association A -> A [2..1]; | 23 1:40 | the upper limit 1 is below the lower limit 2
+classdiagram d {association A -> A [256..255]; | 23 1:42 | the upper limit 255 is below the lower limit 256
 classdiagram d {class Shelf;\\n\\tassociation Shelf -> Shelv;} | 24 2:23 | \"Shelv\" is no class or interface of this text
 classdiagram d {class A; enum E; association E -> A;} | 24 1:46 | \"E\" is an enumeration, but an end is a class or interface
 classdiagram d {class B extends A;\\nclass A;} | 24 1:33 | \"A\" is declared only at line 2, but a parent stands before its child

@@ -17,31 +17,38 @@ pub fn folder(test: &str) -> Folder {
     folder
 }
 
-/// Classes Shelf and Card, and the composition between them with these limits.
-fn shelf_and_card(left: (u8, u8), right: (u8, u8)) -> Vec<u8> {
-    let mut file =
-        b"\x10\x00\x01\x01\x30\x00\x08\x00\x05Shelf\x00\x30\x00\x07\x00\x04Card\x00".to_vec();
-    file.extend(b"\x50\x00\x14\x01\x01\x00");
-    file.extend([left.0, left.1]);
+/// Classes Shelf and Card, and the composition between them with the limits in these bytes.
+fn shelf_and_card(edition: u8, left: &[u8], right: &[u8]) -> Vec<u8> {
+    let mut file = vec![0x10, 0, 1, edition];
+    file.extend(b"\x30\x00\x08\x00\x05Shelf\x00\x30\x00\x07\x00\x04Card\x00");
+    let length = 16 + left.len() + right.len();
+    file.extend([0x50, 0, length as u8, 1, 1, 0]);
+    file.extend(left);
     file.extend(b"\x05shelf\x01");
-    file.extend([right.0, right.1]);
+    file.extend(right);
     file.extend(b"\x05cards");
     file
 }
 
+/// The same as a file of edition 2, with these limits.
+pub fn wide(left: (u16, u16), right: (u16, u16)) -> Vec<u8> {
+    let bytes = |(low, up): (u16, u16)| [low, up].map(u16::to_be_bytes).concat();
+    shelf_and_card(2, &bytes(left), &bytes(right))
+}
+
 /// Every card on one shelf, at most four cards a shelf.
 pub fn p() -> Vec<u8> {
-    shelf_and_card((1, 1), (0, 4))
+    shelf_and_card(1, &[1, 1], &[0, 4])
 }
 
 /// As P, with at most two cards a shelf.
 pub fn q() -> Vec<u8> {
-    shelf_and_card((1, 1), (0, 2))
+    shelf_and_card(1, &[1, 1], &[0, 2])
 }
 
 /// As P, but a card may do without a shelf.
 pub fn s() -> Vec<u8> {
-    shelf_and_card((0, 1), (0, 4))
+    shelf_and_card(1, &[0, 1], &[0, 4])
 }
 
 /// No types.

@@ -1,15 +1,19 @@
-//! Worked texts that are accepted, each with the file of the diagram that it declares.
+//! Worked texts that are accepted, each with the file of the diagram that it declares: of edition 1,
+//! where that has its limits.
+
+use super::wide_limits;
 
 /// What the case is about, the text, and the file.
 pub type Accepted = (&'static str, &'static [u8], &'static [u8]);
 
 /// All of them.
 pub fn accepted() -> Vec<Accepted> {
-    let groups: [&[Accepted]; 5] = [
+    let groups: [&[Accepted]; 6] = [
         &WORDS_AND_CLASSES,
         &VALUE_TYPES,
         &PARENTS,
         &ASSOCIATIONS,
+        &wide_limits::ACCEPTED,
         &[EVERY_PART],
     ];
     groups.concat()
@@ -155,7 +159,7 @@ const PARENTS: [Accepted; 4] = [
 ];
 
 /// Associations.
-const ASSOCIATIONS: [Accepted; 12] = [
+const ASSOCIATIONS: [Accepted; 13] = [
     (
         "ends declared later, an interface among them",
         b"classdiagram d {association A -> I; interface I; class A;}",
@@ -190,6 +194,12 @@ const ASSOCIATIONS: [Accepted; 12] = [
           \x50\x00\x0C\x00\x01\x00\x00\xFF\x01l\x00\x03\x03\x01r",
     ),
     (
+        "[0..*], [n..n]",
+        b"classdiagram d {class A; association [0..*] A (l) -> (r) A [3..3];}",
+        b"\x10\x00\x01\x01\x30\x00\x04\x00\x01A\x00\
+          \x50\x00\x0C\x00\x01\x00\x00\xFF\x01l\x00\x03\x03\x01r",
+    ),
+    (
         "[n..m], [n..*]",
         b"classdiagram d {class A; association [2..5] A (l) <- (r) A [2..*];}",
         b"\x10\x00\x01\x01\x30\x00\x04\x00\x01A\x00\
@@ -209,7 +219,7 @@ const ASSOCIATIONS: [Accepted; 12] = [
           \x50\x00\x0C\x00\x04\x00\x07\x07\x01l\x00\x00\x64\x01r",
     ),
     (
-        "the largest limits",
+        "the largest limits of edition 1",
         b"classdiagram d {class A; association [100..100] A (l) -> (r) A [100..*];}",
         b"\x10\x00\x01\x01\x30\x00\x04\x00\x01A\x00\
           \x50\x00\x0C\x00\x01\x00\x64\x64\x01l\x00\x64\xFF\x01r",

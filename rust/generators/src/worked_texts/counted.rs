@@ -1,6 +1,6 @@
 //! Worked texts at the limits on counts, and long ones.
 
-/// The reply to a text: the refusal's number, or the length of the file of its diagram.
+/// The reply to a text: the refusal's number, or the length of the edition 1 file of its diagram.
 #[derive(Clone, Copy, Debug, PartialEq, Eq)]
 pub enum Reply {
     Refused(u8),

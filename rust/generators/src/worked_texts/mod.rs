@@ -4,6 +4,7 @@
 mod accepted;
 mod counted;
 mod refused;
+mod wide_limits;
 
 pub use accepted::{accepted, Accepted};
 pub use counted::{counted, Counted, Reply};

@@ -1,17 +1,20 @@
 //! Worked texts that are refused, each with the number.
 
+use super::wide_limits;
+
 /// What the case is about, the text, and the number.
 pub type Refused = (&'static str, &'static [u8], u8);
 
 /// The same without the number, which the cases of a group share.
-type Unnumbered = (&'static str, &'static [u8]);
+pub type Unnumbered = (&'static str, &'static [u8]);
 
 /// All of them.
 pub fn refused() -> Vec<Refused> {
-    let groups: [(u8, &[Unnumbered]); 6] = [
+    let groups: [(u8, &[Unnumbered]); 7] = [
         (23, &BAD_WORDS),
         (23, &BAD_DECLARATIONS),
         (23, &BAD_ASSOCIATIONS),
+        (23, &wide_limits::REFUSED),
         (24, &NOT_DECLARED),
         (5, &TWICE),
         (8, &BACKWARDS),
@@ -154,7 +157,7 @@ const BAD_DECLARATIONS: [Unnumbered; 28] = [
 ];
 
 /// 23: associations and cardinalities.
-const BAD_ASSOCIATIONS: [Unnumbered; 32] = [
+const BAD_ASSOCIATIONS: [Unnumbered; 27] = [
     (
         "no semicolon",
         b"classdiagram d {class A; association A -> A}",
@@ -222,31 +225,11 @@ const BAD_ASSOCIATIONS: [Unnumbered; 32] = [
     ),
     ("[n]", b"classdiagram d {class A; association [n] A -> A;}"),
     (
-        "[101]",
-        b"classdiagram d {class A; association [101] A -> A;}",
-    ),
-    (
-        "[0..101]",
-        b"classdiagram d {class A; association A -> A [0..101];}",
-    ),
-    (
-        "[101..*]",
-        b"classdiagram d {class A; association [101..*] A -> A;}",
-    ),
-    (
         "[2..1]",
         b"classdiagram d {class A; association A -> A [2..1];}",
     ),
     (
-        "[0..255]",
-        b"classdiagram d {class A; association A -> A [0..255];}",
-    ),
-    (
-        "[255]",
-        b"classdiagram d {class A; association [255] A -> A;}",
-    ),
-    (
-        "20 digits",
+        "20 digits, 1 in eight bytes",
         b"classdiagram d {class A; association [18446744073709551617] A -> A;}",
     ),
     (

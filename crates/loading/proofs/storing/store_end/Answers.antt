@@ -1,10 +1,12 @@
-use Rattle.files.specs.DiagramLayout.{upper_of}
-use mathlib.Core.Path.{◌≡◌, refl, ap, ◌∙◌}
-use Rattle.loading.proofs.AssociationLaws.{role-short, end-stored}
+use mathlib.Core.Path.{◌≡◌, refl}
+use Rattle.loading.proofs.AssociationLaws.{role-short, up_fits, end-stored}
 use lib.ListN.{length}
 use native.Mathlib.Omega.{arith}
 use borrow.Author.Rules.{rules}
 use Rattle.loading.proofs.storing.store_end.Goals as goal
+
+pub upper-requires : goal.upper-requires
+upper-requires c = search up_fits
 
 pub store_name-requires : goal.store_name-requires
 store_name-requires c = let long : length c.args.a.now.roles ≡ 544 = search rules in
@@ -14,4 +16,5 @@ pub returns : goal.returns
 returns c = let types : length c.args.a.now.types ≡ 32 = search rules in
     let lows : length c.args.a.now.lows ≡ 32 = search rules in
     let ups : length c.args.a.now.ups ≡ 32 = search rules in
-    end-stored c.args.a.now _ c.args.e c.args.c.now _ c.requires.0 types lows ups c.byte.ensures c.byte-2.ensures c.from.ensures c.past.ensures c.name_in.ensures refl refl refl refl refl refl (c.upper.ensures ∙ ap upper_of c.byte-3.ensures) c.store_name.ensures
+    end-stored c.args.edition c.args.a.now _ c.args.e c.args.c.now _ c.requires.0 types lows ups c.byte.ensures c.low_of.ensures.0 c.up_of.ensures.0
+    c.role_of.ensures c.name_in.ensures refl refl refl refl refl refl c.upper.ensures c.store_name.ensures

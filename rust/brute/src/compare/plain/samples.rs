@@ -59,12 +59,15 @@ pub fn some_types(numbers: &mut Numbers) -> Vec<Type> {
 }
 
 fn some_end(numbers: &mut Numbers, types: &[Type]) -> End {
-    let ups = [None, None, Some(0), Some(1), Some(2)];
+    let ups = [None, Some(256), Some(0), Some(1), Some(2)];
     let up = numbers.pick(&ups);
-    let low = numbers.below(usize::from(up.unwrap_or(2)) + 1);
+    let low = numbers.below(usize::from(up.unwrap_or(2).min(2)) + 1);
     End {
         type_name: numbers.pick(types).name,
-        limits: Limits { low: low as u8, up },
+        limits: Limits {
+            low: low as u16,
+            up,
+        },
         role: numbers.pick(&[name("l"), name("r")]),
     }
 }

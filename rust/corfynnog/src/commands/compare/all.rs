@@ -9,7 +9,7 @@ use super::search::{Found, Watch};
 use crate::breaches::Breach;
 use crate::diagram::Diagram;
 use crate::disk::Loaded;
-use crate::loosening::{file_of, net, sentences, Draft, LineChange, Made, Stuck};
+use crate::loosening::{file_of, net, Draft, LineChange, Made, Stuck};
 use crate::progress::Aim;
 use crate::proved::{self, Witness};
 use crate::reasons::Reason;
@@ -29,8 +29,8 @@ pub struct Difference {
     pub is_of_new: bool,
     /// The lowest rule of new that the site breaks, where the changes before do away with that.
     pub besides: Option<u8>,
-    /// A change of new for it, in words; none where no change is known.
-    pub change: Option<String>,
+    /// A change of new for it, line by line; none where no change is known.
+    pub change: Option<Vec<LineChange>>,
 }
 
 /// Why no further reason is looked for.
@@ -130,7 +130,7 @@ impl Rounds<'_> {
         }
         let of_copy = Reason::proved(&copy, &record, &by_copy);
         let made = self.draft.loosen(&record, &of_copy.places);
-        let change = made.as_ref().ok().map(|made| sentences(&made.lines));
+        let change = made.as_ref().ok().map(|made| made.lines.clone());
         if let Ok(made) = &made {
             self.lines.extend(made.lines.iter().cloned());
         }

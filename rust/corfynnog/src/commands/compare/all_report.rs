@@ -3,9 +3,11 @@
 use super::all::{All, Difference, End};
 use super::report::{objects, sites_within, Compared};
 use crate::diagram::Diagram;
+use crate::edition::Edition;
 use crate::file_json::record_json;
 use crate::json::Json;
-use crate::loosening::LineChange;
+use crate::kinds::FileIs;
+use crate::loosening::{sentences, LineChange};
 use crate::object_diagram::object_diagram;
 use crate::outcome::{Outcome, FOUND};
 use crate::proved;
@@ -19,6 +21,7 @@ pub fn differences(compared: &Compared, all: &All) -> Result<Outcome, Trouble> {
         old: proved::diagram_of(compared.old)?,
         old_name: compared.old.name(),
         new_name: compared.new.name(),
+        new_edition: FileIs::of(&compared.new.bytes).edition(&compared.new.bytes),
     };
     let members = compared.members("difference", report.members(all));
     Ok(Outcome::answer(FOUND, report.text(all), members))
@@ -33,6 +36,8 @@ struct Report<'a> {
     old: Diagram,
     old_name: String,
     new_name: String,
+    /// None of a text.
+    new_edition: Option<Edition>,
 }
 
 impl Report<'_> {
@@ -61,8 +66,8 @@ impl Report<'_> {
             1 => "",
             _ => " that is left",
         };
-        let change = difference.change.as_deref();
-        let change = change.unwrap_or("This program knows none.");
+        let change = self.change(difference);
+        let change = change.unwrap_or_else(|| "This program knows none.".to_string());
         format!(
             "\n{number}. A smallest site{left}, of {}:\n\n{}\n{}\n{}Change: {change}\n",
             objects(difference.witness.objects),
@@ -70,6 +75,12 @@ impl Report<'_> {
             self.heading(difference),
             difference.reason.text(&self.forbidden(difference), TOLD),
         )
+    }
+
+    /// The change for a site in words, if one is known.
+    fn change(&self, difference: &Difference) -> Option<String> {
+        let lines = difference.change.as_ref()?;
+        Some(sentences(lines, self.new_edition))
     }
 
     /// The line above a reason: of which diagram it is told.
@@ -106,7 +117,8 @@ impl Report<'_> {
             text += "The changes so far:\n";
         }
         for (index, change) in all.changes.iter().enumerate() {
-            text += &format!("  {}. {}\n", index + 1, change.sentence());
+            let sentence = change.sentence(self.new_edition);
+            text += &format!("  {}. {sentence}\n", index + 1);
         }
         text
     }
@@ -147,15 +159,15 @@ impl Report<'_> {
         if let Some(first) = all.differences.first() {
             members.extend(self.difference_members(first));
         }
-        let change = |change: &LineChange| Json::Text(change.sentence());
+        let change = |change: &LineChange| Json::Text(change.sentence(self.new_edition));
         let difference = |difference: &Difference| {
-            let change = difference.change.as_deref();
+            let change = self.change(difference);
             let besides = difference.besides.map(usize::from);
             let mut members = self.difference_members(difference);
             members.extend([
                 ("besides", Json::or_null(besides, Json::Number)),
                 ("with_changes", Json::Bool(!difference.is_of_new)),
-                ("change", Json::or_null(change, Json::text)),
+                ("change", Json::or_null(change, Json::Text)),
             ]);
             Json::Object(members)
         };
@@ -199,6 +211,7 @@ mod tests {
             old: Diagram::default(),
             old_name: "old.cd".to_string(),
             new_name: "new.cd".to_string(),
+            new_edition: None,
         };
         let change = |line: &&str| LineChange::added(Line::of(line.to_string()));
         let all = All {

@@ -65,6 +65,7 @@ pub const TABLE: &str = include_str!(concat!(
 
 const DIAGRAMS: &[Diagram] = diagrams![
     "p",
+    "p_edition_2",
     "q",
     "s",
     "e",
@@ -75,7 +76,9 @@ const DIAGRAMS: &[Diagram] = diagrams![
     "associations_16",
     "associations_17",
     "name_16",
-    "name_17"
+    "name_17",
+    "lines_4000",
+    "lines_4001"
 ];
 
 const RECORDS: &[Record] = records![
