@@ -1,13 +1,13 @@
 # Completion of corfynnog's commands, options and files, for bash.
 
-_corfynnog_commands="compare judge compile evaluate check show make marked help"
+_corfynnog_commands="compare judge compile evaluate check show make convert marked help"
 
 # The options of a command, or of the program where no command is named.
 _corfynnog_options() {
     case "$1" in
         compare) echo "--bound --out --all --timeout --json --help" ;;
         judge) echo "--all --json --help" ;;
-        make) echo "--out --json --help" ;;
+        make | convert) echo "--out --json --help" ;;
         compile | evaluate | check | show | marked) echo "--json --help" ;;
         "") echo "--json --help --version" ;;
     esac

@@ -7,16 +7,14 @@ use mathlib.Core.List.{List, []}
 use mathlib.Core.Path.{◌≡◌, ap, refl, sym}
 use lib.ListN.{length, replicate}
 use Rattle.laws.proofs.BoundedLaws.{first_not-le}
-use Rattle.std.specs.Prelude.{Result, Ok, Err}
-use Rattle.fields.specs.Refusal.{answer_of, number_of}
+use Rattle.std.specs.Prelude.{Ok}
+use Rattle.fields.specs.Refusal.{number_of}
 use Rattle.fields.specs.declared.Refusal.{Refusal}
 use Rattle.fields.proofs.RefusalLaws.{numbered}
 use Rattle.files.specs.Diagram.{Diagram}
 use Rattle.files.specs.Record.{Record}
 use Rattle.files.specs.RecordFile.{read_record}
-use Rattle.files.specs.Refusal.{Answer, accepted, refusal_of, refused}
-use Rattle.diagrams.specs.Held.{Held}
-use Rattle.diagrams.specs.View.{diagram_of}
+use Rattle.files.specs.Refusal.{Answer, accepted, and_then, refusal_of, refused}
 use Rattle.diagrams.specs.declared.ReadDiagram.{ReadDiagram}
 use Rattle.rules.specs.Compile.{compile, entry_at}
 use Rattle.rules.specs.Evaluate.{evaluate, first_failing, holds}
@@ -28,10 +26,10 @@ use Rattle.compiling.specs.declared.Compiled.{Compiled}
 use Rattle.evaluating.specs.Evaluates.{Evaluates}
 use Rattle.steps.specs.Bench as abstract
 use Rattle.steps.specs.Bench.{Compile, is_refusal}
-use Rattle.steps.specs.Step.{Step, and_then, asking, compiled, diagram_at, on_record}
+use Rattle.steps.specs.Step.{Step, asking, compiled, diagram_at, on_record}
 use Rattle.bench.specs.Calls.{DoesWith}
 use Rattle.bench.specs.Parts.{diagram_by}
-use Rattle.bench.specs.View.{bench_of, reply_of, said_by}
+use Rattle.bench.specs.View.{bench_of, reply_of}
 use Rattle.bench.specs.declared.parts.Bench.{Bench}
 use Rattle.bench.specs.declared.Reply.{Reply}
 use Rattle.bench.specs.declared.Reply.TheVariants.{Records, Refused}

@@ -14,7 +14,7 @@ use Rattle.fields.specs.declared.Refusal.TheVariants.{Bound}
 use Rattle.diagrams.specs.declared.ReadDiagram.{ReadDiagram}
 use Rattle.files.specs.Diagram.{Diagram}
 use Rattle.files.specs.Record.{Record}
-use Rattle.files.specs.Refusal.{Answer, accepted, refused}
+use Rattle.files.specs.Refusal.{Answer, accepted, and_then, refused}
 use Rattle.files.proofs.AnswerLaws.{accepted-is, refused-not}
 use Rattle.records.specs.Written.{Within, record_of}
 use Rattle.records.proofs.WrittenLaws.{written_count}
@@ -25,7 +25,7 @@ use Rattle.comparing.specs.Compared.{Compares, found_in}
 use Rattle.steps.specs.Bench as abstract
 use Rattle.steps.specs.Bench.{Compare, Outcome, gives, is_refusal, place_of, with_witness}
 use Rattle.steps.specs.Effect.{effect}
-use Rattle.steps.specs.Step.{Choosing, Step, and_then, compared, diagram_at, differs, in_bound, in_place, needed, saying}
+use Rattle.steps.specs.Step.{Choosing, Step, compared, diagram_at, differs, in_bound, in_place, needed, saying}
 use Rattle.bench.specs.Calls.{Chose, Does, told_by, witness_by}
 use Rattle.bench.specs.Parts.{ValidWitness, diagram_in, names_of, pick}
 use Rattle.bench.specs.PartsProp.{fits-prop}

@@ -18,8 +18,9 @@ use Rattle.records.specs.Written.{Within, record_of}
 use Rattle.records.proofs.WithinLaws.{within-complete}
 use Rattle.writing.proofs.WritableLaws.{written-as, written-some}
 use Rattle.writing.specs.Writes.{Writes, WritesWithin, writable}
+use Rattle.files.specs.Refusal.{in_buffer}
 use Rattle.steps.specs.Bench.{HandOut}
-use Rattle.steps.specs.Step.{handed_out, in_buffer, witnessing, writing}
+use Rattle.steps.specs.Step.{handed_out, witnessing, writing}
 use Rattle.bench.specs.Calls.{Does}
 use Rattle.bench.specs.Parts.{ValidWitness, diagram_by, names_of}
 use Rattle.bench.specs.View.{asked_in, bench_of, place_in}

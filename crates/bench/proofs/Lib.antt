@@ -4,6 +4,7 @@ pub mod PartLaws
 pub mod FoundLaws
 pub mod StoreLaws
 pub mod HandOutLaws
+pub mod ConvertLaws
 pub mod CompareLaws
 pub mod RunLaws
 pub mod Demands

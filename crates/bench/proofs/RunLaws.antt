@@ -2,14 +2,14 @@
 -- The promise of each call has its step and what stays; a run has them one after the other.
 -- Assumes nothing.
 use mathlib.Core.Bool.{true}
-use mathlib.Core.List.{List, [], ◌∷◌}
+use mathlib.Core.List.{[], ◌∷◌}
 use mathlib.Core.Path.{◌≡◌, ap, refl, subst, sym}
 use Rattle.steps.specs.Bench as abstract
 use Rattle.steps.specs.Bench.{is_refusal}
 use Rattle.steps.specs.Row as steps
 use Rattle.steps.specs.Row.{Row}
 use Rattle.steps.specs.Step.{Step}
-use Rattle.bench.specs.Runs.{Did, Made, ReachedIn, Run, RunsRow, RunsValid, after, event_of, events_of, listed, replied}
+use Rattle.bench.specs.Runs.{Did, Made, ReachedIn, RunsRow, RunsValid, after, event_of, events_of, listed, replied}
 use Rattle.bench.specs.View.{bench_of, fresh_in}
 use Rattle.bench.specs.declared.parts.Bench.{Bench}
 use Rattle.bench.proofs.PartLaws.{valid}

@@ -5,8 +5,8 @@ use mathlib.Core.Option as math
 use mathlib.Core.Path.{◌≡◌}
 use borrow.Author.Tests.{le-ltb}
 use Rattle.files.specs.Diagram.{Diagram}
-use Rattle.files.specs.Refusal.{Answer, accepted, refused}
-use Rattle.steps.specs.Step.{and_then, clear, in_place, placed}
+use Rattle.files.specs.Refusal.{Answer, accepted, and_then, refused}
+use Rattle.steps.specs.Step.{clear, in_place, placed}
 
 module _ (p : ℕ) where
   pub read-refused : {n : ℕ} (a : Answer Diagram) → p ≤ 1 → refused n ≡ a → refused n ≡ placed p a

@@ -1,5 +1,5 @@
--- The three demands, over runs of the code's own calls from the fresh bench. They are those of 01's steps (`Defined`, `Exact`,
--- `NoneOverlooked`), of the outcome that each call of the code stands for.
+-- The three demands, and what 02 promises of calls besides, over runs of the code's own calls from the fresh bench. They are those of
+-- the steps (`Defined`, `Exact`, `NoneOverlooked`, `ConverterGives`), of the outcome that each call of the code stands for.
 -- That a call returns at all is part of what is proved of its function: the prover accepts a function only where every loop and every
 -- recursion in it and in what it calls has a number that falls, so each call that is made ends, and with the reply that is said here.
 -- Assumes nothing.
@@ -8,8 +8,8 @@ use Rattle.std.proofs.Math.Option.{some}
 use Rattle.files.specs.Diagram.{Diagram}
 use Rattle.rules.specs.Heads.{all_headed}
 use Rattle.smallest_records.specs.Difference.{Gap}
-use Rattle.steps.specs.Bench.{Compare, HandOut, difference, is_refusal, no_difference}
-use Rattle.steps.specs.Demands.{Defined, Exact, NoneOverlooked}
+use Rattle.steps.specs.Bench.{Compare, Convert, HandOut, difference, is_refusal, no_difference}
+use Rattle.steps.specs.Demands.{ConverterGives, Defined, Exact, NoneOverlooked}
 use Rattle.steps.specs.HandedOut.{HandedOut}
 use Rattle.steps.specs.Row.{KeepsWitness}
 use Rattle.steps.specs.Step.{Step}
@@ -50,6 +50,13 @@ abbrev pub RunsDemandThree : Type 0
 RunsDemandThree =
     (b : Bench) → ReachedIn b → (old new : Diagram) → (bench_of b).old ≡ some old → (bench_of b).new ≡ some new
     → (bound : ℕ) → bound ≤ 8 → (r : Replied) → Does b (Compare bound) r [] → Compared old new bound r
+
+-- ---- 02 4/12: "A converter writes an edition 1 file as edition 2 and the other way about"
+
+abbrev pub RunsConverter : Type 0
+RunsConverter =
+    (b : Bench) → ReachedIn b → (file buffer : List ℕ) (r : Replied) (after : List ℕ) → Does b (Convert file buffer) r after
+    → ConverterGives (bench_of b) file buffer (outcome_of r after)
 
 -- ---- 02 2/12: "Two diagrams that differ only in ↔ against no arrowhead have no difference at any bound."
 

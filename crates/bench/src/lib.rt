@@ -4,7 +4,7 @@
 mod parts; // parts.rt: the struct, and what holds of its parts
 
 ghost use Rattle.std.specs.Prelude.{[], ◌≡◌};
-ghost use Rattle.steps.specs.Bench.{Load, Clear, Judge, Compile, Evaluate, Compare, HandOut, LoadText};
+ghost use Rattle.steps.specs.Bench.{Load, Clear, Judge, Compile, Evaluate, Compare, HandOut, LoadText, Convert};
 ghost use Rattle.steps.specs.Step.{clear, diagram_at, evaluated, judged, load, load_text};
 ghost use Rattle.fields.specs.Refusal.{answer_of};
 ghost use Rattle.bench.specs.Parts.{diagram_by, diagram_in};
@@ -264,6 +264,20 @@ impl Bench {
     {
         self.set(place, loaded_text(place, text))
     }
+
+    fn converted(&self, file: &[u8], out: &mut [u8]) -> Result<Reply, Refusal>
+        ensures { Does self.now (Convert file.now out.old) (asked_in self.now result) out.new }
+    {
+        let n = converting::convert(file, out)?;
+        Ok(Reply::Written(n))
+    }
+
+    // The diagram file in its other edition at the front of the buffer. Nothing of the bench is asked for.
+    pub fn run_convert(&self, file: &[u8], out: &mut [u8]) -> Reply
+        ensures { Does self.now (Convert file.now out.old) (left_by self.now result) out.new }
+    {
+        told(self.converted(file, out))
+    }
 }
 
 // ---- the same on a bench that is handed on, for programs that keep one by value (`cases`): each call is the one above, and the bench that
@@ -336,6 +350,14 @@ impl Bench {
         ensures { Does self (LoadText place text.now) result [] }
     {
         let reply = self.run_load_text(place, text);
+        Replied { bench: self, reply }
+    }
+
+    // By `run_convert`.
+    pub fn convert(self, file: &[u8], out: &mut [u8]) -> Replied
+        ensures { Does self (Convert file.now out.old) result out.new }
+    {
+        let reply = self.run_convert(file, out);
         Replied { bench: self, reply }
     }
 }

@@ -5,7 +5,7 @@ use Prim.Native.Nat.{ℕ, ◌*◌, ◌+◌, ◌<◌, ◌≤◌}
 use native.Mathlib.Omega.{arith}
 use mathlib.Core.Bool.{Bool, ◌&&◌, ◌||◌, cond, false, true, true≢false}
 use mathlib.Core.List.{List}
-use mathlib.Core.Logic.{◌≢◌}
+use mathlib.Core.Logic.{⊎_elim, ◌⊎◌, ◌≢◌}
 use mathlib.Core.Option.{Option, none, some}
 use mathlib.Core.Path.{◌∙◌, ◌≡◌, refl, subst, sym}
 use lib.Dec.{eqb, leb, ltb}
@@ -79,7 +79,7 @@ module _ (s room : List ℕ) {y : rattle.Option Next} (e : y ≡ next_of s (leng
   unfolding read_call
   read-call n h = rw (← e, h)
 
--- ---- only hand out is lent a buffer: one test of all codes
+-- ---- hand out and convert are lent a buffer, and no other call: one test of all codes
 
 abbrev is_none : Option (List ℕ) → Bool
 is_none none = true
@@ -90,12 +90,23 @@ is-none none e = refl
 is-none (some buffer) e = absurd (true≢false (sym e))
 
 abbrev lends_none : Operands → ℕ → Bool
-lends_none y code = eqb code 7 || is_none (effect (call_of code y)).lends
+lends_none y code = eqb code 7 || eqb code 9 || is_none (effect (call_of code y)).lends
 
 all-lend-none : (y : Operands) → all (lends_none y) (length codes) ≡ true
 unfolding all effect call_of
 all-lend-none y = refl
 
-pub lends-none : (code : ℕ) (y : Operands) → code < length codes → code ≢ 7 → (effect (call_of code y)).lends ≡ none
-lends-none code y l h =
-    is-none _ (subst (λ (t : Bool). t || is_none (effect (call_of code y)).lends ≡ true) (ne_eqb code 7 h) (all-at (lends_none y) (length codes) (all-lend-none y) code l))
+pub lends-none : (code : ℕ) (y : Operands) → code < length codes → code ≢ 7 → code ≢ 9 → (effect (call_of code y)).lends ≡ none
+lends-none code y l h k =
+    let r : lends_none y code ≡ true = all-at (lends_none y) (length codes) (all-lend-none y) code l in is-none _ (rw (ne_eqb code 7 h, ne_eqb code 9 k) at r)
+
+-- lent a buffer, the call gets its bytes
+pub record Lends (code : ℕ) (y : Operands) : Type 0 where
+  pub one : (row_at code).buffers ≡ 1
+  pub lends : (effect (call_of code y)).lends ≡ some y.buffer
+
+pub lends-some : (code : ℕ) (y : Operands) → (code ≡ 7) ⊎ (code ≡ 9) → Lends code y
+unfolding effect call_of
+lends-some code y =
+    ⊎_elim (λ e. subst (λ (k : ℕ). Lends k y) (sym e) (record { one = refl; lends = refl }))
+    (λ e. subst (λ (k : ℕ). Lends k y) (sym e) (record { one = refl; lends = refl }))

@@ -8,9 +8,10 @@
 --   6 compare    bound
 --   7 hand out   length of the buffer to lend
 --   8 load text  place, length, text
+--   9 convert    length, file, length of the buffer to lend
 -- Assumes nothing.
 use Rattle.std.specs.Prelude.{ℕ, ◌+◌, ◌*◌, ◌&&◌, cond, List, [], ◌∷◌, eqb, leb, ltb, drop, get_or, length, take, Option, None, Some}
-use Rattle.steps.specs.Bench.{Call, Clear, Compare, Compile, Evaluate, HandOut, Judge, Load, LoadText}
+use Rattle.steps.specs.Bench.{Call, Clear, Compare, Compile, Convert, Evaluate, HandOut, Judge, Load, LoadText}
 use Rattle.coding.specs.declared.Next.{Next}
 
 pub record Operands : Type 0 where
@@ -36,7 +37,8 @@ codes =
     record { bytes = 1; files = 1; buffers = 0; call = λ x. Evaluate x.byte x.file } ∷
     record { bytes = 1; files = 0; buffers = 0; call = λ x. Compare x.byte } ∷
     record { bytes = 0; files = 0; buffers = 1; call = λ x. HandOut x.buffer } ∷
-    record { bytes = 1; files = 1; buffers = 0; call = λ x. LoadText x.byte x.file } ∷ []
+    record { bytes = 1; files = 1; buffers = 0; call = λ x. LoadText x.byte x.file } ∷
+    record { bytes = 0; files = 1; buffers = 1; call = λ x. Convert x.file x.buffer } ∷ []
 
 abbrev pub row_at : ℕ → Shape
 row_at code = get_or codes code (record { bytes = 0; files = 0; buffers = 0; call = λ x. Clear 0 })

@@ -33,7 +33,7 @@ struct Row {
     buffers: usize,
 }
 
-// A call with a byte and a file, with a byte alone, with a buffer to lend, and none.
+// A call with a byte and a file, with a byte alone, with a buffer to lend, with a file and a buffer, and none.
 const FILE: Row = Row {
     bytes: 1,
     files: 1,
@@ -52,6 +52,12 @@ const BUFFER: Row = Row {
     buffers: 1,
 };
 
+const FILE_AND_BUFFER: Row = Row {
+    bytes: 0,
+    files: 1,
+    buffers: 1,
+};
+
 const NONE: Row = Row {
     bytes: 0,
     files: 0,
@@ -59,7 +65,18 @@ const NONE: Row = Row {
 };
 
 // By code. NONE stands at 0 and past the table, as in the definition; `read_next` takes no such code for a call.
-const ROWS: [Row; 9] = [NONE, FILE, BYTE, FILE, BYTE, FILE, BYTE, BUFFER, FILE];
+const ROWS: [Row; 10] = [
+    NONE,
+    FILE,
+    BYTE,
+    FILE,
+    BYTE,
+    FILE,
+    BYTE,
+    BUFFER,
+    FILE,
+    FILE_AND_BUFFER,
+];
 
 fn row_at(code: u8) -> Row
     ensures { IsRow (row_at code) result }
@@ -102,7 +119,7 @@ pub fn read_next(s: &[u8], room: usize) -> Option<Next>
     let at = from + len;
     let lend = length_at(s, r.buffers, at);
     let used = at + r.buffers * 4;
-    if (1 <= code) & (code < 9) & (used <= s.len()) & (r.buffers * 5 + lend <= room) {
+    if (1 <= code) & (code < 10) & (used <= s.len()) & (r.buffers * 5 + lend <= room) {
         return Some(Next {
             code,
             byte: laws::byte(s, 1),

@@ -7,7 +7,7 @@ use Rattle.std.specs.Prelude.{Result, Ok, Err, IsErrAnd}
 use Rattle.files.specs.Refusal.{refused}
 use Rattle.fields.specs.Refusal.{answer_of, number_of, refusal_number}
 use Rattle.fields.specs.declared.Refusal.{Refusal}
-use Rattle.fields.specs.declared.Refusal.TheVariants.{Cut, Misplaced, Layout, Count, Order, Unknown, Parent, Whole, Bound, Place, Buffer, Empty, NoWitness, Grammar, Undeclared}
+use Rattle.fields.specs.declared.Refusal.TheVariants.{Cut, Misplaced, Layout, Count, Order, Unknown, Parent, Whole, Bound, Place, Buffer, Empty, NoWitness, Grammar, Undeclared, Limit}
 
 -- no refusal has the number 0, which stands for none
 pub numbered : (r : Refusal) → 0 < number_of r
@@ -26,6 +26,7 @@ numbered Empty = omega arith
 numbered NoWitness = omega arith
 numbered Grammar = omega arith
 numbered Undeclared = omega arith
+numbered Limit = omega arith
 
 -- what a `?` passes on
 pub passed-on : {T A : Type 0} (f : T → A) (r : Result T Refusal) (e : Refusal) → IsErrAnd r (λ y. y ≡ e) → answer_of f r ≡ refused (number_of e)

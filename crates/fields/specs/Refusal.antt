@@ -3,7 +3,7 @@
 use Rattle.std.specs.Prelude.{ℕ, Result, Ok, Err}
 use Rattle.files.specs.Refusal.{Answer, accepted, refused}
 use Rattle.fields.specs.declared.Refusal.{Refusal}
-use Rattle.fields.specs.declared.Refusal.TheVariants.{Cut, Misplaced, Layout, Count, Order, Unknown, Parent, Whole, Bound, Place, Buffer, Empty, NoWitness, Grammar, Undeclared}
+use Rattle.fields.specs.declared.Refusal.TheVariants.{Cut, Misplaced, Layout, Count, Order, Unknown, Parent, Whole, Bound, Place, Buffer, Empty, NoWitness, Grammar, Undeclared, Limit}
 
 abbrev pub number_of : Refusal → ℕ
 number_of Cut = 1
@@ -21,6 +21,7 @@ number_of Empty = 21
 number_of NoWitness = 22
 number_of Grammar = 23
 number_of Undeclared = 24
+number_of Limit = 25
 
 -- 0 where it is accepted
 abbrev pub refusal_number : {T : Type 0} → Result T Refusal → ℕ

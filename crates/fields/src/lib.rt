@@ -35,7 +35,7 @@ pub enum Refusal {
     Bound = 9,
     // A place above 1.
     Place = 10,
-    // A buffer for the witness that is too short.
+    // A lent buffer that is too short.
     Buffer = 20,
     // A place that the call needs is empty.
     Empty = 21,
@@ -45,6 +45,8 @@ pub enum Refusal {
     Grammar = 23,
     // A text with a parent or an end that is not declared.
     Undeclared = 24,
+    // A finite limit above 100 in an edition 2 file that is to become edition 1.
+    Limit = 25,
 }
 
 impl Refusal {

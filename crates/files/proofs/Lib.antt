@@ -23,3 +23,7 @@ pub mod DiagramSize
 pub mod AcceptedBytes
 pub mod AncestorLaws
 pub mod OneLayout
+pub mod NarrowLaws
+pub mod EditionSizes
+pub mod ConvertLaws
+pub mod ConvertRefusals

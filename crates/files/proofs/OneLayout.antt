@@ -16,7 +16,7 @@ use borrow.Author.Tests.{eqb-true, leb-true, ltb-true}
 use Rattle.laws.specs.Connective.{both, imp}
 use Rattle.files.specs.Content.{at_end, byte, name_in, past_name, starts_name}
 use Rattle.files.specs.DiagramLayout.{association_laid, end_laid, past_end}
-use Rattle.files.specs.Limit.{limit_at, limit_written, limits_laid}
+use Rattle.files.specs.Limit.{limit_at, limit_written, limits_laid, most_of}
 use Rattle.files.specs.Name.{name_byte, valid_name}
 use Rattle.laws.proofs.BoundedLaws.{all-at}
 use Rattle.laws.proofs.ConnectiveLaws.{both_left, both_right, either-cases}
@@ -75,14 +75,14 @@ wide-end : (c : List ℕ) → end_laid 2 c ≡ true → Wide c
 unfolding end_laid limits_laid limit_at limit_written imp
 wide-end c h =
     let limits = both_left _ _ h in
-    let low-small : byte c 1 * 256 + byte c 2 ≤ 4000 = leb-true _ 4000 (both_left _ _ limits) in
+    let low-fits : byte c 1 * 256 + byte c 2 ≤ most_of 2 = leb-true _ (most_of 2) (both_left _ _ limits) in
     let written : byte c 4 < 256 = ltb-true _ 256 (both_right _ _ (both_left _ _ (both_right _ _ h))) in
     record {
       low = λ p. let least : 48 ≤ byte c 1 = p.0 in omega arith;
       up = λ p.
           let least : 48 ≤ byte c 3 = p.0 in
           let most : byte c 3 ≤ 122 = p.1 in
-          ⊎_elim (λ q. let small : byte c 3 * 256 + byte c 4 ≤ 4000 = leb-true _ 4000 (both_left _ _ q) in omega arith)
+          ⊎_elim (λ q. let fits : byte c 3 * 256 + byte c 4 ≤ most_of 2 = leb-true _ (most_of 2) (both_left _ _ q) in omega arith)
           (λ q. let none : byte c 3 * 256 + byte c 4 ≡ 65535 = eqb-true _ 65535 q in omega arith) (either-cases _ _ (both_right _ _ limits));
       role = named (drop 5 c) (both_right _ _ (both_right _ _ h));
     }

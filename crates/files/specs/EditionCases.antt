@@ -5,7 +5,7 @@ use Rattle.laws.specs.Lists.{joined}
 use Rattle.files.specs.FileCases.{FileCase, diagrams_right}
 
 -- edition e, class A, and these fields
-abbrev with_class : ℕ → List ℕ → List ℕ
+abbrev pub with_class : ℕ → List ℕ → List ℕ
 with_class e fields = 0x10 ∷ 0 ∷ 1 ∷ e ∷ 0x30 ∷ 0 ∷ 4 ∷ 0 ∷ 1 ∷ 0x41 ∷ 0 ∷ fields
 
 -- 16 associations of edition 2

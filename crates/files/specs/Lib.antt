@@ -17,3 +17,6 @@ pub mod WellFormedRecord
 pub mod WellFormedDiagram
 pub mod FileCases
 pub mod EditionCases
+pub mod EditionFields
+pub mod Convert
+pub mod ConvertCases

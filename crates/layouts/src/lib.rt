@@ -102,7 +102,7 @@ pub fn attribute_laid(c: &[u8]) -> bool
 }
 
 // The largest finite limit of an edition.
-fn most_of(edition: u8) -> u16
+pub fn most_of(edition: u8) -> u16
     ensures { result ≡ most_of edition }
 {
     if edition == 2 { 4000 } else { 100 }

@@ -6,7 +6,7 @@ use mathlib.Core.Bool.{false, true≢false}
 use mathlib.Core.List.{List, [], ◌++◌, ◌∷◌, append_assoc}
 use mathlib.Core.Logic.{◌↔◌, ⊎_elim}
 use mathlib.Core.Option.{Option, none, some}
-use mathlib.Core.Path.{◌∙◌, ◌≡◌, ap, refl, subst, sym}
+use mathlib.Core.Path.{◌∙◌, ◌≡◌, ap, ap₂, refl, subst, sym}
 use lib.ListN.{drop, length, take}
 use Rattle.laws.specs.Lists.{over}
 use Rattle.laws.proofs.OverLaws.{drop-over, take-over}
@@ -16,21 +16,24 @@ use Rattle.files.specs.Field.{rows}
 use Rattle.files.specs.Record.{Record}
 use Rattle.files.specs.RecordFile.{read_record}
 use Rattle.files.specs.Refusal.{Answer, accepted, refused}
+use Rattle.files.proofs.AnswerLaws.{by_answer}
 use Rattle.files.proofs.RefusalLaws.{Within, diagram-refusals}
 use Rattle.texts.specs.ReadText.{read_text}
 use Rattle.texts.proofs.ReadTextLaws.{text-refused}
 use Rattle.smallest_records.specs.Difference.{Gap}
 use Rattle.smallest_records.specs.Smallest.{Chooses}
-use Rattle.steps.specs.Bench.{Bench, Compare, fresh, Evaluate, HandOut, Judge, Outcome, Reply, difference, done, first_false, gives, is_refusal, no_difference, place_of, refusal, rule, with_witness, written}
-use Rattle.steps.specs.Effect.{effect}
+use Rattle.steps.specs.Bench.{Bench, Compare, Convert, fresh, Evaluate, HandOut, Judge, Outcome, Reply, difference, done, first_false, gives, is_refusal, no_difference, place_of, refusal, rule, with_witness, written}
+use Rattle.steps.specs.Demands.{ConvertedTo}
+use Rattle.steps.specs.Effect.{effect, lent}
 use Rattle.steps.specs.HandedOut.{HandedOut}
 use Rattle.steps.specs.Row.{Event, Row}
 use Rattle.steps.specs.Step.{Choosing, Step, differs, handed_out, placed, saying, settling, writing}
+use Rattle.steps.proofs.ConverterLaws as converter_laws
 use Rattle.steps.proofs.Demands as steps
 use Rattle.steps.proofs.RowLaws.{row_at}
-use Rattle.steps.proofs.StepLaws.{by_answer, compared-within, evaluate-accepted, judge-accepted, judge-refused, placed-accepted, placed-refused, replied}
+use Rattle.steps.proofs.StepLaws.{compared-within, evaluate-accepted, judge-accepted, judge-refused, placed-accepted, placed-refused, replied}
 use Rattle.coding.specs.ReplyBytes.{bytes_by, four, head_bytes, outcome_bytes, parts_of, reply_bytes}
-use Rattle.replay.specs.Demands.{BytesDemandThree, BytesDemandTwo, BytesSameHeads, EachReplied, HandedBytes, ReplayRuns}
+use Rattle.replay.specs.Demands.{BytesConverter, BytesDemandThree, BytesDemandTwo, BytesSameHeads, EachReplied, GivenBytes, HandedBytes, ReplayRuns, refused_bytes}
 use Rattle.replay.specs.Replays.{CodesRow, row_bytes}
 use Rattle.replay.proofs.RowLaws.{replays-row}
 
@@ -171,7 +174,7 @@ handed-bytes S n c buffer p s l h =
     let k = wrote c buffer a (subst (λ (q : Outcome). is_refusal q.reply ≡ false) s (h.enough l)) in
     let e : p.reply ≡ written k.0 = replied s ∙ k.1 in
     let is : outcome_bytes (HandOut buffer) p ≡ head_bytes (written k.0) ++ p.buffer = ap (λ (r : Reply). head_bytes r ++ p.buffer) e in
-    subst (HandedBytes S n buffer) (sym is) (record { m = k.0; head = refl; given = h.given k.0 e; untouched = (h.untouched k.0 e).0 })
+    subst (HandedBytes S n buffer) (sym is) (record { m = k.0; head = refl; given = h.given k.0 e; untouched = (h.untouched k.0 e).0; size = let q = (h.untouched k.0 e).1 in omega arith })
 
 pub demand-three : BytesDemandThree
 demand-three b old new eo en bound h o s =
@@ -183,6 +186,43 @@ demand-three b old new eo en bound h o s =
       otherwise = λ i. let k = all.otherwise (λ q. i (none-iff.1 q)) in (k.0, (some-iff k.0).1 k.1);
       least = λ n i. all.least n ((some-iff n).0 i);
       handed-out = λ n i es c row k buffer l p t. handed-bytes (Gap old new) n c buffer p t l (all.handed-out n ((some-iff n).0 i) es c row k buffer p t);
+    }
+
+-- ---- the converter
+
+module _ (b : Bench) (file buffer : List ℕ) (o : Outcome) (s : Step b (Convert file buffer) o) where
+  -- refused, the buffer is as it came
+  refused-lent : (n : ℕ) → o.reply ≡ refusal n → outcome_bytes (Convert file buffer) o ≡ refused_bytes n buffer
+  unfolding outcome_bytes bytes_by effect head_bytes parts_of is_refusal lent
+  refused-lent n e =
+      let left : o.buffer ≡ buffer = (steps.demand-one b (Convert file buffer) o s).buffer (ap is_refusal e) in
+      ap₂ (λ (r : Reply) (xs : List ℕ). head_bytes r ++ xs) e left
+
+  given-bytes : (m : ℕ) → o.reply ≡ written m → ConvertedTo file buffer m o → GivenBytes file buffer (outcome_bytes (Convert file buffer) o)
+  unfolding outcome_bytes bytes_by effect head_bytes parts_of four
+  given-bytes m e c =
+      let is : outcome_bytes (Convert file buffer) o ≡ head_bytes (written m) ++ o.buffer = ap (λ (r : Reply). head_bytes r ++ o.buffer) e in
+      subst (GivenBytes file buffer) (sym is) (record {
+        m = m;
+        head = refl;
+        read-back = c.read-back;
+        edition = c.edition;
+        long = c.long;
+        untouched = c.behind;
+        size = let q = c.size in omega arith;
+        again = λ d second p l t.
+            let q = c.again d second p l t in
+            (ap (λ (r : Reply). take 5 (head_bytes r ++ p.buffer)) q.0, q.1);
+      })
+
+pub converter : BytesConverter
+converter b file buffer o s =
+    let all = converter_laws.converter b file buffer o s in
+    record {
+      own = λ n e. refused-lent b file buffer o s n (all.own n e);
+      too-wide = λ w. refused-lent b file buffer o s 25 (all.too-wide.1 w);
+      short = λ w l. refused-lent b file buffer o s 20 (all.buffer-short.1 (w, l));
+      gives = λ w l. let g = all.gives.1 (w, l) in given-bytes b file buffer o s g.0 g.1 (all.result g.0 g.1);
     }
 
 pub same-heads : BytesSameHeads

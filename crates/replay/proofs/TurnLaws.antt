@@ -5,7 +5,7 @@ use Prim.Native.Nat.{ℕ, ◌*◌, ◌+◌, ◌<◌, ◌≤◌}
 use native.Mathlib.Decide.{dec_le}
 use native.Mathlib.Omega.{arith}
 use mathlib.Core.List.{List, [], ◌++◌}
-use mathlib.Core.Logic.{◌≢◌}
+use mathlib.Core.Logic.{◌⊎◌, ◌≢◌}
 use mathlib.Core.Path.{◌≡◌, refl, sym, ap, ◌∙◌, subst}
 use lib.ListN.{length, take, drop, length-append, length-drop, length-take}
 use borrow.Rule.Slice.PartMut.{put_mid}
@@ -22,10 +22,10 @@ use Rattle.bench.specs.declared.Listed.{Listed}
 use Rattle.bench.specs.declared.Replied.{Replied}
 use Rattle.std.specs.Prelude.{Option, None, Some}
 use Rattle.coding.specs.declared.Next.{Next}
-use Rattle.coding.specs.CallBytes.{call, call_of, next_of, operands_of, read_call, row_at}
+use Rattle.coding.specs.CallBytes.{call, call_of, next_of, operands_of, read_call}
 use Rattle.coding.specs.Puts.{Puts}
 use Rattle.coding.specs.ReplyBytes.{bytes_by, head_bytes, outcome_bytes, reply_bytes}
-use Rattle.coding.proofs.CallLaws.{Whole, lends-none, read-call, read-halt, whole-call}
+use Rattle.coding.proofs.CallLaws.{Whole, lends-none, lends-some, read-call, read-halt, whole-call}
 use Rattle.coding.proofs.ReplyLaws.{five-bytes}
 use Rattle.replay.specs.Replays.{Replays, full, goes, halts}
 use Rattle.replay.specs.Turned.{Turned, Went, Wrote}
@@ -82,16 +82,16 @@ module _ (b : Bench) (s room : List ℕ) {y : Option Next} (e : y ≡ next_of s 
   called k q = read-call s room e n some ∙ ap (λ (j : ℕ). call (call_of j (operands_of s room n)) (drop n.used s)) q
 
   -- a call that is lent no buffer
-  pub turned_plain : (x : Option Turn) (after : List ℕ) {file rest : List ℕ} {d : Replied} → n.code ≢ 7 → rest ≡ drop n.from s → file ≡ take n.len rest
+  pub turned_plain : (x : Option Turn) (after : List ℕ) {file rest : List ℕ} {d : Replied} → n.code ≢ 7 → n.code ≢ 9 → rest ≡ drop n.from s → file ≡ take n.len rest
       → ((buffer : List ℕ) → Does b (call_of n.code (record { byte = n.byte; file = file; buffer = buffer })) d [])
       → Wrote n.used (reply_bytes (reply_of d.reply [])) room x after → Turned b s room x d.bench after
   unfolding outcome_bytes bytes_by
-  turned_plain x after {d = d} not-lent er ef does q =
+  turned_plain x after {d = d} not-7 not-9 er ef does q =
       let o = operands_of s room n in
       let c = call_of n.code o in
       let did : Does b c d [] = subst (λ (f : List ℕ). Does b (call_of n.code (record { byte = n.byte; file = f; buffer = o.buffer })) d []) (ef ∙ ap (take n.len) er) (does o.buffer) in
       turned b s room after c _ n.used (read-call s room e n some) did.step all.some all.little d.bench refl
-      (reply_bytes (reply_of d.reply [])) (rw (lends-none n.code o all.known not-lent)) x q
+      (reply_bytes (reply_of d.reply [])) (rw (lends-none n.code o all.known not-7 not-9)) x q
 
   -- compile: its list stands beside its reply
   pub turned-compile : (x : Option Turn) (after : List ℕ) {d : Listed} → n.code ≡ 4 → DoesWith b (steps.Compile n.byte) d
@@ -101,15 +101,18 @@ module _ (b : Bench) (s room : List ℕ) {y : Option Next} (e : y ≡ next_of s 
       turned b s room after (steps.Compile n.byte) _ n.used (called 4 k) does.step all.some all.little
       d.bench refl (reply_bytes (reply_of d.reply d.list)) refl x q
 
-  pub lend-fits : n.code ≡ 7 → 5 + n.lend ≤ length room
-  lend-fits k = subst (λ (j : ℕ). (row_at j).buffers * 5 + n.lend ≤ length room) k all.fits
+  pub lend-fits : (n.code ≡ 7) ⊎ (n.code ≡ 9) → 5 + n.lend ≤ length room
+  lend-fits k = subst (λ (j : ℕ). j * 5 + n.lend ≤ length room) (lends-some n.code (operands_of s room n) k).one all.fits
 
-  -- hand out: the buffer that it was lent lies behind its own first five bytes
-  pub turned-hand-out : (after es mid : List ℕ) (k : ℕ) (m : Option ℕ) (d : Replied) → n.code ≡ 7 → k ≡ n.lend → length (put_mid 5 k room es) ≡ length room
-      → Does b (steps.HandOut (take k (drop 5 room))) d es → mid ≡ put_mid 5 k room es → Puts (head_bytes (reply_of d.reply [])) mid m after
+  -- a call that is lent a buffer: it lies behind the reply's own first five bytes
+  pub turned-lent : (after es mid : List ℕ) (k : ℕ) (m : Option ℕ) (d : Replied) {file rest : List ℕ} → (n.code ≡ 7) ⊎ (n.code ≡ 9) → k ≡ n.lend
+      → length (put_mid 5 k room es) ≡ length room → rest ≡ drop n.from s → file ≡ take n.len rest
+      → ((byte : ℕ) → Does b (call_of n.code (record { byte = byte; file = file; buffer = take k (drop 5 room) })) d es)
+      → mid ≡ put_mid 5 k room es → Puts (head_bytes (reply_of d.reply [])) mid m after
       → Turned b s room (Some (record { used = n.used; wrote = 5 + n.lend })) d.bench after
-  unfolding call_of outcome_bytes bytes_by effect
-  turned-hand-out after es mid k m d code kn len does em p =
+  unfolding outcome_bytes bytes_by
+  turned-lent after es mid k m d {file} code kn len er ef does em p =
+      let o = operands_of s room n in
       let fits = lend-fits code in
       let hs = head_bytes (reply_of d.reply []) in
       let five = five-bytes (reply_of d.reply []) in
@@ -128,7 +131,9 @@ module _ (b : Bench) (s room : List ℕ) {y : Option Next} (e : y ≡ next_of s 
       let total : length mid ≡ length room = ap length em ∙ len in
       let bytes : after ≡ over (hs ++ es) room =
       (p.fits (omega (arith, five, total, fits))).1 ∙ ap (over hs) (em ∙ ap (λ (j : ℕ). put_mid 5 j room es) kn) ∙ over-mid hs es room 5 n.lend five size fits in
-      turned-fits b s room after (steps.HandOut (take k (drop 5 room))) _ n.used
-      (called 7 code ∙ ap (λ (j : ℕ). call (steps.HandOut (take j (drop 5 room))) (drop n.used s)) (sym kn)) does.step all.some all.little
-      d.bench refl (hs ++ es) refl (record { used = n.used; wrote = 5 + n.lend }) refl
+      let did : Does b (call_of n.code o) d es =
+      subst (λ (f : List ℕ). Does b (call_of n.code (record { byte = n.byte; file = f; buffer = o.buffer })) d es) (ef ∙ ap (take n.len) er)
+      (subst (λ (j : ℕ). Does b (call_of n.code (record { byte = n.byte; file = file; buffer = take j (drop 5 room) })) d es) kn (does n.byte)) in
+      turned-fits b s room after (call_of n.code o) _ n.used (read-call s room e n some) did.step all.some all.little
+      d.bench refl (hs ++ es) (rw ((lends-some n.code o code).lends)) (record { used = n.used; wrote = 5 + n.lend }) refl
       (omega (arith, whole, fits)) (sym whole) bytes

@@ -1,14 +1,16 @@
 -- The demands, of the one function on bytes: what its replies say of the files that stand in the list of calls. Demand 1 is the contract
 -- itself: the replies are those of a row of steps from the fresh bench (`Ran`), and a step is defined for every call. The row can be
--- taken apart at any call, and so can the replies (`RepliedAt`); demands 2 and 3 are those of that call's step, with its reply in bytes.
+-- taken apart at any call, and so can the replies (`RepliedAt`); demands 2 and 3, and what 02 promises
+-- besides, are those of that call's step, with its reply in bytes.
 -- Assumes nothing.
-use Rattle.std.specs.Prelude.{◌<◌, ◌≤◌, ℕ, true, List, [], ◌++◌, ◌∷◌, ◌↔◌, ◌≡◌, drop, length, take}
+use Rattle.std.specs.Prelude.{◌+◌, ◌<◌, ◌≤◌, ℕ, true, List, [], ◌++◌, ◌∷◌, ◌↔◌, ◌≡◌, drop, length, take}
 use Rattle.std.proofs.Math.Option.{some}
+use Rattle.files.specs.Convert.{TooWide, other_edition}
 use Rattle.files.specs.Diagram.{Diagram}
-use Rattle.files.specs.DiagramFile.{read_diagram}
+use Rattle.files.specs.DiagramFile.{edition_in, read_diagram}
 use Rattle.files.specs.Record.{Record, object_count}
 use Rattle.files.specs.RecordFile.{read_record}
-use Rattle.files.specs.Refusal.{accepted}
+use Rattle.files.specs.Refusal.{accepted, refused}
 use Rattle.texts.specs.Grammar.{Belongs, Tree}
 use Rattle.texts.specs.TextChecks.{text_refusal}
 use Rattle.rules.specs.Compile.{compile, compiled_bytes}
@@ -17,8 +19,8 @@ use Rattle.rules.specs.LinkRules.{rule6, rule7, rule8}
 use Rattle.rules.specs.Site.{site_of}
 use Rattle.rules.specs.WholeRule.{rule9}
 use Rattle.smallest_records.specs.Difference.{Gap}
-use Rattle.steps.specs.Bench.{Bench, Compare, Compile, Evaluate, HandOut, Judge, Load, LoadText, Outcome, fresh, place_of}
-use Rattle.steps.specs.Demands.{LowestBroken, Smallest, TextRefused}
+use Rattle.steps.specs.Bench.{Bench, Compare, Compile, Convert, Evaluate, HandOut, Judge, Load, LoadText, Outcome, fresh, place_of}
+use Rattle.steps.specs.Demands.{Convertible, LowestBroken, Smallest, TextRefused}
 use Rattle.steps.specs.Row.{Event, KeepsWitness, Reached, Row, RowAt}
 use Rattle.steps.specs.Step.{Step}
 use Rattle.coding.specs.ReplyBytes.{four, outcome_bytes}
@@ -79,6 +81,7 @@ pub record HandedBytes (S : List ℕ → Record → Type 0) (n : ℕ) (buffer re
   pub head : take 5 reply ≡ 0 ∷ four m
   pub given : (r : Record) × S (take m (drop 5 reply)) r × (object_count r ≡ n)
   pub untouched : drop m (drop 5 reply) ≡ drop m buffer
+  pub size : length reply ≡ 5 + length buffer
 
 pub record ComparedBytes (old new : Diagram) (bound : ℕ) (o : Outcome) : Type 0 where
   -- 0 and 0 exactly when no site record of at most `bound` objects is legal for old and illegal for new
@@ -94,6 +97,37 @@ abbrev pub BytesDemandThree : Type 0
 BytesDemandThree =
     (b : Bench) (old new : Diagram) → b.old ≡ some old → b.new ≡ some new
     → (bound : ℕ) → bound ≤ 8 → (o : Outcome) → Step b (Compare bound) o → ComparedBytes old new bound o
+
+-- ---- 02 4/12: "A converter writes an edition 1 file as edition 2 and the other way about"
+
+-- the reply to a conversion: 0, a length m, and at the front of the buffer, m bytes long, the file in its other edition; "bytes behind it
+-- stay untouched"
+pub record GivenBytes (file buffer reply : List ℕ) : Type 0 where
+  pub m : ℕ
+  pub head : take 5 reply ≡ 0 ∷ four m
+  pub read-back : read_diagram (take m (drop 5 reply)) ≡ read_diagram file
+  pub edition : edition_in (take m (drop 5 reply)) ≡ other_edition (edition_in file)
+  pub long : length (take m (drop 5 reply)) ≡ m
+  pub untouched : drop m (drop 5 reply) ≡ drop m buffer
+  pub size : length reply ≡ 5 + length buffer
+  -- "a second conversion returns the first file's bytes"
+  pub again : (c : Bench) (second : List ℕ) (p : Outcome) → 4096 ≤ length second → Step c (Convert (take m (drop 5 reply)) second) p
+      → (take 5 (outcome_bytes (Convert (take m (drop 5 reply)) second) p) ≡ 0 ∷ four (length file))
+      × (take (length file) (drop 5 (outcome_bytes (Convert (take m (drop 5 reply)) second) p)) ≡ file)
+
+-- a refused one: its number, the length 0, and the buffer as it came
+abbrev pub refused_bytes : ℕ → List ℕ → List ℕ
+refused_bytes n buffer = n ∷ (four 0 ++ buffer)
+
+-- a file is one that the reader refuses, one that 25 does, or convertible (`ConverterGives.cases` of the steps)
+pub record ConvertedBytes (file buffer reply : List ℕ) : Type 0 where
+  pub own : (n : ℕ) → read_diagram file ≡ refused n → reply ≡ refused_bytes n buffer
+  pub too-wide : TooWide file → reply ≡ refused_bytes 25 buffer
+  pub short : Convertible file → length buffer < 4096 → reply ≡ refused_bytes 20 buffer
+  pub gives : Convertible file → 4096 ≤ length buffer → GivenBytes file buffer reply
+
+abbrev pub BytesConverter : Type 0
+BytesConverter = (b : Bench) (file buffer : List ℕ) (o : Outcome) → Step b (Convert file buffer) o → ConvertedBytes file buffer (outcome_bytes (Convert file buffer) o)
 
 -- ---- 02 2/12: "Two diagrams that differ only in ↔ against no arrowhead have no difference at any bound."
 

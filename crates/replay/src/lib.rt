@@ -1,7 +1,7 @@
 // Runs a list of calls in bytes from a fresh bench, and writes the replies in bytes: the boundary to other programs.
 #![tactic(auto)]
 
-ghost use Rattle.std.specs.Prelude.{List, [], ◌≢◌, ◌≡◌, ℕ, ◌<◌, ◌≤◌, length};
+ghost use Rattle.std.specs.Prelude.{List, [], ◌≢◌, ◌≡◌, ℕ, ◌<◌, ◌≤◌, ◌⊎◌, length};
 ghost use Rattle.bench.specs.Calls.{Does};
 ghost use Rattle.bench.specs.View.{left_by, reply_of};
 ghost use Rattle.coding.specs.CallBytes.{call_of, codes};
@@ -29,7 +29,7 @@ fn finish(r: Reply, list: &[u8], used: usize, out: &mut [u8]) -> Option<Turn>
 // Runs the call of a code, one that is lent no buffer and gives no list. The codes are those of the list of calls, whose definition goes by
 // them: an enum between them would be made of the code in `coding`, and the promise here would have to give the code back.
 fn run_call(b: &mut Bench, code: u8, byte: u8, file: &[u8]) -> Reply
-    requires { (1 ≤ code) × ((code < length codes) × ((code ≢ 4) × (code ≢ 7))) }
+    requires { (1 ≤ code) × ((code < length codes) × ((code ≢ 4) × ((code ≢ 7) × (code ≢ 9)))) }
     ensures { (buffer : List ℕ) → Does b.entry.now (call_of code (record { byte = byte; file = file.now; buffer = buffer })) (left_by b.exit.now result) [] }
 {
     match code {
@@ -42,14 +42,26 @@ fn run_call(b: &mut Bench, code: u8, byte: u8, file: &[u8]) -> Reply
     }
 }
 
+// Runs the call of a code, one that is lent a buffer.
+fn run_lent(b: &Bench, code: u8, file: &[u8], out: &mut [u8]) -> Reply
+    requires { (code ≡ 7) ⊎ (code ≡ 9) }
+    ensures { (byte : ℕ) → Does b.now (call_of code (record { byte = byte; file = file.now; buffer = out.old })) (left_by b.now result) out.new }
+{
+    match code {
+        7 => b.run_hand_out(out),
+        _ => b.run_convert(file, out),
+    }
+}
+
 // Runs the call at the front of s; none where the list of calls stops.
 fn take_turn(b: &mut Bench, s: &[u8], out: &mut [u8]) -> Option<Turn>
     ensures { Turned b.entry.now s.now out.old result b.exit.now out.new }
 {
     let n = coding::read_next(s, out.len())?;
-    if n.code == 7 {
+    let file = laws::front(laws::past(s, n.from), n.len);
+    if (n.code == 7) | (n.code == 9) {
         let lend = n.lend;
-        let reply = b.run_hand_out(&mut out[5..5 + lend]);
+        let reply = run_lent(b, n.code, file, &mut out[5..5 + lend]);
         // It fits, since there is room for the buffer behind it.
         let _head = coding::head(out, reply);
         return Some(Turn {
@@ -62,7 +74,6 @@ fn take_turn(b: &mut Bench, s: &[u8], out: &mut [u8]) -> Option<Turn>
         let list = d.list;
         return finish(d.reply, &list, n.used, out);
     }
-    let file = laws::front(laws::past(s, n.from), n.len);
     let reply = run_call(b, n.code, n.byte, file);
     finish(reply, &[], n.used, out)
 }

@@ -10,7 +10,7 @@ use Rattle.files.specs.Record.{Record, object_count}
 use Rattle.files.specs.Refusal.{Answer, accepted, refused}
 use Rattle.smallest_records.specs.Smallest.{Chooses, Fewest}
 use Rattle.smallest_records.proofs.SmallestLaws.{one-count}
-use Rattle.steps.specs.Bench.{Bench, Clear, Compare, Compile, Evaluate, HandOut, Judge, Load, LoadText, Outcome, Reply, difference, gives, with_witness}
+use Rattle.steps.specs.Bench.{Bench, Clear, Compare, Compile, Convert, Evaluate, HandOut, Judge, Load, LoadText, Outcome, Reply, difference, gives, with_witness}
 use Rattle.steps.specs.HandedOut.{OneReply}
 use Rattle.steps.specs.Step.{Choosing, compared, differs, saying}
 
@@ -41,6 +41,7 @@ one-reply b (Evaluate p file) o q s t = ap (λ (x : Outcome). x.reply) (s ∙ sy
 one-reply b (Compare bound) o q s t = choosing-one b (compared b bound) _ bound differs (by_count _ _) o q s t
 one-reply b (HandOut buffer) o q s t = ap (λ (x : Outcome). x.reply) (s ∙ sym t)
 one-reply b (LoadText p text) o q s t = ap (λ (x : Outcome). x.reply) (s ∙ sym t)
+one-reply b (Convert file buffer) o q s t = ap (λ (x : Outcome). x.reply) (s ∙ sym t)
 
 -- ---- what stands behind a reply that says n objects
 

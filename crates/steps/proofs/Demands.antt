@@ -15,6 +15,7 @@ use Rattle.files.specs.Record.{Record, object_count}
 use Rattle.files.specs.RecordBytes.{write_record}
 use Rattle.files.specs.RecordFile.{read_record}
 use Rattle.files.specs.Refusal.{Answer, accepted, refused}
+use Rattle.files.proofs.AnswerLaws.{by_answer}
 use Rattle.texts.specs.Declaration.{declarations}
 use Rattle.texts.specs.Declared.{declared}
 use Rattle.texts.specs.Grammar.{Belongs, Tree}
@@ -40,7 +41,7 @@ use Rattle.steps.proofs.EffectLaws.{leaves}
 use Rattle.steps.proofs.HandOutLaws.{hands_out}
 use Rattle.steps.proofs.HeldLaws.{reached-wf}
 use Rattle.steps.proofs.LowestLaws.{judge-lowest, one-lowest}
-use Rattle.steps.proofs.StepLaws.{by_answer, compared-within, compile-gives, evaluate-accepted, judge-accepted, judge-refused, place-settled, placed-accepted, placed-refused, replied}
+use Rattle.steps.proofs.StepLaws.{compared-within, compile-gives, evaluate-accepted, judge-accepted, judge-refused, place-settled, placed-accepted, placed-refused, replied}
 
 -- ---- demand 1
 

@@ -7,10 +7,11 @@ use mathlib.Core.List.{List, [], ◌∷◌}
 use mathlib.Core.Option.{Option, none, some}
 use mathlib.Core.Path.{◌∙◌, ◌≡◌, ap, refl, subst, sym}
 use lib.Dec.{eqb}
+use Rattle.files.specs.Convert.{converted}
 use Rattle.files.specs.Diagram.{Diagram}
 use Rattle.files.specs.Record.{Record, object_count}
 use Rattle.files.specs.Refusal.{Answer, accepted, refused}
-use Rattle.steps.specs.Bench.{Bench, Call, Clear, Compare, Compile, Evaluate, HandOut, Judge, Load, LoadText, Outcome, Reply, is_refusal, settle, with_witness}
+use Rattle.steps.specs.Bench.{Bench, Call, Clear, Compare, Compile, Convert, Evaluate, HandOut, Judge, Load, LoadText, Outcome, Reply, is_refusal, settle, with_witness}
 use Rattle.steps.specs.Effect.{Effect, at_place, at_witness, bytes_of, changes, effect, lent, new_place, old_place, witness}
 use Rattle.steps.specs.Row.{Event, KeepsWitness, Row}
 use Rattle.steps.specs.Step.{Choosing, Step, asking, clear, compared, compiled, differs, evaluated, handed_out, judged, load, load_text, saying, settling, writing}
@@ -97,6 +98,7 @@ leaves b (Evaluate p file) o s = subst (Leaves b (Evaluate p file)) (sym s) (ask
 leaves b (Compare bound) o s = choosing-leaves b _ (compared b bound) _ bound differs o refl (accepts _ _ refl (λ n. refl)) s
 leaves b (HandOut buffer) o s = subst (Leaves b (HandOut buffer)) (sym s) (writing-leaves b _ buffer (handed_out b.witness buffer) refl)
 leaves b (LoadText p text) o s = subst (Leaves b (LoadText p text)) (sym s) (settling-leaves b _ p (load_text p text) refl)
+leaves b (Convert file buffer) o s = subst (Leaves b (Convert file buffer)) (sym s) (writing-leaves b _ buffer (converted file buffer) refl)
 
 pub row_keeps : (b : Bench) (es : List Event) (c : Bench) → Row b es c → KeepsWitness es → c.witness ≡ b.witness
 row_keeps b [] c r k = ap (λ (x : Bench). x.witness) (sym r)

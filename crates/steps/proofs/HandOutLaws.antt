@@ -16,12 +16,12 @@ use Rattle.files.specs.Diagram.{Diagram}
 use Rattle.files.specs.Record.{Record, object_count}
 use Rattle.files.specs.RecordBytes.{write_record}
 use Rattle.files.specs.RecordFile.{read_record}
-use Rattle.files.specs.Refusal.{Answer, accepted, refused}
+use Rattle.files.specs.Refusal.{Answer, accepted, in_buffer, refused}
 use Rattle.smallest_records.specs.Difference.{Gap}
 use Rattle.smallest_records.proofs.SmallestLaws.{chosen-fits}
 use Rattle.steps.specs.Bench.{Bench, Outcome, difference, is_refusal, refusal, written}
 use Rattle.steps.specs.HandedOut.{HandedOut, HandsOut}
-use Rattle.steps.specs.Step.{Choosing, compared, differs, handed_out, in_bound, in_buffer, witnessing, writing}
+use Rattle.steps.specs.Step.{Choosing, compared, differs, handed_out, in_bound, witnessing, writing}
 use Rattle.steps.proofs.ChoiceLaws.{Chosen, chosen, differs-count, none-differs}
 use Rattle.steps.proofs.EffectLaws.{row_keeps}
 use Rattle.steps.proofs.StepLaws.{compared-full}

@@ -6,17 +6,18 @@ use mathlib.Core.List.{List, [], ◌∷◌}
 use mathlib.Core.Option.{Option, none, some}
 use mathlib.Core.Path.{◌≡◌, refl, subst, sym}
 use lib.Dec.{eqb, ltb}
+use Rattle.files.specs.Convert.{converted}
 use Rattle.files.specs.Diagram.{Diagram}
 use Rattle.files.specs.DiagramFile.{read_diagram}
 use Rattle.files.specs.Record.{Record}
-use Rattle.files.specs.Refusal.{Answer, accepted, refused}
+use Rattle.files.specs.Refusal.{Answer, accepted, and_then, refused}
 use Rattle.files.specs.WellFormedDiagram.{WfDiagram}
 use Rattle.files.proofs.DiagramWellFormed.{diagram-wf}
 use Rattle.texts.specs.ReadText.{read_text}
 use Rattle.texts.proofs.ReadTextLaws.{text-wf}
-use Rattle.steps.specs.Bench.{Bench, Call, Clear, Compare, Compile, Evaluate, HandOut, Judge, Load, LoadText, Outcome, Reply, place_of, settle, with_witness}
+use Rattle.steps.specs.Bench.{Bench, Call, Clear, Compare, Compile, Convert, Evaluate, HandOut, Judge, Load, LoadText, Outcome, Reply, place_of, settle, with_witness}
 use Rattle.steps.specs.Row.{Event, Reached, Row}
-use Rattle.steps.specs.Step.{Choosing, Step, and_then, asking, clear, compared, compiled, differs, evaluated, handed_out, in_place, judged, load, load_text, placed, settling, writing}
+use Rattle.steps.specs.Step.{Choosing, Step, asking, clear, compared, compiled, differs, evaluated, handed_out, in_place, judged, load, load_text, placed, settling, writing}
 
 -- the diagram is well formed where there is one
 abbrev WfPlace : Option Diagram → Type 0
@@ -85,6 +86,7 @@ step-wf b (Evaluate p file) o s v = subst (λ (q : Outcome). WfBench q.bench) (s
 step-wf b (Compare bound) o s v = choosing-wf b (compared b bound) _ bound differs o s v
 step-wf b (HandOut buffer) o s v = subst (λ (q : Outcome). WfBench q.bench) (sym s) (writing-wf b buffer (handed_out b.witness buffer) v)
 step-wf b (LoadText p text) o s v = subst (λ (q : Outcome). WfBench q.bench) (sym s) (settling-wf b p (load_text p text) (placed-wf p (read_text text) (text-wf text)) v)
+step-wf b (Convert file buffer) o s v = subst (λ (q : Outcome). WfBench q.bench) (sym s) (writing-wf b buffer (converted file buffer) v)
 
 row-wf : (b : Bench) (es : List Event) (c : Bench) → Row b es c → WfBench b → WfBench c
 row-wf b [] c r v = subst WfBench r v

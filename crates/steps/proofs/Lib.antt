@@ -5,5 +5,6 @@ pub mod HandOutLaws
 pub mod HeldLaws
 pub mod StepLaws
 pub mod LowestLaws
+pub mod ConverterLaws
 pub mod Demands
 pub mod HeadCases

@@ -11,17 +11,12 @@ use borrow.Author.Tests.{le-ltb}
 use Rattle.files.specs.Diagram.{Diagram}
 use Rattle.files.specs.Record.{Record}
 use Rattle.files.specs.RecordFile.{read_record}
-use Rattle.files.specs.Refusal.{Answer, accepted, refused}
+use Rattle.files.specs.Refusal.{Answer, accepted, and_then, refused}
 use Rattle.rules.specs.Compile.{compile, compiled_bytes}
 use Rattle.rules.specs.Evaluate.{evaluate}
 use Rattle.rules.specs.Judge.{judge}
 use Rattle.steps.specs.Bench.{Bench, Outcome, done, first_false, gives, place_of, records, refusal, rule, settle}
-use Rattle.steps.specs.Step.{and_then, asking, compared, compiled, diagram_at, evaluated, in_bound, in_place, judged, needed, on_record, placed, settling}
-
--- what a file's reading gives
-pub by_answer : {A X : Type 0} (a : Answer A) → ((n : ℕ) → a ≡ refused n → X) → ((x : A) → a ≡ accepted x → X) → X
-by_answer (refused n) f g = f n refl
-by_answer (accepted x) f g = g x refl
+use Rattle.steps.specs.Step.{asking, compared, compiled, diagram_at, evaluated, in_bound, in_place, judged, needed, on_record, placed, settling}
 
 -- equal outcomes have one reply
 pub replied : {o p : Outcome} → o ≡ p → o.reply ≡ p.reply

@@ -1,4 +1,4 @@
--- 01 "The bench": the bench, its parts, its calls and their replies.
+-- 01 "The bench", 02 1/12 and 4/12: the bench, its parts, its calls and their replies.
 -- Assumes nothing.
 use Rattle.std.specs.Prelude.{ℕ, Bool, cond, false, true, List, [], eqb}
 use Rattle.std.proofs.Math.Option.{Option, none}
@@ -26,6 +26,7 @@ pub data Call : Type 0 where
   Compare : ℕ → Call  -- bound
   HandOut : List ℕ → Call  -- what the buffer holds
   LoadText : ℕ → List ℕ → Call  -- place, text
+  Convert : List ℕ → List ℕ → Call  -- diagram file, what the buffer holds
 
 pub data Reply : Type 0 where
   done : Reply  -- the two loads and clear: "accepted"
@@ -34,7 +35,7 @@ pub data Reply : Type 0 where
   first_false : ℕ → Reply  -- evaluate
   no_difference : Reply
   difference : ℕ → Reply  -- "with the object count"
-  written : ℕ → Reply  -- hand out: the length
+  written : ℕ → Reply  -- hand out and convert: the length
   refusal : ℕ → Reply  -- "it returns only its number"
 
 unfoldable pub is_refusal : Reply → Bool

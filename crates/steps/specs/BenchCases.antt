@@ -5,15 +5,16 @@ use Rattle.std.specs.Prelude.{ℕ, true, List, [], ◌++◌, ◌∷◌, map, ◌
 use Rattle.std.proofs.Math.Option.{Option, none, some}
 use Rattle.laws.specs.Lists.{over}
 use Rattle.files.specs.Content.{name_bytes}
+use Rattle.files.specs.ConvertCases.{converted_of, up_of_101}
 use Rattle.files.specs.Field.{field}
 use Rattle.files.specs.FileCases.{diagram_file, record_file}
 use Rattle.files.specs.Record.{Record}
 use Rattle.files.specs.RecordBytes.{link_bytes, value_bytes, write_record}
-use Rattle.files.specs.Refusal.{Answer, accepted, refused}
+use Rattle.files.specs.Refusal.{Answer, accepted, and_then, in_buffer, refused}
 use Rattle.rules.specs.CompileCases.{compiled_of, same_bytes}
 use Rattle.rules.specs.Marked.{card, file_e, file_p, file_q, shelf_of_three, verdict}
 use Rattle.steps.specs.Bench.{Bench, Outcome, Reply, done, first_false, fresh, place_of, records, refusal, rule, settle, with_witness, written}
-use Rattle.steps.specs.Step.{and_then, asking, clear, compiled, diagram_at, evaluated, handed_out, in_buffer, in_place, judged, load, load_text, needed, on_record, placed, settling, witnessing, writing}
+use Rattle.steps.specs.Step.{asking, clear, compiled, diagram_at, evaluated, handed_out, in_place, judged, load, load_text, needed, on_record, placed, settling, witnessing, writing}
 
 abbrev pub held : Answer Record → Option Record
 held (refused n) = none
@@ -24,6 +25,9 @@ loaded b p file = settling b p (load p file)
 
 abbrev pub handed : Bench → List ℕ → Outcome
 handed b buffer = writing b buffer (handed_out b.witness buffer)
+
+abbrev pub converted_on : Bench → List ℕ → List ℕ → Outcome
+converted_on b file buffer = writing b buffer (converted_of file buffer)
 
 -- P and Q are loaded, then compare found the Shelf with three Cards
 abbrev pub loaded_p : Bench
@@ -73,10 +77,17 @@ outcomes =
     (refusal 22, handed (settling behind_difference 0 (clear 0)).bench (replicate 60000 7)) ∷
     (refusal 22, handed (settling behind_difference 1 (clear 1)).bench (replicate 60000 7)) ∷
     (refusal 22, handed (loaded behind_difference 1 file_q).bench (replicate 60000 7)) ∷
+    -- 02 4/12: from the fresh bench, then behind "difference", where the witness stays
+    (written 4, converted_on fresh file_e (replicate 4096 7)) ∷
+    (refusal 20, converted_on fresh file_e (replicate 4095 7)) ∷
+    (written 52, converted_on behind_difference file_p (replicate 4096 7)) ∷
+    (refusal 1, converted_on behind_difference (0x10 ∷ 0 ∷ 1 ∷ []) (replicate 4096 7)) ∷
+    (refusal 25, converted_on behind_difference up_of_101 (replicate 10 7)) ∷
+    (written 70, handed (converted_on behind_difference file_p (replicate 4096 7)).bench (replicate 60000 7)) ∷
     []
 
 pub outcomes-right : map (λ x. x.1.reply) outcomes ≡ map (λ x. x.0) outcomes
-unfolding asking settling writing placed clear on_record compiled handed_out in_place needed diagram_at and_then witnessing in_buffer settle with_witness place_of over diagram_file record_file verdict compiled_of write_record value_bytes link_bytes name_bytes field
+unfolding asking settling writing placed clear on_record compiled handed_out in_place needed diagram_at and_then witnessing in_buffer settle with_witness place_of over diagram_file record_file converted_of verdict compiled_of write_record value_bytes link_bytes name_bytes field
 outcomes-right = refl
 
 -- hand out writes the file itself at the front, and leaves the rest

@@ -1,13 +1,14 @@
--- The three demands, of the bench's calls as 01 has them. What is said of files, rules, predicates and differences is said by the
+-- The three demands, of the bench's calls as 01 has them, and what 02 promises of calls besides. What is said of files, rules, predicates and differences is said by the
 -- definitions that follow 01. The bench in memory and the list of calls in bytes are held to these.
 -- Assumes nothing.
-use Rattle.std.specs.Prelude.{◌<◌, ◌≤◌, suc, ℕ, Bool, false, true, List, [], ◌∷◌, ◌↔◌, ◌⊎◌, ◌≡◌, get_or, length}
+use Rattle.std.specs.Prelude.{◌<◌, ◌≤◌, suc, ℕ, Bool, false, true, List, [], ◌∷◌, ◌↔◌, ◌⊎◌, ◌≡◌, drop, get_or, length, take}
 use Rattle.std.proofs.Math.Option.{some}
+use Rattle.files.specs.Convert.{TooWide, other_edition}
 use Rattle.files.specs.Diagram.{Diagram}
-use Rattle.files.specs.DiagramFile.{read_diagram}
+use Rattle.files.specs.DiagramFile.{edition_in, read_diagram}
 use Rattle.files.specs.Record.{Record, object_count}
 use Rattle.files.specs.RecordFile.{read_record}
-use Rattle.files.specs.Refusal.{accepted}
+use Rattle.files.specs.Refusal.{accepted, refused}
 use Rattle.texts.specs.Declaration.{declarations}
 use Rattle.texts.specs.Declared.{declared}
 use Rattle.texts.specs.Grammar.{Belongs, Tree}
@@ -20,8 +21,8 @@ use Rattle.rules.specs.TypeRules.{rule1, rule2}
 use Rattle.rules.specs.ValueRules.{rule3, rule4}
 use Rattle.rules.specs.WholeRule.{rule9}
 use Rattle.smallest_records.specs.Difference.{Gap}
-use Rattle.steps.specs.Bench.{Bench, Call, Compare, Compile, Evaluate, HandOut, Judge, Load, LoadText, Outcome, difference, done, first_false, is_refusal, no_difference, place_of, records, refusal, rule}
-use Rattle.steps.specs.Effect.{lent}
+use Rattle.steps.specs.Bench.{Bench, Call, Compare, Compile, Convert, Evaluate, HandOut, Judge, Load, LoadText, Outcome, difference, done, first_false, is_refusal, no_difference, place_of, records, refusal, rule, written}
+use Rattle.steps.specs.Effect.{changes, lent, witness}
 use Rattle.steps.specs.HandedOut.{HandedOut}
 use Rattle.steps.specs.Row.{Event, KeepsWitness, Reached, Row}
 use Rattle.steps.specs.Step.{Step}
@@ -101,6 +102,42 @@ abbrev pub DemandThree : Type 0
 DemandThree =
     (b : Bench) (old new : Diagram) → b.old ≡ some old → b.new ≡ some new
     → (bound : ℕ) → bound ≤ 8 → (o : Outcome) → Step b (Compare bound) o → NoneOverlooked old new bound o
+
+-- ---- 02 4/12: "A converter writes an edition 1 file as edition 2 and the other way about"
+
+-- refused neither by "the file's own refusals" nor by 25
+abbrev pub Convertible : List ℕ → Type 0
+Convertible file = ((d : Diagram) × (read_diagram file ≡ accepted d)) × (TooWide file → ⊥)
+
+-- the first n bytes of the buffer are the file in its other edition
+pub record ConvertedTo (file buffer : List ℕ) (n : ℕ) (o : Outcome) : Type 0 where
+  -- "Read back, the result is the diagram that went in, limit for limit"
+  pub read-back : read_diagram (take n o.buffer) ≡ read_diagram file
+  pub edition : edition_in (take n o.buffer) ≡ other_edition (edition_in file)
+  -- "a second conversion returns the first file's bytes", on any bench and whatever its buffer holds
+  pub again : (c : Bench) (second : List ℕ) (p : Outcome) → 4096 ≤ length second → Step c (Convert (take n o.buffer) second) p
+      → (p.reply ≡ written (length file)) × (take (length file) p.buffer ≡ file)
+  -- "The reply is the result's length"
+  pub long : length (take n o.buffer) ≡ n
+  -- "bytes behind it stay untouched"
+  pub behind : drop n o.buffer ≡ drop n buffer
+  pub size : length o.buffer ≡ length buffer
+
+pub record ConverterGives (b : Bench) (file buffer : List ℕ) (o : Outcome) : Type 0 where
+  pub result : (n : ℕ) → o.reply ≡ written n → ConvertedTo file buffer n o
+  pub gives : ((n : ℕ) × (o.reply ≡ written n)) ↔ (Convertible file × (4096 ≤ length buffer))
+  -- "25 .., after the file's own refusals; then 20 for the buffer"
+  pub own : (n : ℕ) → read_diagram file ≡ refused n → o.reply ≡ refusal n
+  pub too-wide : (o.reply ≡ refusal 25) ↔ TooWide file
+  pub buffer-short : (o.reply ≡ refusal 20) ↔ (Convertible file × (length buffer < 4096))
+  -- there is no other file
+  pub cases : ((n : ℕ) × (read_diagram file ≡ refused n)) ⊎ (TooWide file ⊎ Convertible file)
+  -- the bench is left as it came, so a conversion may stand between "difference" and a hand out
+  pub bench : o.bench ≡ b
+  pub keeps : changes (Convert file buffer) o.reply witness ≡ false
+
+abbrev pub Converter : Type 0
+Converter = (b : Bench) (file buffer : List ℕ) (o : Outcome) → Step b (Convert file buffer) o → ConverterGives b file buffer o
 
 -- ---- 02 2/12: "Two diagrams that differ only in ↔ against no arrowhead have no difference at any bound."
 

@@ -1,8 +1,8 @@
--- 01 "The bench": what a call changes. "No call changes a part of the bench that these papers don't say it changes."
+-- 01 "The bench", 02 1/12 and 4/12: what a call changes. "No call changes a part of the bench that these papers don't say it changes."
 -- Assumes nothing.
 use Rattle.std.specs.Prelude.{ℕ, Bool, ◌&&◌, false, not, true, List, [], eqb}
 use Rattle.std.proofs.Math.Option.{Option, none, some}
-use Rattle.steps.specs.Bench.{Call, Clear, Compare, Compile, Evaluate, HandOut, Judge, Load, LoadText, Reply, is_refusal}
+use Rattle.steps.specs.Bench.{Call, Clear, Compare, Compile, Convert, Evaluate, HandOut, Judge, Load, LoadText, Reply, is_refusal}
 
 -- the parts of a bench
 pub data Part : Type 0 where
@@ -40,6 +40,7 @@ effect (Evaluate p file) = record { on = nowhere; lends = none }
 effect (Compare bound) = record { on = at_witness; lends = none }
 effect (HandOut buffer) = record { on = nowhere; lends = some buffer }
 effect (LoadText p text) = record { on = at_place p; lends = none }
+effect (Convert file buffer) = record { on = nowhere; lends = some buffer }
 
 -- a refusal changes nothing
 unfoldable pub changes : Call → Reply → Part → Bool

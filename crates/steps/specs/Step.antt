@@ -1,22 +1,23 @@
--- 01 "The bench" and 02 1/12, "A second load call": what each call gives.
+-- 01 "The bench", 02 1/12, "A second load call", and 02 4/12, "A converter": what each call gives.
 -- `Step b c o`: the call c on the bench b may give o. It is an equation for each call; only compare has a free choice in it.
 -- Assumes nothing.
-use Rattle.std.specs.Prelude.{ℕ, cond, List, ◌≡◌, leb, ltb, length}
+use Rattle.std.specs.Prelude.{ℕ, cond, List, ◌≡◌, ltb, length}
 use Rattle.std.proofs.Math.Option.{Option, none, some}
 use Rattle.laws.specs.Lists.{over}
+use Rattle.files.specs.Convert.{converted}
 use Rattle.files.specs.Diagram.{Diagram}
 use Rattle.files.specs.DiagramFile.{read_diagram}
 use Rattle.files.specs.Record.{Record, object_count}
 use Rattle.files.specs.RecordBytes.{write_record}
 use Rattle.files.specs.RecordFile.{read_record}
-use Rattle.files.specs.Refusal.{Answer, accepted, refused}
+use Rattle.files.specs.Refusal.{Answer, accepted, and_then, in_buffer, refused}
 use Rattle.texts.specs.ReadText.{read_text}
 use Rattle.rules.specs.Compile.{compile, compiled_bytes}
 use Rattle.rules.specs.Evaluate.{evaluate}
 use Rattle.rules.specs.Judge.{judge}
 use Rattle.smallest_records.specs.Difference.{Gap}
 use Rattle.smallest_records.specs.Smallest.{Chooses}
-use Rattle.steps.specs.Bench.{Bench, Call, Clear, Compare, Compile, Evaluate, HandOut, Judge, Load, LoadText, Outcome, Reply, difference, done, first_false, gives, no_difference, place_of, records, refusal, rule, settle, with_witness, written}
+use Rattle.steps.specs.Bench.{Bench, Call, Clear, Compare, Compile, Convert, Evaluate, HandOut, Judge, Load, LoadText, Outcome, Reply, difference, done, first_false, gives, no_difference, place_of, records, refusal, rule, settle, with_witness, written}
 
 -- ---- what a call gives, by what it changes; "bench and buffer stay unchanged" where it is refused
 
@@ -42,11 +43,6 @@ Choosing b (accepted x) S bound says o = (w : Option Record) × Chooses (S x) bo
 
 -- ---- refusals of the calls: "Order: 9, 10, 21, then the file; 22, then 20."
 
--- the first refusal, or what follows where there is none
-unfoldable pub and_then : {A B : Type 0} → Answer A → (A → Answer B) → Answer B
-and_then (refused n) f = refused n
-and_then (accepted x) f = f x
-
 -- 9: "bound above 8"
 unfoldable pub in_bound : {A : Type 0} → ℕ → Answer A → Answer A
 in_bound bound a = cond (ltb 8 bound) (refused 9) a
@@ -68,10 +64,6 @@ diagram_at b p = in_place p (needed (place_of p b))
 unfoldable pub witnessing : {A : Type 0} → Option Record → (Record → Answer A) → Answer A
 witnessing none f = refused 22
 witnessing (some w) f = f w
-
--- 20: "hand-out buffer below 60,000 bytes"
-unfoldable pub in_buffer : {A : Type 0} → ℕ → List ℕ → Answer A → Answer A
-in_buffer least buffer a = cond (leb least (length buffer)) a (refused 20)
 
 -- ---- the calls
 
@@ -119,7 +111,7 @@ saying empty tell (some w) = tell (object_count w)
 abbrev pub differs : Option Record → Reply
 differs = saying no_difference difference
 
--- "the witness as a record file"
+-- "the witness as a record file"; 20: "hand-out buffer below 60,000 bytes"
 unfoldable pub handed_out : Option Record → List ℕ → Answer (List ℕ)
 handed_out x buffer = witnessing x (λ w. in_buffer 60000 buffer (accepted (write_record w)))
 
@@ -132,3 +124,4 @@ Step b (Evaluate p file) o = o ≡ asking b (evaluated b p file)
 Step b (Compare bound) o = Choosing b (compared b bound) (λ d. Gap d.0 d.1) bound differs o
 Step b (HandOut buffer) o = o ≡ writing b buffer (handed_out b.witness buffer)
 Step b (LoadText p text) o = o ≡ settling b p (load_text p text)
+Step b (Convert file buffer) o = o ≡ writing b buffer (converted file buffer)

@@ -3,11 +3,12 @@
 //! A check takes a seed, puts the same made-up input to both sides and panics where their answers
 //! differ, with the seed and the input; what it met on the way goes to a tally, so that a test can
 //! ask whether its input was varied enough. `tests/` runs the checks on a fixed row of seeds, its
-//! `soak.rs` on ever more of them. Worked cases have their replies in `crates/cases` and in
-//! `generators::worked_texts`.
+//! `soak.rs` on ever more of them. Worked cases have their replies in `crates/cases`, in
+//! `generators::worked_texts` and in `generators::worked_conversions`.
 
 pub mod alike;
 pub mod comparing;
+pub mod converting;
 pub mod editions;
 pub mod files;
 pub mod heads;

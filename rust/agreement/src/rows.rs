@@ -11,11 +11,13 @@ use generators::{CallPlan, DiagramPlan, Random};
 /// Nodes that the independent search may visit for a compare of a row.
 const BUDGET: u64 = 50_000;
 
-/// How often each status byte came, how many witnesses were checked and how many rows ended early.
+/// How often each status byte came, how many witnesses were checked, how many files were converted and
+/// how many rows ended early.
 #[derive(Default, Debug)]
 pub struct Tally {
-    pub statuses: [usize; 25],
+    pub statuses: [usize; 26],
     pub witnesses: usize,
+    pub converted: usize,
     pub stopped: usize,
 }
 
@@ -25,6 +27,16 @@ pub struct Both {
     product: Vec<u8>,
     independent: Vec<u8>,
     written: usize,
+}
+
+impl Both {
+    /// The product's replies where the calls leave no choice: they are the independent bench's.
+    pub fn same_replies(&self, shown: &str) -> &[u8] {
+        let got = &self.product[..self.written];
+        let same = *got == self.independent[..self.written];
+        assert!(same, "the product's replies are others\n{shown}");
+        got
+    }
 }
 
 /// Runs a list of calls on both sides; as many reply bytes must come, and what lies behind them
@@ -81,6 +93,8 @@ pub fn replies_agree(calls: &[CallPlan], both: &Both, shown: &str, tally: &mut T
                 got, wanted,
                 "the product's reply (left) is another\n{shown}"
             );
+            let is_conversion = matches!(call, CallPlan::Convert { .. });
+            tally.converted += usize::from(is_conversion && wanted[0] == 0);
         }
         start += got.len();
     }
@@ -143,6 +157,7 @@ fn name(call: &CallPlan) -> String {
         CallPlan::LoadText { place, .. } => format!("load text into {place}"),
         CallPlan::Judge { place, .. } => format!("judge by {place}"),
         CallPlan::Evaluate { place, .. } => format!("evaluate by {place}"),
+        CallPlan::Convert { room, .. } => format!("convert into {room} bytes"),
         other => format!("{other:?}"),
     }
 }

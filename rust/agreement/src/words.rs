@@ -15,7 +15,7 @@ pub fn said(reply: &Reply) -> String {
         }
         Reply::NoDifference => "no difference".to_string(),
         Reply::Difference(count) => format!("difference {count}"),
-        Reply::Written { record, .. } => format!("{} bytes", record.len()),
+        Reply::Written { file, .. } => format!("{} bytes", file.len()),
         Reply::NotWritten { refusal, .. } => format!("refused {refusal}"),
     }
 }

@@ -3,6 +3,7 @@
 use agreement::rows::{on_both_sides, replies_agree, rows_agree, Tally};
 use generators::calls::{coded, room};
 use generators::hex::bytes;
+use generators::worked_conversions::UP_101;
 use generators::CallPlan;
 
 #[test]
@@ -12,13 +13,14 @@ fn rows_of_calls_agree() {
         rows_agree(seed, &mut tally);
     }
     println!("{tally:?}");
-    for status in [0, 1, 2, 3, 9, 10, 20, 21, 22, 23, 24] {
+    for status in [0, 1, 2, 3, 9, 10, 20, 21, 22, 23, 24, 25] {
         assert!(
             tally.statuses[status] >= 30,
             "status {status} is too rare: {tally:?}"
         );
     }
     assert!(tally.witnesses >= 100, "{tally:?}");
+    assert!(tally.converted >= 300, "{tally:?}");
     assert!(tally.stopped >= 100, "{tally:?}");
 }
 
@@ -35,6 +37,10 @@ fn short_row() -> Vec<CallPlan> {
     let load_text = |place, text: &[u8]| CallPlan::LoadText {
         place,
         text: text.to_vec(),
+    };
+    let convert = |file: &[u8], room| CallPlan::Convert {
+        file: file.to_vec(),
+        room,
     };
     let file = record;
     vec![
@@ -53,6 +59,9 @@ fn short_row() -> Vec<CallPlan> {
         CallPlan::Compare { bound: 0 },
         CallPlan::Compare { bound: 1 },
         CallPlan::HandOut { room: 10 },
+        convert(&singleton, 3),
+        convert(UP_101, 2),
+        convert(&file, 0),
         CallPlan::Evaluate { place: 0, file },
         CallPlan::Compare { bound: 9 },
         CallPlan::Clear { place: 2 },
@@ -92,16 +101,30 @@ fn calls_are_cut_off_at_every_place() {
     rise_one_by_one((0..=list.len()).map(replies), &calls);
 }
 
-#[test]
-fn a_hand_out_fits_or_does_not() {
+/// The first calls of the row and this one: its reply comes in as much room as it takes, and not in
+/// one byte less.
+fn fits_or_does_not(first: usize, last: CallPlan) {
     let mut calls = short_row();
-    calls.truncate(11);
-    calls.push(CallPlan::HandOut { room: 60_000 });
+    calls.truncate(first);
+    calls.push(last);
     let list = coded(&calls);
     let whole = (0..=room(&calls)).rev();
     let exact = whole
-        .take_while(|space| same_replies(&calls, &list, *space) == 12)
+        .take_while(|space| same_replies(&calls, &list, *space) == calls.len())
         .last();
     let exact = exact.expect("all replies fit into the room for the longest");
-    assert_eq!(same_replies(&calls, &list, exact - 1), 11);
+    assert_eq!(same_replies(&calls, &list, exact - 1), first);
+}
+
+#[test]
+fn a_hand_out_fits_or_does_not() {
+    fits_or_does_not(11, CallPlan::HandOut { room: 60_000 });
+}
+
+#[test]
+fn a_conversion_fits_or_does_not() {
+    for (file, room) in [("10 00 01 01", 4_096), ("10 00 01 02", 4_095)] {
+        let file = bytes(file);
+        fits_or_does_not(14, CallPlan::Convert { file, room });
+    }
 }

@@ -2,7 +2,7 @@
 //! runs them for SOAK_MINUTES minutes.
 
 use agreement::{
-    alike, comparing, editions, files, heads, judging, rows, solving, text_pairs, texts,
+    alike, comparing, converting, editions, files, heads, judging, rows, solving, text_pairs, texts,
 };
 use std::time::{Duration, Instant, SystemTime, UNIX_EPOCH};
 
@@ -30,6 +30,7 @@ fn every_check_on_many_seeds() {
     let (mut judged, mut compared) = (judging::Tally::default(), comparing::Tally::default());
     let (mut called, mut read) = (rows::Tally::default(), texts::Tally::default());
     let (mut headed, mut in_both) = (alike::Tally::default(), alike::Tally::default());
+    let mut converted = converting::Tally::default();
     let (mut solved, mut solving_time) = (solving::Tally::default(), Duration::ZERO);
     while seed == first || start.elapsed() < Duration::from_secs(60 * minutes) {
         files::diagrams_agree(seed, &files::diagram_files(seed), &mut diagrams);
@@ -44,6 +45,7 @@ fn every_check_on_many_seeds() {
         heads::heads_do_not_matter(seed, &mut headed);
         editions::editions_do_not_matter(seed, &mut in_both);
         editions::compared_alike(seed);
+        converting::conversions_agree(seed, &converting::files(seed), &mut converted);
         rows::rows_agree(seed, &mut called);
         // The solver takes far longer than the other checks: half of the time is its share.
         if solving_time * 2 <= start.elapsed() {
@@ -65,6 +67,7 @@ fn every_check_on_many_seeds() {
     println!("comparing: {compared:?}");
     println!("heads: {headed:?}");
     println!("editions: {in_both:?}");
+    println!("converting: {converted:?}");
     println!("solving: {solved:?}");
     println!("rows: {called:?}");
 }

@@ -3,8 +3,9 @@
 use agreement::table::{cases, Case};
 use agreement::words::said;
 use agreement::worked_files::{card, e, empty, main_record, p, p_in_edition_2, q, s, shelf3, z};
-use boundary::{run, Call, Reply};
+use boundary::{decode, encode, replay, run, Call, Reply};
 use brute::{judge, read_diagram, read_record};
+use generators::worked_conversions::{conversions, UP_101};
 
 const BUFFER: Call = Call::HandOut { room: 60_000 };
 
@@ -91,19 +92,51 @@ fn compared(case: &Case) {
     let answer = case.answers[0].as_str();
     let reply = answer.split(',').next().expect("a reply");
     assert_eq!(said(&replies[2]), reply, "{}", case.name);
-    let (Reply::Difference(count), Reply::Written { record, rest }) = (&replies[2], &replies[3])
+    let (Reply::Difference(count), Reply::Written { file, rest }) = (&replies[2], &replies[3])
     else {
         assert_eq!(replies[3].refusal(), Some(22), "{}", case.name);
         return;
     };
     if let Some((_, bytes)) = answer.split_once(": ") {
-        assert_eq!(*record, generators::hex::bytes(bytes), "{}", case.name);
+        assert_eq!(*file, generators::hex::bytes(bytes), "{}", case.name);
     }
     assert!(rest.iter().all(|byte| *byte == 0), "{}", case.name);
-    let record = read_record(record).expect("a witness is a record file");
+    let record = read_record(file).expect("a witness is a record file");
     assert_eq!(record.objects.len(), usize::from(*count), "{}", case.name);
     let legal = |file: &[u8]| judge(&read_diagram(file).expect("a diagram"), &record) == 0;
     assert!(legal(old) && !legal(new), "{}", case.name);
+}
+
+/// A convert, in short.
+fn convert(file: &[u8], room: u32) -> Call<'_> {
+    Call::Convert { file, room }
+}
+
+/// The replies to some calls, as they are coded, where the room for them held these bytes before.
+fn replies_over(fill: u8, calls: &[u8], room: usize) -> Vec<u8> {
+    let mut replies = vec![fill; room];
+    assert_eq!(replay(calls, &mut replies), room);
+    replies
+}
+
+#[test]
+fn files_converted_to_the_other_edition() {
+    for (name, file, room, expected) in conversions() {
+        let calls = [convert(file, room)];
+        let room = room as usize;
+        let replies = decode(&calls, &replies_over(0xEE, &encode(&calls), 5 + room));
+        let expected = match expected {
+            Ok(written) => Reply::Written {
+                file: written.to_vec(),
+                rest: vec![0xEE; room - written.len()],
+            },
+            Err(refusal) => Reply::NotWritten {
+                refusal,
+                buffer: vec![0xEE; room],
+            },
+        };
+        assert_eq!(replies, [expected], "{name}");
+    }
 }
 
 /// Runs a row and compares each reply with its words.
@@ -179,7 +212,7 @@ fn row_3_every_buffer() {
     row(&difference(&p, &q));
     let calls: Vec<Call> = difference(&p, &q).iter().map(|(call, _)| *call).collect();
     let replies = run(&calls);
-    let (Reply::Written { record: one, .. }, Reply::Written { record: other, .. }) =
+    let (Reply::Written { file: one, .. }, Reply::Written { file: other, .. }) =
         (&replies[5], &replies[6])
     else {
         panic!("both hand outs are accepted");
@@ -272,7 +305,7 @@ fn rows_9_and_10_the_only_witness() {
     let handed_out: Vec<Vec<u8>> = run(&calls)
         .into_iter()
         .filter_map(|reply| match reply {
-            Reply::Written { record, .. } => Some(record),
+            Reply::Written { file, .. } => Some(file),
             _ => None,
         })
         .collect();
@@ -302,4 +335,49 @@ fn row_13_the_editions_are_mixed() {
     steps.push((load(1, &one), "0"));
     steps.extend([0, 1].map(|place| (Call::Compile { place }, P_COMPILED)));
     row(&steps);
+}
+
+#[test]
+fn row_14_a_conversion_keeps_the_witness() {
+    let (e, p, q) = (e(), p(), q());
+    row(&[
+        (convert(&e, 4_096), "4 bytes"),
+        (load(0, &p), "0"),
+        (load(1, &q), "0"),
+        (Call::Compare { bound: 4 }, "difference 4"),
+        (convert(&p, 4_096), "52 bytes"),
+        (convert(&[0x10, 0, 1], 4_096), "refused 1"),
+        (convert(UP_101, 10), "refused 25"),
+        (BUFFER, "70 bytes"),
+    ]);
+}
+
+#[test]
+fn row_15_a_conversion_byte_for_byte() {
+    let mut call = [9, 0, 0, 0, 4, 0x10, 0, 1, 1, 0, 0, 0x10, 0];
+    let written = replies_over(0xEE, &call, 4_101);
+    assert_eq!(written[..9], [0, 0, 0, 0, 4, 0x10, 0, 1, 2]);
+    assert_eq!(written[9..], [0xEE; 4_092]);
+    call[11..].copy_from_slice(&[0x0F, 0xFF]);
+    let refused = replies_over(0xEE, &call, 4_100);
+    assert_eq!(refused[..5], [20, 0, 0, 0, 0]);
+    assert_eq!(refused[5..], [0xEE; 4_095]);
+}
+
+#[test]
+fn row_16_a_converted_file_is_the_same_diagram() {
+    let p = p();
+    let [Reply::Written { file, .. }] = &run(&[convert(&p, 4_096)])[..] else {
+        panic!("the file is converted");
+    };
+    assert_eq!(*file, p_in_edition_2());
+    let same = (Call::Compare { bound: 8 }, "no difference");
+    row(&[
+        (load(0, file), "0"),
+        (load(1, &p), "0"),
+        same,
+        (load(0, &p), "0"),
+        (load(1, file), "0"),
+        same,
+    ]);
 }

@@ -11,6 +11,7 @@ pub enum Call<'a> {
     Compare { bound: u8 },
     HandOut { room: u32 },
     LoadText { place: u8, text: &'a [u8] },
+    Convert { file: &'a [u8], room: u32 },
 }
 
 /// Entries of a compiled list as compile replies it, those past the number included.
@@ -19,8 +20,9 @@ pub(crate) const LIST_ENTRIES: usize = 64;
 /// Bytes of one entry of a compiled list.
 pub(crate) const ENTRY_BYTES: usize = 7;
 
-/// Bytes in front of the lent buffer in a reply of hand out: the status and the length written.
-pub(crate) const HAND_OUT_HEAD: usize = 5;
+/// Bytes in front of the lent buffer in a reply of hand out or convert: the status and the length
+/// written.
+pub(crate) const LENT_HEAD: usize = 5;
 
 /// The calls as the library reads them.
 ///
@@ -36,24 +38,34 @@ pub fn encode(calls: &[Call]) -> Vec<u8> {
 /// Appends one call's code and operands.
 fn encode_one(call: &Call, coded: &mut Vec<u8>) {
     match *call {
-        Call::Load { place, file } => with_file(1, place, file, coded),
+        Call::Load { place, file } => with_place_and_file(1, place, file, coded),
         Call::Clear { place } => coded.extend([2, place]),
-        Call::Judge { place, file } => with_file(3, place, file, coded),
+        Call::Judge { place, file } => with_place_and_file(3, place, file, coded),
         Call::Compile { place } => coded.extend([4, place]),
-        Call::Evaluate { place, file } => with_file(5, place, file, coded),
+        Call::Evaluate { place, file } => with_place_and_file(5, place, file, coded),
         Call::Compare { bound } => coded.extend([6, bound]),
         Call::HandOut { room } => {
             coded.push(7);
             coded.extend(room.to_be_bytes());
         }
-        Call::LoadText { place, text } => with_file(8, place, text, coded),
+        Call::LoadText { place, text } => with_place_and_file(8, place, text, coded),
+        Call::Convert { file, room } => {
+            coded.push(9);
+            put_file(file, coded);
+            coded.extend(room.to_be_bytes());
+        }
     }
 }
 
-/// Appends a call that carries a file or a text.
-fn with_file(code: u8, place: u8, file: &[u8], coded: &mut Vec<u8>) {
-    let length = u32::try_from(file.len()).expect("a file or text of a call is shorter than 4 GiB");
+/// Appends a call that names a place and carries a file or a text.
+fn with_place_and_file(code: u8, place: u8, file: &[u8], coded: &mut Vec<u8>) {
     coded.extend([code, place]);
+    put_file(file, coded);
+}
+
+/// Appends a file or a text behind its length.
+fn put_file(file: &[u8], coded: &mut Vec<u8>) {
+    let length = u32::try_from(file.len()).expect("a file or text of a call is shorter than 4 GiB");
     coded.extend(length.to_be_bytes());
     coded.extend(file);
 }
@@ -70,7 +82,7 @@ fn room_for_one(call: &Call) -> usize {
         Call::Judge { .. } | Call::Evaluate { .. } => 2,
         Call::Compile { .. } => 2 + LIST_ENTRIES * ENTRY_BYTES,
         Call::Compare { .. } => 3,
-        Call::HandOut { room } => HAND_OUT_HEAD + room as usize,
+        Call::HandOut { room } | Call::Convert { room, .. } => LENT_HEAD + room as usize,
     }
 }
 
@@ -80,7 +92,7 @@ mod tests {
 
     #[test]
     fn each_call_has_its_code_and_operands() {
-        let cases: [(Call, &[u8]); 8] = [
+        let cases: [(Call, &[u8]); 9] = [
             (
                 Call::Load {
                     place: 1,
@@ -112,6 +124,13 @@ mod tests {
                     text: b"{}",
                 },
                 &[8, 1, 0, 0, 0, 2, b'{', b'}'],
+            ),
+            (
+                Call::Convert {
+                    file: &[0x10, 0, 1, 1],
+                    room: 4_096,
+                },
+                &[9, 0, 0, 0, 4, 0x10, 0, 1, 1, 0, 0, 0x10, 0],
             ),
         ];
         for (call, coded) in cases {
@@ -156,9 +175,10 @@ mod tests {
                 place: 0,
                 text: file,
             },
+            Call::Convert { file, room: 9 },
         ];
         let rooms: Vec<usize> = calls.iter().map(|&call| room_for(&[call])).collect();
-        assert_eq!(rooms, [1, 1, 2, 450, 2, 3, 12, 1]);
-        assert_eq!(room_for(&calls), 472);
+        assert_eq!(rooms, [1, 1, 2, 450, 2, 3, 12, 1, 14]);
+        assert_eq!(room_for(&calls), 486);
     }
 }

@@ -14,6 +14,9 @@ pub use room::{has_room, SPARE_BYTES};
 /// The smallest buffer that hand out never refuses for its size.
 pub const HAND_OUT_ROOM: u32 = 60_000;
 
+/// The smallest buffer that convert never refuses for its size.
+pub const CONVERT_ROOM: u32 = 4_096;
+
 /// The kit that proved the library, as it calls itself; `unknown kit` where nothing beside the
 /// library tells.
 pub const KIT: &str = env!("REPLAY_KIT");

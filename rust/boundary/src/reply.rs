@@ -1,6 +1,6 @@
 //! Replies and their coding: a status byte, 0 or the refusal's number, and what the call gives.
 
-use crate::call::{Call, ENTRY_BYTES, HAND_OUT_HEAD, LIST_ENTRIES};
+use crate::call::{Call, ENTRY_BYTES, LENT_HEAD, LIST_ENTRIES};
 
 /// The reply to one call.
 #[derive(Clone, Debug, PartialEq, Eq)]
@@ -18,11 +18,12 @@ pub enum Reply {
     NoDifference,
     /// Compare: the object count of the witness.
     Difference(u8),
-    /// Hand out: the witness's file, and the bytes of the buffer behind it.
-    Written { record: Vec<u8>, rest: Vec<u8> },
-    /// Any call but hand out: the refusal's number.
+    /// Hand out: the witness's file; convert: the file of the other edition. Both with the bytes of
+    /// the buffer behind it.
+    Written { file: Vec<u8>, rest: Vec<u8> },
+    /// Any call without a lent buffer: the refusal's number.
     Refused(u8),
-    /// Hand out: the refusal's number, and the buffer as it came back.
+    /// Hand out or convert: the refusal's number, and the buffer as it came back.
     NotWritten { refusal: u8, buffer: Vec<u8> },
 }
 
@@ -52,8 +53,8 @@ pub fn decode(calls: &[Call], replies: &[u8]) -> Vec<Reply> {
 
 /// The reply to one call, taken off the front; none where its bytes are not all there.
 fn decode_one(call: &Call, rest: &mut &[u8]) -> Option<Reply> {
-    if let Call::HandOut { room } = *call {
-        return hand_out_reply(room as usize, rest);
+    if let Call::HandOut { room } | Call::Convert { room, .. } = *call {
+        return lent_reply(room as usize, rest);
     }
     let status = take(rest, 1)?[0];
     if status != 0 {
@@ -65,7 +66,7 @@ fn decode_one(call: &Call, rest: &mut &[u8]) -> Option<Reply> {
         Call::Evaluate { .. } => Some(Reply::FirstFalse(take(rest, 1)?[0])),
         Call::Compile { .. } => compile_reply(rest),
         Call::Compare { .. } => compare_reply(rest),
-        Call::HandOut { .. } => None,
+        Call::HandOut { .. } | Call::Convert { .. } => None,
     }
 }
 
@@ -86,9 +87,9 @@ fn compare_reply(rest: &mut &[u8]) -> Option<Reply> {
     Some(Reply::Difference(take(rest, 1)?[0]))
 }
 
-/// Hand out's reply spans its whole buffer, refused or not.
-fn hand_out_reply(room: usize, rest: &mut &[u8]) -> Option<Reply> {
-    let head = take(rest, HAND_OUT_HEAD)?;
+/// The reply to a call with a lent buffer spans the whole buffer, refused or not.
+fn lent_reply(room: usize, rest: &mut &[u8]) -> Option<Reply> {
+    let head = take(rest, LENT_HEAD)?;
     let buffer = take(rest, room)?;
     if head[0] != 0 {
         let buffer = buffer.to_vec();
@@ -98,9 +99,9 @@ fn hand_out_reply(room: usize, rest: &mut &[u8]) -> Option<Reply> {
         });
     }
     let length = u32::from_be_bytes([head[1], head[2], head[3], head[4]]) as usize;
-    let (record, behind) = buffer.split_at_checked(length)?;
+    let (file, behind) = buffer.split_at_checked(length)?;
     Some(Reply::Written {
-        record: record.to_vec(),
+        file: file.to_vec(),
         rest: behind.to_vec(),
     })
 }
@@ -155,7 +156,7 @@ mod tests {
     }
 
     #[test]
-    fn a_refusal_is_one_byte_but_for_hand_out() {
+    fn a_refusal_is_one_byte_but_for_a_lent_buffer() {
         let calls = [
             Call::Load {
                 place: 2,
@@ -168,18 +169,21 @@ mod tests {
                 place: 1,
                 text: FILE,
             },
+            Call::Convert {
+                file: FILE,
+                room: 2,
+            },
+            Call::Clear { place: 3 },
         ];
-        let replies = [10, 21, 22, 0, 0, 0, 0, 7, 8, 9, 9, 23];
+        let replies = [
+            10, 21, 22, 0, 0, 0, 0, 7, 8, 9, 9, 23, 25, 0, 0, 0, 0, 5, 6, 10,
+        ];
         let decoded = decode(&calls, &replies);
         let numbers: Vec<_> = decoded.iter().map(Reply::refusal).collect();
-        assert_eq!(numbers, [Some(10), Some(21), Some(22), Some(9), Some(23)]);
-        assert_eq!(
-            decoded[2],
-            Reply::NotWritten {
-                refusal: 22,
-                buffer: vec![7, 8, 9]
-            }
-        );
+        assert_eq!(numbers, [10, 21, 22, 9, 23, 25, 10].map(Some));
+        let not_written = |refusal, buffer| Reply::NotWritten { refusal, buffer };
+        assert_eq!(decoded[2], not_written(22, vec![7, 8, 9]));
+        assert_eq!(decoded[5], not_written(25, vec![5, 6]));
         assert_eq!(Reply::Done.refusal(), None);
     }
 
@@ -197,13 +201,28 @@ mod tests {
     }
 
     #[test]
-    fn a_record_handed_out_and_the_buffer_behind_it() {
-        let replies = [0, 0, 0, 0, 4, 0x60, 0, 1, 0, 0xAA, 0xBB];
-        let expected = [Reply::Written {
-            record: vec![0x60, 0, 1, 0],
-            rest: vec![0xAA, 0xBB],
-        }];
-        assert_eq!(decode(&[Call::HandOut { room: 6 }], &replies), expected);
+    fn a_written_file_and_the_buffer_behind_it() {
+        let calls = [
+            Call::HandOut { room: 6 },
+            Call::Convert {
+                file: FILE,
+                room: 5,
+            },
+        ];
+        let replies = [
+            0, 0, 0, 0, 4, 0x60, 0, 1, 0, 0xAA, 0xBB, 0, 0, 0, 0, 4, 0x10, 0, 1, 2, 0xCC,
+        ];
+        let expected = [
+            Reply::Written {
+                file: vec![0x60, 0, 1, 0],
+                rest: vec![0xAA, 0xBB],
+            },
+            Reply::Written {
+                file: vec![0x10, 0, 1, 2],
+                rest: vec![0xCC],
+            },
+        ];
+        assert_eq!(decode(&calls, &replies), expected);
     }
 
     #[test]
@@ -218,5 +237,10 @@ mod tests {
         assert_eq!(decode(&calls, &[]), []);
         let too_long = [0, 0, 0, 0, 0, 9, 0, 0, 0, 0, 0, 0];
         assert_eq!(decode(&calls, &too_long), [Reply::Done]);
+        let convert = Call::Convert {
+            file: FILE,
+            room: 6,
+        };
+        assert_eq!(decode(&[convert], &replies[1..]), []);
     }
 }

@@ -1,6 +1,6 @@
 //! The real library, called through this crate.
 
-use boundary::{encode, replay, run, try_run, Call, Reply, HAND_OUT_ROOM};
+use boundary::{encode, replay, run, try_run, Call, Reply, CONVERT_ROOM, HAND_OUT_ROOM};
 
 /// A Card may do without a Shelf.
 const OLD: &[u8] = b"\x10\x00\x01\x01\x30\x00\x08\x00\x05Shelf\x00\x30\x00\x07\x00\x04Card\x00\
@@ -9,6 +9,14 @@ const OLD: &[u8] = b"\x10\x00\x01\x01\x30\x00\x08\x00\x05Shelf\x00\x30\x00\x07\x
 /// A Card stands on exactly one Shelf.
 const NEW: &[u8] = b"\x10\x00\x01\x01\x30\x00\x08\x00\x05Shelf\x00\x30\x00\x07\x00\x04Card\x00\
     \x50\x00\x14\x01\x01\x00\x01\x01\x05shelf\x01\x00\x04\x05cards";
+
+/// NEW in edition 2.
+const NEW_2: &[u8] = b"\x10\x00\x01\x02\x30\x00\x08\x00\x05Shelf\x00\x30\x00\x07\x00\x04Card\x00\
+    \x50\x00\x18\x01\x01\x00\x00\x01\x00\x01\x05shelf\x01\x00\x00\x00\x04\x05cards";
+
+/// NEW_2 with up to 101 cards a shelf, which edition 1 cannot say.
+const WIDE: &[u8] = b"\x10\x00\x01\x02\x30\x00\x08\x00\x05Shelf\x00\x30\x00\x07\x00\x04Card\x00\
+    \x50\x00\x18\x01\x01\x00\x00\x01\x00\x01\x05shelf\x01\x00\x00\x00\x65\x05cards";
 
 /// One Card, the only least difference between the two.
 const CARD: &[u8] = b"\x60\x00\x01\x01\x61\x00\x05\x04Card";
@@ -58,7 +66,7 @@ fn a_row_of_all_calls() {
         Reply::NoDifference,
         Reply::Difference(1),
         Reply::Written {
-            record: CARD.to_vec(),
+            file: CARD.to_vec(),
             rest: vec![0; HAND_OUT_ROOM as usize - CARD.len()],
         },
         Reply::Rule(0),
@@ -131,6 +139,34 @@ fn an_edition_2_file_has_wide_limits() {
         Reply::Rule(7),
     ];
     assert_eq!(run(&calls), expected);
+}
+
+#[test]
+fn a_file_is_converted_to_the_other_edition_and_back() {
+    let written = |file: &[u8], room: u32| Reply::Written {
+        file: file.to_vec(),
+        rest: vec![0; room as usize - file.len()],
+    };
+    let not_written = |refusal, room: u32| Reply::NotWritten {
+        refusal,
+        buffer: vec![0; room as usize],
+    };
+    let cases = [
+        (NEW, CONVERT_ROOM, written(NEW_2, CONVERT_ROOM)),
+        (NEW_2, CONVERT_ROOM + 1, written(NEW, CONVERT_ROOM + 1)),
+        (WIDE, 2, not_written(25, 2)),
+        (NEW, CONVERT_ROOM - 1, not_written(20, CONVERT_ROOM - 1)),
+        (&NEW[..3], 0, not_written(1, 0)),
+    ];
+    let calls = cases
+        .each_ref()
+        .map(|&(file, room, _)| Call::Convert { file, room });
+    let replies = run(&calls);
+    assert_eq!(replies.len(), cases.len());
+    for (at, (reply, (_, _, expected))) in replies.iter().zip(&cases).enumerate() {
+        // A whole buffer would be shown by assert_eq.
+        assert!(reply == expected, "call {at}: {:?}", reply.refusal());
+    }
 }
 
 #[test]

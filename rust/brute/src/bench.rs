@@ -2,6 +2,7 @@
 //! the order in which they are tried.
 
 use crate::compare::compare;
+use crate::convert::convert;
 use crate::diagram::Diagram;
 use crate::diagram_file::read_diagram;
 use crate::predicates::{compile, evaluate, Entry};
@@ -77,6 +78,12 @@ impl Bench {
         let file = write_record(witness);
         buffer[..file.len()].copy_from_slice(&file);
         Ok(file.len())
+    }
+
+    /// Writes a diagram file as the other edition to the front of the buffer and gives its length: the
+    /// file, then 25 and 20. No place and no witness has to do with it.
+    pub fn convert(&self, file: &[u8], buffer: &mut [u8]) -> Result<usize, u8> {
+        convert(file, buffer)
     }
 
     /// Puts a diagram into a place that there is and drops the witness.

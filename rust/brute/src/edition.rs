@@ -21,6 +21,19 @@ impl Edition {
         }
     }
 
+    /// The edition that a diagram file states in its fourth byte, as every accepted one does.
+    pub fn of_file(file: &[u8]) -> Option<Edition> {
+        file.get(3).copied().and_then(Edition::of_byte)
+    }
+
+    /// "an edition 1 file as edition 2 and the other way about"
+    pub fn other(self) -> Edition {
+        match self {
+            Edition::One => Edition::Two,
+            Edition::Two => Edition::One,
+        }
+    }
+
     /// The byte that stands for the edition.
     pub fn byte(self) -> u8 {
         match self {

@@ -1,9 +1,10 @@
-//! An independent comparer: files, texts, judging, compiling, evaluating, comparing and the bench,
-//! written from the specification alone and in the plainest form, to check others against.
+//! An independent comparer: files, texts, judging, compiling, evaluating, comparing, converting and
+//! the bench, written from the specification alone and in the plainest form, to check others against.
 
 mod bench;
 mod bytes;
 mod compare;
+mod convert;
 mod diagram;
 mod diagram_file;
 mod diagram_writer;
@@ -19,6 +20,7 @@ mod text;
 
 pub use bench::Bench;
 pub use compare::{compare, compare_within, TooLarge};
+pub use convert::convert;
 pub use diagram::{
     Association, Attribute, Diagram, End, Form, Kind, Limits, Side, Type, ValueType,
 };

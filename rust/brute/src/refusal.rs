@@ -15,6 +15,7 @@ pub const PLACE_EMPTY: u8 = 21;
 pub const NO_WITNESS: u8 = 22;
 pub const OUTSIDE_GRAMMAR: u8 = 23;
 pub const NOT_DECLARED: u8 = 24;
+pub const LIMIT_ABOVE_100: u8 = 25;
 
 /// Gives the refusal unless the condition holds.
 pub fn require(condition: bool, refusal: u8) -> Result<(), u8> {

@@ -13,6 +13,7 @@ enum Call<'a> {
     Compare(u8),
     HandOut(usize),
     LoadText(u8, &'a [u8]),
+    Convert(&'a [u8], usize),
 }
 
 /// Runs the calls and gives the number of reply bytes. It stops at the first call that is cut
@@ -41,6 +42,7 @@ fn take_call<'a>(rest: &mut &'a [u8]) -> Option<Call<'a>> {
         6 => Some(Call::Compare(take_byte(rest)?)),
         7 => Some(Call::HandOut(take_length(rest)?)),
         8 => Some(Call::LoadText(take_byte(rest)?, take_file(rest)?)),
+        9 => Some(Call::Convert(take_file(rest)?, take_length(rest)?)),
         _ => None,
     }
 }
@@ -80,8 +82,9 @@ fn run_call(bench: &mut Bench, call: Call, out: &mut [u8]) -> Option<usize> {
         Call::Compile(place) => bench.compile(place).map(|list| list_bytes(&list)),
         Call::Evaluate(place, file) => bench.evaluate(place, file).map(byte),
         Call::Compare(bound) => bench.compare(bound).map(difference_bytes),
-        Call::HandOut(room) => return hand_out(bench, room, out),
+        Call::HandOut(room) => return lend(room, out, |buffer| bench.hand_out(buffer)),
         Call::LoadText(place, text) => bench.load_text(place, text).map(done),
+        Call::Convert(file, room) => return lend(room, out, |buffer| bench.convert(file, buffer)),
     };
     let mut bytes = vec![reply.as_ref().err().copied().unwrap_or(0)];
     bytes.extend(reply.unwrap_or_default());
@@ -105,11 +108,15 @@ fn difference_bytes(count: Option<u8>) -> Vec<u8> {
     }
 }
 
-/// Lends the part behind the reply's first five bytes, which hold the status and the length.
-fn hand_out(bench: &Bench, room: usize, out: &mut [u8]) -> Option<usize> {
+/// Lends a call the part behind the reply's first five bytes, which hold the status and the length.
+fn lend(
+    room: usize,
+    out: &mut [u8],
+    call: impl FnOnce(&mut [u8]) -> Result<usize, u8>,
+) -> Option<usize> {
     let whole = room.checked_add(5)?;
     let (head, buffer) = out.get_mut(..whole)?.split_at_mut(5);
-    let (status, length) = match bench.hand_out(buffer) {
+    let (status, length) = match call(buffer) {
         Ok(length) => (0, length),
         Err(refusal) => (refusal, 0),
     };

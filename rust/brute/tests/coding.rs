@@ -22,7 +22,7 @@ fn no_calls() {
 
 #[test]
 fn unknown_codes_end_the_list() {
-    for code in (0..=255).filter(|code| !(1..=8).contains(code)) {
+    for code in (0..=255).filter(|code| !(1..=9).contains(code)) {
         let calls = [clear(0), vec![code, 0, 0, 0, 0, 0], clear(0)].concat();
         assert_eq!(replies(&calls, 100), [0]);
     }
@@ -39,6 +39,7 @@ fn a_call_cut_off_anywhere_is_not_run() {
         compare(0),
         hand_out(3),
         load_text(0, b"classdiagram d {}"),
+        convert(&four_cards(), 3),
     ];
     for call in all {
         for length in 0..call.len() {
@@ -58,6 +59,10 @@ fn a_length_beyond_the_list_is_cut_off() {
     assert_eq!(replies(&text, 100), [0]);
     text[5] += 1;
     assert!(replies(&text, 100).is_empty());
+    let mut file = convert(EMPTY_DIAGRAM, 0);
+    assert_eq!(replies(&file, 100), [20, 0, 0, 0, 0]);
+    file[4] += 1;
+    assert!(replies(&file, 100).is_empty());
 }
 
 #[test]
@@ -95,6 +100,9 @@ fn a_reply_without_room_is_not_written() {
         (compare(9), 1),
         (hand_out(0), 5),
         (hand_out(7), 12),
+        (convert(&four_cards(), 0), 5),
+        (convert(b"", 7), 12),
+        (convert(FOUR_CARDS_2, 4_096), 4_101),
     ];
     for (call, size) in sizes {
         let calls = [loads.clone(), call.clone(), clear(0)].concat();
@@ -105,6 +113,18 @@ fn a_reply_without_room_is_not_written() {
 }
 
 #[test]
-fn the_longest_hand_out_does_not_fit() {
+fn the_longest_buffers_do_not_fit() {
     assert!(replies(&hand_out(u32::MAX), 1000).is_empty());
+    assert!(replies(&convert(EMPTY_DIAGRAM, u32::MAX), 1000).is_empty());
+}
+
+#[test]
+fn a_conversion_byte_for_byte() {
+    let mut call = vec![9, 0, 0, 0, 4, 0x10, 0, 1, 1, 0, 0, 0x10, 0];
+    assert_eq!(call, convert(EMPTY_DIAGRAM, 4_096));
+    let written = [&[0, 0, 0, 0, 4, 0x10, 0, 1, 2], &[FILL; 4_092][..]].concat();
+    assert_eq!(replies(&call, 5_000), written);
+    call[11..].copy_from_slice(&[0x0F, 0xFF]);
+    let refused = [&[20, 0, 0, 0, 0], &[FILL; 4_095][..]].concat();
+    assert_eq!(replies(&call, 5_000), refused);
 }

@@ -4,6 +4,7 @@ mod common;
 
 use brute::{read_diagram, read_record};
 use common::*;
+use generators::worked_conversions::UP_101;
 
 /// What the buffers hold before the calls.
 const FILL: u8 = 0xA5;
@@ -18,9 +19,9 @@ enum Reply {
     Records(u8),
     NoDifference,
     Difference(u8),
-    /// A refused hand out of so many bytes.
+    /// A refused hand out or conversion, with a buffer of so many bytes.
     Kept(u8, usize),
-    /// A hand out of these bytes into so many.
+    /// A hand out or conversion that writes these bytes into so many.
     Written(&'static [u8], usize),
     /// A hand out into so many of a record of 70 bytes that four cards allow and two forbid.
     FourObjects(usize),
@@ -53,8 +54,8 @@ impl Reply {
                 assert_eq!(bytes[..5], [refusal, 0, 0, 0, 0]);
                 assert!(bytes[5..].iter().all(|&byte| byte == FILL));
             }
-            Written(record, _) => assert_eq!(handed_out(bytes), record),
-            FourObjects(_) => check_four_objects(handed_out(bytes)),
+            Written(file, _) => assert_eq!(written(bytes), file),
+            FourObjects(_) => check_four_objects(written(bytes)),
         }
     }
 }
@@ -66,13 +67,13 @@ fn check_list(number: u8, bytes: &[u8]) {
     assert!(past.iter().all(|&byte| byte == 0));
 }
 
-/// The record that an accepted hand out wrote, the bytes behind it being as they were.
-fn handed_out(bytes: &[u8]) -> &[u8] {
+/// The file that an accepted hand out or conversion wrote, the bytes behind it being as they were.
+fn written(bytes: &[u8]) -> &[u8] {
     assert_eq!(bytes[0], 0);
     let length = u32::from_be_bytes(bytes[1..5].try_into().unwrap());
-    let (record, rest) = bytes[5..].split_at(length as usize);
+    let (file, rest) = bytes[5..].split_at(length as usize);
     assert!(rest.iter().all(|&byte| byte == FILL));
-    record
+    file
 }
 
 /// Which of the smallest witnesses it is, is free.
@@ -256,6 +257,36 @@ fn editions_are_mixed() {
         (compare(4), NoDifference),
         (load(0, &two_cards()), Done),
         (compare(4), NoDifference),
+    ]);
+}
+
+#[test]
+fn conversions_keep_the_witness() {
+    run(vec![
+        (
+            convert(EMPTY_DIAGRAM, 4_096),
+            Written(EMPTY_DIAGRAM_2, 4_096),
+        ),
+        (load(0, &four_cards()), Done),
+        (load(1, &two_cards()), Done),
+        (compare(4), Difference(4)),
+        (convert(&four_cards(), 4_096), Written(FOUR_CARDS_2, 4_096)),
+        (convert(b"\x10\x00\x01", 4_096), Kept(1, 4_096)),
+        (convert(UP_101, 10), Kept(25, 10)),
+        (hand_out(60_000), FourObjects(60_000)),
+    ]);
+}
+
+#[test]
+fn a_converted_file_is_no_difference() {
+    run(vec![
+        (convert(&four_cards(), 4_096), Written(FOUR_CARDS_2, 4_096)),
+        (load(0, FOUR_CARDS_2), Done),
+        (load(1, &four_cards()), Done),
+        (compare(8), NoDifference),
+        (load(0, &four_cards()), Done),
+        (load(1, FOUR_CARDS_2), Done),
+        (compare(8), NoDifference),
     ]);
 }
 

@@ -42,6 +42,10 @@ pub enum Command {
         site: PathBuf,
         out: PathBuf,
     },
+    Convert {
+        file: PathBuf,
+        out: PathBuf,
+    },
     Marked,
 }
 
@@ -149,10 +153,20 @@ fn command_of(name: &str, words: Words) -> Result<Command, String> {
         "show" => Command::Show { file: next() },
         "make" => Command::Make {
             site: next(),
-            out: out
-                .ok_or("'make' needs --out FILE, the file to write ('-' for standard output).")?,
+            out: needed_out(name, out)?,
+        },
+        "convert" => Command::Convert {
+            file: next(),
+            out: needed_out(name, out)?,
         },
         _ => Command::Marked,
+    })
+}
+
+/// The file of --out, where a command does nothing else than write it.
+fn needed_out(name: &str, out: Option<PathBuf>) -> Result<PathBuf, String> {
+    out.ok_or_else(|| {
+        format!("'{name}' needs --out FILE, the file to write ('-' for standard output).")
     })
 }
 
@@ -294,7 +308,7 @@ mod tests {
             ),
             (
                 "show a --out b",
-                "'show' has no option --out; 'compare' and 'make' have.",
+                "'show' has no option --out; 'compare', 'make' and 'convert' have.",
             ),
             (
                 "make a --bound 3",
@@ -303,6 +317,19 @@ mod tests {
             (
                 "make a",
                 "'make' needs --out FILE, the file to write ('-' for standard output).",
+            ),
+            ("convert --out b", "'convert' needs FILE; FILE is missing."),
+            (
+                "convert a b --out c",
+                "'convert' takes FILE only; 'b' is too much.",
+            ),
+            (
+                "convert a",
+                "'convert' needs --out FILE, the file to write ('-' for standard output).",
+            ),
+            (
+                "convert a --out b --all",
+                "'convert' has no option --all; 'compare' and 'judge' have.",
             ),
             ("show a --json=1", "There is no option '--json=1'."),
         ];

@@ -1,6 +1,7 @@
 //! The commands, with the files and options that each takes.
 
 use crate::disk::STANDARD_INPUT;
+use crate::lists::listed;
 use crate::options::{Words, COMMON};
 use crate::shown::shown;
 
@@ -17,7 +18,7 @@ pub struct Form {
 }
 
 /// All commands, in the order of the help.
-pub const COMMANDS: [Form; 8] = [
+pub const COMMANDS: [Form; 9] = [
     form(
         "compare",
         &["OLD", "NEW"],
@@ -29,6 +30,7 @@ pub const COMMANDS: [Form; 8] = [
     with_several(form("check", &["FILE"], &[])),
     form("show", &["FILE"], &[]),
     form("make", &["SITE"], &["--out"]),
+    form("convert", &["FILE"], &["--out"]),
     form("marked", &[], &[]),
 ];
 
@@ -104,7 +106,7 @@ impl Form {
             1 => "has",
             _ => "have",
         };
-        let (name, having) = (self.name, having.join(" and "));
+        let (name, having) = (self.name, listed(&having));
         Err(format!("'{name}' has no option {option}; {having} {verb}."))
     }
 }

@@ -1,6 +1,7 @@
 //! A diagram file taken apart, or its first fault.
 
 mod association;
+mod large_limits;
 
 use crate::content::{Content, FoundName, Number};
 use crate::diagram::{Attribute, Diagram, Kind, Type, ValueType};
@@ -9,6 +10,7 @@ use crate::fault::Fault;
 use crate::fields::{Field, Fields, DIAGRAM};
 use crate::names::numbers_below;
 use association::association;
+pub use large_limits::first_large_limit;
 
 /// What to do about numbers out of their range.
 const EDITIONS: &str = "write 1 where each limit has one byte, 2 where each has two";

@@ -9,7 +9,7 @@ use crate::fields::{tag_name, FileKind};
 use crate::json::Json;
 use crate::shown::shown;
 use crate::trouble::refusal_members;
-use crate::words::refusal_in_words;
+use crate::words::{refusal_in_words, NOT_IN_EDITION_1};
 
 /// A file that the library refused.
 pub struct RefusedFile {
@@ -35,13 +35,14 @@ impl RefusedFile {
         }
     }
 
-    /// Which file is refused, and its refusal.
+    /// Which file is refused, and its refusal. One that cannot be converted is acceptable.
     fn verdict(&self) -> String {
-        let (name, kind) = (shown(&self.path), self.kind.name);
-        format!(
-            "{name} is not an acceptable {kind} file (refusal {})",
-            self.refusal
-        )
+        let (name, refusal) = (shown(&self.path), self.refusal);
+        let words = match refusal {
+            NOT_IN_EDITION_1 => "cannot be written in edition 1".to_string(),
+            _ => format!("is not an acceptable {} file", self.kind.name),
+        };
+        format!("{name} {words} (refusal {refusal})")
     }
 
     /// Which file, where, and what is wrong there.

@@ -10,6 +10,7 @@ pub fn text(topic: Option<&str>) -> &'static str {
         Some("check") => include_str!("help/check.txt"),
         Some("show") => include_str!("help/show.txt"),
         Some("make") => include_str!("help/make.txt"),
+        Some("convert") => include_str!("help/convert.txt"),
         Some("marked") => include_str!("help/marked.txt"),
         _ => include_str!("help/overview.txt"),
     }

@@ -129,7 +129,7 @@ fn try_others(path: &Path, found: &Metadata, inputs: &[&Path]) -> Result<(), Tro
     }
     if output::metadata().is_some_and(|m| is_same(&m)) {
         return Err(Trouble::Misused(format!(
-            "'--out {}' is the file that standard output goes to; use '--out -' for the record file alone.",
+            "'--out {}' is the file that standard output goes to; use '--out -' to write nothing else there.",
             shown(path)
         )));
     }

@@ -3,10 +3,10 @@
 
 use std::ffi::OsStr;
 
-use boundary::{try_run, Call, Reply, HAND_OUT_ROOM};
+use boundary::{try_run, Call, Reply, CONVERT_ROOM, HAND_OUT_ROOM};
 
 use crate::diagram::Diagram;
-use crate::diagram_file::read_diagram;
+use crate::diagram_file::{first_large_limit, read_diagram};
 use crate::disk::Loaded;
 use crate::fields::{DIAGRAM, RECORD};
 use crate::file_trouble::RefusedFile;
@@ -19,7 +19,7 @@ use crate::site::NamedRecord;
 use crate::text::{read_text, NamedDiagram};
 use crate::text_trouble::RefusedText;
 use crate::trouble::Trouble;
-use crate::wrong_kind::WrongKind;
+use crate::wrong_kind::{Wanted, WrongKind};
 
 /// The smallest diagram file: a record file is refused or not whatever the diagram.
 const NO_TYPES: &[u8] = &[0x10, 0, 1, 1];
@@ -131,10 +131,23 @@ pub fn compare(old: &Loaded, new: &Loaded, bound: u8) -> Result<Option<Witness>,
         [Reply::Refused(refusal), ..] => Err(refused_diagram(old, *refusal)),
         [_, Reply::Refused(refusal), ..] => Err(refused_diagram(new, *refusal)),
         [_, _, Reply::NoDifference, _] => Ok(None),
-        [_, _, Reply::Difference(objects), Reply::Written { record, .. }] => Ok(Some(Witness {
+        [_, _, Reply::Difference(objects), Reply::Written { file, .. }] => Ok(Some(Witness {
             objects: *objects,
-            file: record.clone(),
+            file: file.clone(),
         })),
+        _ => Err(Trouble::Unexpected),
+    }
+}
+
+/// A diagram file in the edition that it does not have.
+pub fn convert(file: &Loaded) -> Result<Vec<u8>, Trouble> {
+    let call = Call::Convert {
+        file: &file.bytes,
+        room: CONVERT_ROOM,
+    };
+    match &run(&[call])?[..] {
+        [Reply::Written { file, .. }] => Ok(file.clone()),
+        [Reply::NotWritten { refusal, .. }] => Err(refused_conversion(file, *refusal)),
         _ => Err(Trouble::Unexpected),
     }
 }
@@ -165,7 +178,7 @@ pub fn no_site(old: &Diagram) -> Loaded {
 
 /// The refusal of a diagram, with its place where this program's own reading finds the same fault.
 fn refused_diagram(diagram: &Loaded, refusal: u8) -> Trouble {
-    if let Some(wrong) = WrongKind::of(diagram, &DIAGRAM, refusal) {
+    if let Some(wrong) = WrongKind::of(diagram, Wanted::Diagram, refusal) {
         return Trouble::WrongKind(Box::new(wrong));
     }
     if is_text(&diagram.bytes) {
@@ -175,9 +188,21 @@ fn refused_diagram(diagram: &Loaded, refusal: u8) -> Trouble {
     Trouble::Refused(Box::new(RefusedFile::of(diagram, &DIAGRAM, refusal, fault)))
 }
 
+/// The refusal of a diagram file that is to be converted, likewise.
+fn refused_conversion(file: &Loaded, refusal: u8) -> Trouble {
+    if let Some(wrong) = WrongKind::of(file, Wanted::DiagramFile, refusal) {
+        return Trouble::WrongKind(Box::new(wrong));
+    }
+    let fault = match read_diagram(&file.bytes) {
+        Ok(diagram) => first_large_limit(&file.bytes, &diagram),
+        Err(fault) => Some(fault),
+    };
+    Trouble::Refused(Box::new(RefusedFile::of(file, &DIAGRAM, refusal, fault)))
+}
+
 /// The refusal of a record, likewise; its record file is at hand.
 fn refused_record(record: &Loaded, file: &[u8], refusal: u8) -> Trouble {
-    if let Some(wrong) = WrongKind::of(record, &RECORD, refusal) {
+    if let Some(wrong) = WrongKind::of(record, Wanted::Record, refusal) {
         return Trouble::WrongKind(Box::new(wrong));
     }
     let fault = read_record(file).err();

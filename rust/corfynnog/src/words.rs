@@ -18,6 +18,9 @@ pub fn rule_in_words(rule: u8) -> &'static str {
     }
 }
 
+/// The refusal of a diagram file that is accepted, but has limits that edition 1 does not.
+pub const NOT_IN_EDITION_1: u8 = 25;
+
 /// What a refusal means, and what to do about it.
 pub struct RefusalWords {
     pub rule: &'static str,
@@ -113,6 +116,10 @@ pub fn refusal_in_words(number: u8) -> RefusalWords {
         24 => (
             "an association joins declared classes and interfaces; a parent is declared before its child, a class behind a class's extends, else an interface",
             "declare what is missing, move the parent up, or correct the name",
+        ),
+        NOT_IN_EDITION_1 => (
+            "a file of edition 1 has limits of at most 100, or no upper limit",
+            "keep the file of edition 2, or give at most 100 or no upper limit; since a site has at most 8 objects, 100 in the place of a larger limit, or no upper limit in the place of an upper one, allows the same sites",
         ),
         _ => (
             "this program has no words for a refusal of that number",

@@ -111,6 +111,35 @@ fn damaged_records() {
     assert!(accepted >= 50 && refused >= 500, "{accepted} {refused}");
 }
 
+#[test]
+fn damaged_diagrams_converted() {
+    let folder = Folder::of("damaged_converted");
+    let mut random = Random::new(4);
+    let mut counts = [0; 26];
+    for file in diagrams().iter().cycle().take(750) {
+        let file = nudge(file, &mut random);
+        folder.put("file", &file);
+        let ran = folder.line("convert file --out other --json");
+        let shown = format!("{file:02X?}: {} {}", ran.out, ran.err);
+        assert_eq!(ran.err, "", "{shown}");
+        let object = read(&ran.out);
+        if ran.status == 0 {
+            folder.answer(0, "convert other --out back");
+            assert_eq!(folder.get("back"), Some(file), "{shown}");
+            counts[0] += 1;
+            continue;
+        }
+        assert_eq!(object.get("result").text(), "refused", "{shown}");
+        if file.starts_with(b"\x10") {
+            assert!(object.get("byte").number() <= file.len() as u64, "{shown}");
+        }
+        counts[object.get("refusal").number() as usize] += 1;
+    }
+    for (number, least) in [(0, 100), (2, 20), (3, 50), (25, 50)] {
+        assert!(counts[number] >= least, "{number}: {counts:?}");
+    }
+}
+
 /// A text with every construct, a blank between any two words and marks.
 const TEXT: &str = "classdiagram d { class A ; interface I ; abstract class B ; \
     class C extends A , B implements I { V v ; E e ; } enum E { a , b ; } enum F ; \

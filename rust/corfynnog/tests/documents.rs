@@ -52,7 +52,7 @@ fn the_answers_of_the_examples() {
     for (example, number) in [
         ("card_states", 1),
         ("line_cards", 1),
-        ("line_groups", 2),
+        ("line_groups", 3),
         ("new_families", 2),
         ("shelf_and_card", 9),
     ] {
@@ -73,5 +73,5 @@ fn the_answers_of_readme() {
         "typo.cd",
         new.replace("(cards) Card", "(cards) Crad").as_bytes(),
     );
-    expect_answers("README.md", &folder, 6);
+    expect_answers("README.md", &folder, 7);
 }

@@ -18,6 +18,8 @@ fn folder(test: &str) -> Folder {
     folder.put("bad.record", b"\x60\x00\x01\x01");
     folder.put("card.od", b"objectdiagram site { Card0:Card {} }");
     folder.put("bad.od", b"objectdiagram site { Card0:Card {}");
+    folder.put("wide.diagram", &sites::wide((1, 1), (0, 4)));
+    folder.put("256.diagram", &sites::wide((1, 1), (0, 256)));
     folder
 }
 
@@ -52,6 +54,8 @@ show every.diagram
 show shelf3.record
 show card.od
 make card.od --out made
+convert p.diagram --out converted
+convert wide.diagram --out converted
 marked";
 
 /// Lines without an answer.
@@ -66,6 +70,14 @@ judge p.diagram bad.od
 make bad.od --out made
 make card.od --out card.od
 make card.od
+convert bad.diagram --out converted
+convert 256.diagram --out converted
+convert every.cd --out converted
+convert card.record --out converted
+convert p.diagram --out p.diagram
+convert p.diagram --out gone/converted
+convert gone --out converted
+convert p.diagram
 judge bad.cd card.record
 compare bad.cd p.diagram
 compare p.diagram bad.diagram
@@ -101,6 +113,7 @@ fn every_answer_has_what_the_help_of_its_command_lists() {
         "all hold",
         "as the documents have them",
         "compiled",
+        "converted",
         "difference",
         "illegal",
         "legal",
@@ -156,6 +169,14 @@ fn members_that_do_not_apply_are_null() {
         ),
         ("judge card.record p.diagram", "form field line byte bound"),
         ("check bad.diagram", "line column bound looks_like"),
+        (
+            "convert 256.diagram --out converted",
+            "line column bound looks_like",
+        ),
+        (
+            "convert every.cd --out converted",
+            "form field line byte bound",
+        ),
         (
             "compare e.diagram e.diagram --bound x",
             "file kind form field tag line column byte",

@@ -15,6 +15,7 @@ fn one_sentence_and_how_to_get_help() {
         ("judge a", "'judge' needs DIAGRAM and RECORD; RECORD is missing. Run 'corfynnog judge --help' for help."),
         ("check", "'check' needs FILE; FILE is missing. Run 'corfynnog check --help' for help."),
         ("show a b", "'show' takes FILE only; 'b' is too much. Run 'corfynnog show --help' for help."),
+        ("compile a --out b", "'compile' has no option --out; 'compare', 'make' and 'convert' have. Run 'corfynnog compile --help' for help."),
         ("compile a --fast", "There is no option '--fast'. Run 'corfynnog compile --help' for help."),
         ("compare a b --bound", "The option --bound needs a value behind it. Run 'corfynnog compare --help' for help."),
     ];
@@ -34,6 +35,7 @@ fn files_that_cannot_be_read() {
         ("compare p.diagram gone", "gone"),
         ("compare gone p.diagram", "gone"),
         ("judge p.diagram gone", "gone"),
+        ("convert gone --out made", "gone"),
     ] {
         let told = folder.complaint(line);
         let first = format!("corfynnog: Cannot read {file}: ");
@@ -48,7 +50,7 @@ fn help_has_an_example_of_each_command() {
     let folder = Folder::of("help");
     let help = folder.answer(0, "--help");
     for command in [
-        "compare", "judge", "compile", "evaluate", "check", "show", "make",
+        "compare", "judge", "compile", "evaluate", "check", "show", "make", "convert",
     ] {
         assert!(
             help.contains(&format!("  corfynnog {command} ")),
@@ -72,6 +74,7 @@ fn help_has_an_example_of_each_command() {
         "help check",
         "help show",
         "help make",
+        "help convert",
     ] {
         let text = folder.answer(0, line);
         let is_short = |line: &str| line.len() <= 104;

@@ -8,12 +8,13 @@ use std::process::{Command, Stdio};
 use common::{sites, Folder};
 
 /// Lines of every kind with their exit statuses where all goes well.
-const LINES: [(&str, i32); 8] = [
+const LINES: [(&str, i32); 9] = [
     ("--help", 0),
     ("check --help", 0),
     ("--version", 0),
     ("check p.diagram", 0),
     ("show p.diagram --json", 0),
+    ("convert p.diagram --out -", 0),
     ("judge p.diagram card.record", 1),
     ("compare s.diagram p.diagram", 1),
     ("compare s.diagram p.diagram --out - --bound 3", 1),

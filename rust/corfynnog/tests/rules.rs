@@ -144,6 +144,6 @@ fn every_refusal_has_a_row() {
         number.parse().ok()
     });
     let numbers: Vec<u8> = numbers.collect();
-    let expected: Vec<u8> = (1..=10).chain(20..=24).collect();
+    let expected: Vec<u8> = (1..=10).chain(20..=25).collect();
     assert_eq!(numbers, expected);
 }

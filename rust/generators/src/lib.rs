@@ -1,10 +1,10 @@
 //! Made-up diagram files, record files, texts and rows of calls, for tests and benchmarks, and the
-//! worked texts, which several tests share.
+//! worked texts and conversions, which several tests share.
 //!
 //! What is made up comes from a seed, so that a case can be made again from its number alone.
 //! Nothing here judges, refuses or compares: it only makes input. `plan` is what a file is to
-//! say, and a plan may say something that a reader has to refuse. Only `worked_texts` says what
-//! the reply to its input is.
+//! say, and a plan may say something that a reader has to refuse. Only `worked_texts` and
+//! `worked_conversions` say what the reply to their input is.
 
 pub mod arrangement;
 pub mod calls;
@@ -31,6 +31,7 @@ pub mod text_damage;
 pub mod text_layout;
 pub mod texts;
 pub mod upper_limits;
+pub mod worked_conversions;
 pub mod worked_texts;
 
 pub use calls::CallPlan;

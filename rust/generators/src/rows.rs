@@ -4,6 +4,7 @@ use crate::calls::{coded, CallPlan};
 use crate::damage::damaged;
 use crate::diagrams::{diagram, Size};
 use crate::edition_faults::with_edition_fault;
+use crate::editions::in_any_edition;
 use crate::edits::edited;
 use crate::plan::DiagramPlan;
 use crate::random::Random;
@@ -66,7 +67,7 @@ pub fn row(
 impl Row<'_> {
     /// Adds a call or two of any kind.
     fn step(&mut self, random: &mut Random) {
-        match random.below(16) {
+        match random.below(18) {
             0 => {
                 let at = any_place(random);
                 self.load_whole(random, at);
@@ -90,6 +91,7 @@ impl Row<'_> {
                 self.load_text(random, at);
             }
             13 => self.load_damaged_text(random),
+            14 | 15 => self.convert(random),
             _ => self.calls.push(CallPlan::HandOut {
                 room: any_room(random),
             }),
@@ -169,7 +171,26 @@ impl Row<'_> {
         }
     }
 
-    /// Compares up to a bound that ends soon, or one that is refused; often hands out then.
+    /// Converts one of the diagrams of either edition, or what may be no diagram file.
+    fn convert(&mut self, random: &mut Random) {
+        let plan = random.pick(&self.diagrams).clone();
+        let plan = in_any_edition(random, &plan);
+        let file = match random.below(10) {
+            0 => with_edition_fault(random, &plan),
+            1 => damaged(random, &plan.fields()),
+            2 => self.record_file(random),
+            3 => {
+                let tokens = self.text(random).tokens;
+                laid_out(random, &tokens)
+            }
+            _ => plan.file(),
+        };
+        let room = any_convert_room(random);
+        self.calls.push(CallPlan::Convert { file, room });
+    }
+
+    /// Compares up to a bound that ends soon, or one that is refused; often hands out then, now and
+    /// then behind a conversion.
     fn compare(&mut self, random: &mut Random) {
         let mut bound = random.below(10) as u8;
         if bound < 9 {
@@ -179,6 +200,9 @@ impl Row<'_> {
         }
         self.calls.push(CallPlan::Compare { bound });
         if random.chance(2, 3) {
+            if random.chance(1, 6) {
+                self.convert(random);
+            }
             self.calls.push(CallPlan::HandOut {
                 room: *random.pick(&[60_000, 60_000, 60_000, 60_001, 59_999]),
             });
@@ -209,6 +233,11 @@ fn any_room(random: &mut Random) -> u32 {
     *random.pick(&[0, 10, 59_999, 60_000, 60_001])
 }
 
+/// The length of a buffer: below, at and above what a conversion asks for.
+pub fn any_convert_room(random: &mut Random) -> u32 {
+    *random.pick(&[0, 4_095, 4_096, 4_096, 4_097, 5_000])
+}
+
 /// Cuts a coded list off somewhere, or puts a call that nobody knows into it.
 pub fn spoiled(random: &mut Random, calls: &[CallPlan]) -> Vec<u8> {
     let mut list = coded(calls);
@@ -220,7 +249,7 @@ pub fn spoiled(random: &mut Random, calls: &[CallPlan]) -> Vec<u8> {
         1 => {
             let kept = random.below(calls.len() + 1);
             let mut list = coded(&calls[..kept]);
-            list.push(*random.pick(&[0, 9, 10, 127, 255]));
+            list.push(*random.pick(&[0, 10, 11, 127, 255]));
             list.extend(coded(&calls[kept..]));
             list
         }

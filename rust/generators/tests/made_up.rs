@@ -1,7 +1,7 @@
 //! What the generators promise: the same input for the same seed, and sizes that can be counted by hand.
 
 use generators::damage::{cuts, damaged};
-use generators::diagrams::{diagram, SMALL};
+use generators::diagrams::{diagram, SMALL, TINY};
 use generators::edition_faults::with_edition_fault;
 use generators::editions::{in_edition, NO_UPPER_LIMIT};
 use generators::edits::{edited, redrawn};
@@ -9,7 +9,8 @@ use generators::fillings::fillings;
 use generators::heads::headed_pair;
 use generators::notation;
 use generators::records::record;
-use generators::{Association, DiagramPlan, End, Random, Type};
+use generators::rows::row;
+use generators::{Association, CallPlan, DiagramPlan, End, Random, Type};
 use std::collections::BTreeSet;
 
 /// A class without parents.
@@ -173,6 +174,26 @@ fn edition_faults_change_most_files() {
         with_edition_fault(&mut random, &plan) != plan.file()
     });
     assert!(changed.count() >= 160);
+}
+
+#[test]
+fn rows_convert_files_of_both_editions_into_every_room() {
+    let (mut rooms, mut editions, mut others) = (BTreeSet::new(), [0; 2], 0);
+    for seed in 0..200 {
+        for call in row(&mut Random::new(seed), 20, TINY, &mut |_, _, _| false) {
+            let CallPlan::Convert { file, room } = call else {
+                continue;
+            };
+            rooms.insert(room);
+            match file.get(..4) {
+                Some([0x10, 0, 1, edition @ 1..=2]) => editions[usize::from(*edition) - 1] += 1,
+                _ => others += 1,
+            }
+        }
+    }
+    assert_eq!(rooms, [0, 4_095, 4_096, 4_097, 5_000].into());
+    let often = editions.iter().all(|times| *times >= 100);
+    assert!(often && others >= 30, "{editions:?}, {others}");
 }
 
 #[test]

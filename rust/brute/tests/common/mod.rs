@@ -4,6 +4,7 @@
 use brute::Edition;
 
 pub const EMPTY_DIAGRAM: &[u8] = b"\x10\x00\x01\x01";
+pub const EMPTY_DIAGRAM_2: &[u8] = b"\x10\x00\x01\x02";
 pub const MAIN_DIAGRAM: &[u8] = b"\x10\x00\x01\x01\x30\x00\x07\x03\x04Main\x00";
 pub const EMPTY_RECORD: &[u8] = b"\x60\x00\x01\x00";
 pub const CARD_RECORD: &[u8] = b"\x60\x00\x01\x01\x61\x00\x05\x04Card";
@@ -56,18 +57,19 @@ pub fn three_cards_record() -> Vec<u8> {
 
 /// The edition of a diagram file that is accepted.
 pub fn edition_of(file: &[u8]) -> Edition {
-    Edition::of_byte(file[3]).expect("an accepted file has an edition")
+    Edition::of_file(file).expect("an accepted file has an edition")
 }
 
-fn with_file(code: u8, place: u8, file: &[u8]) -> Vec<u8> {
-    let mut call = vec![code, place];
+/// A call with a file or a text behind its first bytes.
+fn with_file(first: &[u8], file: &[u8]) -> Vec<u8> {
+    let mut call = first.to_vec();
     call.extend((file.len() as u32).to_be_bytes());
     call.extend(file);
     call
 }
 
 pub fn load(place: u8, file: &[u8]) -> Vec<u8> {
-    with_file(1, place, file)
+    with_file(&[1, place], file)
 }
 
 pub fn clear(place: u8) -> Vec<u8> {
@@ -75,7 +77,7 @@ pub fn clear(place: u8) -> Vec<u8> {
 }
 
 pub fn judge(place: u8, file: &[u8]) -> Vec<u8> {
-    with_file(3, place, file)
+    with_file(&[3, place], file)
 }
 
 pub fn compile(place: u8) -> Vec<u8> {
@@ -83,7 +85,7 @@ pub fn compile(place: u8) -> Vec<u8> {
 }
 
 pub fn evaluate(place: u8, file: &[u8]) -> Vec<u8> {
-    with_file(5, place, file)
+    with_file(&[5, place], file)
 }
 
 pub fn compare(bound: u8) -> Vec<u8> {
@@ -97,5 +99,11 @@ pub fn hand_out(room: u32) -> Vec<u8> {
 }
 
 pub fn load_text(place: u8, text: &[u8]) -> Vec<u8> {
-    with_file(8, place, text)
+    with_file(&[8, place], text)
+}
+
+pub fn convert(file: &[u8], room: u32) -> Vec<u8> {
+    let mut call = with_file(&[9], file);
+    call.extend(room.to_be_bytes());
+    call
 }

@@ -3,6 +3,7 @@
 mod check;
 mod compare;
 mod compile;
+mod convert;
 mod evaluate;
 mod judge;
 mod make;
@@ -25,6 +26,7 @@ impl Command {
             Command::Check { .. } => "check",
             Command::Show { .. } => "show",
             Command::Make { .. } => "make",
+            Command::Convert { .. } => "convert",
             Command::Marked => "marked",
         }
     }
@@ -58,6 +60,7 @@ impl Command {
             Command::Check { files } => check::run(files),
             Command::Show { file } => show::run(file),
             Command::Make { site, out } => make::run(site, out),
+            Command::Convert { file, out } => convert::run(file, out),
             Command::Marked => marked::run(),
         }
     }

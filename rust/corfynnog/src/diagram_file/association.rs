@@ -18,17 +18,18 @@ const ARROW_AT: usize = 1;
 const LIMITS_AT: usize = 3;
 
 /// An association whose types' indices are not yet known to name anything.
-struct Found {
+pub struct Found {
     composition: bool,
     arrow: Arrow,
-    left: FoundEnd,
-    right: FoundEnd,
+    pub left: FoundEnd,
+    pub right: FoundEnd,
 }
 
-/// An end, likewise.
-struct FoundEnd {
+/// An end, likewise; its limits are the numbers that the file has for them.
+pub struct FoundEnd {
     of: Number,
-    limits: Limits,
+    pub low: Number,
+    pub up: Number,
     role: String,
 }
 
@@ -51,7 +52,10 @@ pub fn association(
     }
     let known = |end: FoundEnd| End {
         of: end.of.value,
-        limits: end.limits,
+        limits: Limits {
+            low: end.low.value,
+            up: Some(end.up.value).filter(|&up| up != edition.none),
+        },
         role: end.role,
     };
     Ok(Association {
@@ -63,7 +67,7 @@ pub fn association(
 }
 
 /// A content: form, arrow and the two ends.
-fn found_in(field: Field, edition: Edition) -> Result<Found, Fault> {
+pub fn found_in(field: Field, edition: Edition) -> Result<Found, Fault> {
     let mut content = Content::of(field);
     let form = content.number_in("form", 0..=1, FORMS)?;
     let arrow = content.number_in("arrow", 1..=4, ARROWS)?;
@@ -108,21 +112,17 @@ fn limits_of_other_edition(field: Field, edition: Edition) -> Option<Fault> {
 fn found_end(content: &mut Content, edition: Edition, side: &str) -> Result<FoundEnd, Fault> {
     let of = content.number(&format!("{side} type's index"))?;
     let low = lower_limit(content, edition, side)?;
-    let up = upper_limit(content, edition, side, low)?;
+    let up = upper_limit(content, edition, side, low.value)?;
     let role = content.name(&format!("{side} role name"))?.text;
-    Ok(FoundEnd {
-        of,
-        limits: Limits { low, up },
-        role,
-    })
+    Ok(FoundEnd { of, low, up, role })
 }
 
 /// A lower limit.
-fn lower_limit(content: &mut Content, edition: Edition, side: &str) -> Result<usize, Fault> {
+fn lower_limit(content: &mut Content, edition: Edition, side: &str) -> Result<Number, Fault> {
     let Edition { number, most, .. } = edition;
     let low = limit(content, edition, &format!("{side} lower limit"))?;
     if low.value <= most {
-        return Ok(low.value);
+        return Ok(low);
     }
     let what = format!(
         "the {side} lower limit is {}, but only 0 to {most} are allowed in edition {number}",
@@ -132,22 +132,19 @@ fn lower_limit(content: &mut Content, edition: Edition, side: &str) -> Result<us
     Err(content.fault(3, low.byte, what, to_do))
 }
 
-/// An upper limit, or that there is none.
+/// An upper limit, or the number for none.
 fn upper_limit(
     content: &mut Content,
     edition: Edition,
     side: &str,
     low: usize,
-) -> Result<Option<usize>, Fault> {
+) -> Result<Number, Fault> {
     let Edition {
         number, most, none, ..
     } = edition;
     let up = limit(content, edition, &format!("{side} upper limit"))?;
-    if up.value == none {
-        return Ok(None);
-    }
-    if (low..=most).contains(&up.value) {
-        return Ok(Some(up.value));
+    if up.value == none || (low..=most).contains(&up.value) {
+        return Ok(up);
     }
     let (is_within, within) = match low == most {
         true => (most.to_string(), most.to_string()),

@@ -91,7 +91,7 @@ fn compared(pair: &Pair, bound: u8, form: Form) -> Result<Came, String> {
     let Answer::Difference { objects, .. } = came.answer else {
         return Ok(came);
     };
-    let Some(Reply::Written { record: file, .. }) = replies.get(3) else {
+    let Some(Reply::Written { file, .. }) = replies.get(3) else {
         return Err(format!("{}, but no site is handed out", came.answer));
     };
     let site = record_of(&Loaded::site(file))
@@ -111,8 +111,8 @@ fn compared(pair: &Pair, bound: u8, form: Form) -> Result<Came, String> {
 fn handed_out(pair: &Pair, bound: u8, room: u32, form: Form) -> Result<Came, String> {
     let replies = search(pair, bound, room, form);
     let mut came = plain(&replies)?;
-    if let Some(Reply::Written { record, .. }) = replies.last() {
-        came.verdicts = Some(verdicts(pair, record, form)?);
+    if let Some(Reply::Written { file, .. }) = replies.last() {
+        came.verdicts = Some(verdicts(pair, file, form)?);
     }
     Ok(came)
 }

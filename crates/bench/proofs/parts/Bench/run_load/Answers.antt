@@ -1,5 +1,4 @@
 use Rattle.bench.proofs.CallLaws.{whole-stores}
-use Rattle.files.specs.DiagramFile.{read_diagram}
 use mathlib.Core.Path.{refl}
 use Rattle.steps.specs.Bench.{Load}
 use Rattle.steps.specs.Effect.{effect}

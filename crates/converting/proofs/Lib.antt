@@ -1,0 +1,5 @@
+pub mod HeldLaws
+pub mod PartLaws
+pub mod LoopLaws
+pub mod FittingLaws
+pub mod ConversionLaws

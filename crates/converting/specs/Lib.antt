@@ -1,0 +1,2 @@
+pub mod Conversion
+pub mod Fitting
