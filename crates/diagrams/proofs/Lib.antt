@@ -1,3 +1,4 @@
 pub mod ViewLaws
 pub mod NamedLaws
 pub mod EmptyLaws
+pub mod FirstSetLaws

@@ -22,6 +22,7 @@ pub mod DiagramRoundTrip
 pub mod DiagramSize
 pub mod AcceptedBytes
 pub mod AncestorLaws
+pub mod FirstTypeLaws
 pub mod OneLayout
 pub mod NarrowLaws
 pub mod EditionSizes

@@ -4,6 +4,7 @@ pub mod Name
 pub mod Content
 pub mod Diagram
 pub mod Ancestor
+pub mod FirstTypes
 pub mod Limit
 pub mod DiagramLayout
 pub mod DiagramFile
@@ -20,3 +21,4 @@ pub mod EditionCases
 pub mod EditionFields
 pub mod Convert
 pub mod ConvertCases
+pub mod FamilyCases

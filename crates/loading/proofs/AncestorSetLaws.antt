@@ -4,15 +4,14 @@
 use mathlib.Core.Path.{◌≡◌, refl, sym, ap, ap₂, ◌∙◌, subst}
 use mathlib.Core.Bool.{Bool, true, false, ◌||◌}
 use mathlib.Core.Logic.{⊎_elim}
-use Prim.Native.Nat.{ℕ, zero, suc, ◌+◌, ◌≤◌, ◌<◌}
+use Prim.Native.Nat.{ℕ, suc, ◌+◌, ◌≤◌, ◌<◌}
 use native.Mathlib.Decide.{dec_lt}
-use native.Mathlib.Nat.{lt_trans}
 use native.Mathlib.Numerals.{add-one}
 use native.Mathlib.Omega.{arith}
 use mathlib.Core.List.{List, [], ◌∷◌, ◌++◌}
 use lib.Bits.{bit_or}
 use lib.Dec.{eqb}
-use lib.ListN.{length, get_or, set, get_or-append, get_or-eq_default}
+use lib.ListN.{length, get_or, get_or-append, get_or-eq_default}
 use lib.Seq.{get_or-append_seam}
 use Rattle.laws.specs.Bits.{bit}
 use Rattle.laws.specs.Bounded.{any}
@@ -20,10 +19,11 @@ use Rattle.laws.specs.Connective.{either}
 use Rattle.laws.proofs.BitLaws.{bit-or, bit-zero}
 use Rattle.laws.proofs.BoundedLaws.{any-ext, any-more, last, eqb-turned}
 use Rattle.laws.proofs.ConnectiveLaws.{either-false}
-use Rattle.laws.proofs.ListLaws.{snoc-below, set-kept, set_is}
-use Rattle.files.specs.Ancestor.{parent_at, parent_count, reaches, reaches_by}
+use Rattle.laws.proofs.ListLaws.{snoc-below}
+use Rattle.files.specs.Ancestor.{reaches}
 use Rattle.files.specs.Diagram.{Diagram, TypeDef, type_at}
 use Rattle.files.proofs.AncestorLaws.{Below, reaches_step}
+use Rattle.files.proofs.FirstTypeLaws.{reached-same}
 use Rattle.diagrams.specs.declared.Types.{Types}
 use Rattle.diagrams.specs.Held.{Sets, only_types}
 use Rattle.diagrams.specs.View.{types_of}
@@ -75,24 +75,11 @@ below-more-types ts x f g i = go (dec_lt i (length (ts ++ (x ∷ []))))
         let beyond : length (ts ++ (x ∷ [])) ≤ i = omega arith in
         subst (λ (y : TypeDef). ParentsBelow y i) (sym (get_or-eq_default (ts ++ (x ∷ [])) no_type beyond)) (λ s l. absurd (omega arith))
 
--- what is reached from a type below n, in diagrams that have the same types below n
-module _ (d e : Diagram) (n : ℕ) (agree : (i : ℕ) → i < n → type_at e i ≡ type_at d i) (below : Below d) where
-  reached-by : (k i t : ℕ) → i < n → reaches_by e k i t ≡ reaches_by d k i t
-  unfolding reaches_by
-  reached-by zero i t l = refl
-  reached-by (suc k) i t l =
-      ap (either (eqb i t))
-      (ap (λ (x : TypeDef). any (λ s. reaches_by e k (get_or x.parents s 0) t) (length x.parents)) (agree i l)
-      ∙ any-ext _ _ (parent_count d i) (λ s b. reached-by k (parent_at d i s) t (lt_trans (below i s b) l)))
-
-  reached-same : (i t : ℕ) → i < n → reaches e i t ≡ reaches d i t
-  unfolding reaches
-  reached-same i t l = reached-by i i t l
-
 -- the sets with that of the new type are exact
-pub sets_more : (t r : Types) (x : TypeDef) (m : ℕ) → types_of r ≡ types_of t ++ (x ∷ []) → r.count ≡ t.count + 1 → t.count < length t.sets
-    → Below (only_types t) → ParentsBelow x t.count → Sets t → r.sets ≡ set t.sets t.count m → SetOf t.sets t.count x.parents m → Sets r
-sets_more t r x m says count room below known sets stored is =
+pub sets_more : (t r : Types) (x : TypeDef) → types_of r ≡ types_of t ++ (x ∷ []) → r.count ≡ t.count + 1
+    → Below (only_types t) → ParentsBelow x t.count → Sets t → ((i : ℕ) → i < t.count → get_or r.sets i 0 ≡ get_or t.sets i 0)
+    → SetOf t.sets t.count x.parents (get_or r.sets t.count 0) → Sets r
+sets_more t r x says count below known sets finished joined =
     let ts : List TypeDef = types_of t in
     let size : length ts ≡ t.count = type-total t in
     let new : Diagram = only (ts ++ (x ∷ [])) in
@@ -105,11 +92,11 @@ sets_more t r x m says count room below known sets stored is =
     λ i j l.
     ⊎_elim
     (λ e.
-    ap (λ (k : ℕ). bit j (get_or r.sets k 0)) e ∙ ap (bit j) (set_is t.sets r.sets t.count m stored room) ∙ is j
+    ap (λ (k : ℕ). bit j (get_or r.sets k 0)) e ∙ joined j
     ∙ ap (either (eqb t.count j)) (any-ext _ _ (length x.parents) (λ s b. old (get_or x.parents s 0) j (known s b)))
     ∙ ap (λ (y : TypeDef). either (eqb t.count j) (any (λ s. reaches new (get_or y.parents s 0) j) (length y.parents))) (sym at)
     ∙ sym (reaches_step new under t.count j) ∙ ap (λ (k : ℕ). reaches new k j) (sym e))
-    (λ b. ap (bit j) (set-kept t.sets r.sets t.count m i stored b) ∙ old i j b) (last l) in
+    (λ b. ap (bit j) (finished i b) ∙ old i j b) (last l) in
     record {
       exact = λ i j l.
           whole i j (subst (λ (n : ℕ). i < n) (count ∙ add-one t.count) l) ∙ ap (λ (ys : List TypeDef). reaches (only ys) i j) (sym says);

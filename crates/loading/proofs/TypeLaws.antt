@@ -98,9 +98,13 @@ type-stored t r c m {ps = ps} {k = k} {n = n} fits size1 size2 size3 p q e f g h
     ∙ sym (each_of (λ s. get_or r.parents (t.count * 4 + s) 0) 0 ps n many (λ i b. sym (parents.is i (let j : i < length ps = omega arith in j)))) ∙ list in
     cc (names.is, ap name_in p)) in
     let room3 : t.count < length t.sets = omega arith in
+    let finished : (i : ℕ) → i < t.count → get_or r.sets i 0 ≡ get_or t.sets i 0 = λ i l. set-kept t.sets r.sets t.count m i sets l in
+    let joined : SetOf t.sets t.count (type_of c).parents (get_or r.sets t.count 0) =
+    subst (SetOf t.sets t.count (type_of c).parents) (sym (set_is t.sets r.sets t.count m sets room3)) (subst (λ (x : List ℕ). SetOf t.sets t.count x m) list is) in
     record {
       count = count;
       says = says;
-      sets = sets_more t r (type_of c) m says count room3 fits.below fits.known fits.sets sets
-          (subst (λ (x : List ℕ). SetOf t.sets t.count x m) list is);
+      finished = finished;
+      joined = joined;
+      sets = sets_more t r (type_of c) says count fits.below fits.known fits.sets finished joined;
     }

@@ -57,9 +57,12 @@ pub record TypeFits (t : Types) (c : List ℕ) : Type 0 where
   pub below : (i s : ℕ) → s < parent_count (only_types t) i → parent_at (only_types t) i s < i
   pub sets : Sets t
 
+-- 02 5/12: "join the parents' finished sets". The sets before are as they were, and the one more is its own bit with the sets of its parents.
 pub record TypeStored (t : Types) (c : List ℕ) (r : Types) : Type 0 where
   pub count : r.count ≡ t.count + 1
   pub says : types_of r ≡ types_of t ++ (type_of c ∷ [])
+  pub finished : (i : ℕ) → i < t.count → get_or r.sets i 0 ≡ get_or t.sets i 0
+  pub joined : SetOf t.sets t.count (type_of c).parents (get_or r.sets t.count 0)
   pub sets : Sets r
 
 -- ---- attributes

@@ -1,16 +1,15 @@
 -- What is an instance of a type, and rules 1 to 4, go by the types, attributes and value types of a diagram alone: of two diagrams that
--- differ in their associations only they say the same. Only `reaches_by` takes an induction, since it hands the diagram on; all else
--- looks at the diagram through its instances.
+-- differ in their associations only they say the same: what is reached goes by the types, and all else looks at the diagram through its
+-- instances.
 -- Assumes nothing.
-use Prim.Native.Nat.{suc, zero, ℕ}
+use Prim.Native.Nat.{ℕ}
 use mathlib.Core.List.{List}
 use mathlib.Core.Path.{◌≡◌, ap, refl}
-use lib.Dec.{eqb}
 use lib.ListN.{length}
 use Rattle.laws.specs.Bounded.{all, any}
-use Rattle.laws.specs.Connective.{both, either, imp, same}
+use Rattle.laws.specs.Connective.{both, imp, same}
 use Rattle.laws.proofs.BoundedLaws.{any-ext}
-use Rattle.files.specs.Ancestor.{parent_at, parent_count, reaches, reaches_by}
+use Rattle.files.proofs.FirstTypeLaws.{reaches-types}
 use Rattle.files.specs.Diagram.{Association, Diagram, attribute_at, type_at, value_type_at}
 use Rattle.files.specs.Name.{same_name}
 use Rattle.rules.specs.Instance.{has_type, is_instance}
@@ -23,14 +22,9 @@ abbrev pub with_associations : Diagram → List Association → Diagram
 with_associations d links = record { value_types = d.value_types; types = d.types; attributes = d.attributes; associations = links }
 
 module _ (d : Diagram) (links : List Association) where
-  reached-by-types : (n i t : ℕ) → reaches_by (with_associations d links) n i t ≡ reaches_by d n i t
-  unfolding reaches_by
-  reached-by-types zero i t = refl
-  reached-by-types (suc n) i t = ap (either (eqb i t)) (any-ext _ _ (parent_count d i) (λ s l. reached-by-types n (parent_at d i s) t))
-
   instance-by-types : (x : Site) (t o : ℕ) → is_instance (with_associations d links) x t o ≡ is_instance d x t o
-  unfolding is_instance has_type reaches
-  instance-by-types x t o = any-ext _ _ (length d.types) (λ i l. ap (both (x.typed o (type_at d i).name)) (reached-by-types i i t))
+  unfolding is_instance has_type
+  instance-by-types x t o = any-ext _ _ (length d.types) (λ i l. ap (both (x.typed o (type_at d i).name)) (reaches-types (with_associations d links) d refl i t))
 
   pub instances-by-types : (x : Site) → is_instance (with_associations d links) x ≡ is_instance d x
   instances-by-types x = λ j t o. instance-by-types x t o j

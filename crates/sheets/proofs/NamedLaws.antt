@@ -22,7 +22,7 @@ use Rattle.diagrams.proofs.ViewLaws.{type-count}
 use Rattle.diagrams.proofs.NamedLaws.{role-count, role-named}
 use Rattle.records.specs.Slots.{role_name, type_index}
 use Rattle.resolving.proofs.LookupLaws.{role-slot}
-use Rattle.tables.proofs.TableLaws.{set-reaches}
+use Rattle.diagrams.proofs.FirstSetLaws.{set-reaches}
 use Rattle.type_tables.specs.RowsIn.{is_subtype}
 use Rattle.type_tables.specs.TypeTables.{TypePlaces}
 use Rattle.views.specs.Views.{counts_as, slot_by}

@@ -52,18 +52,3 @@ module _ (d : Diagram) (wf : WfDiagram d) where
       → is_instance d (site_in d m) t o ≡ both (ltb (get_or m.types o 0) (length d.types)) (reaches d (get_or m.types o 0) t)
   unfolding is_instance
   is-instance m t o = any-type m (λ i. reaches d i t) o
-
--- ---- what is reached is a matter of the types alone
-
-reaches_by-types : (d e : Diagram) → d.types ≡ e.types → (n i t : ℕ) → reaches_by d n i t ≡ reaches_by e n i t
-unfolding reaches_by
-reaches_by-types d e s zero i t = refl
-reaches_by-types d e s (suc n) i t =
-    ap (either (eqb i t))
-    (any-ext (λ k. reaches_by d n (parent_at d i k) t) (λ k. reaches_by e n (parent_at d i k) t) (parent_count d i)
-    (λ k l. reaches_by-types d e s n (parent_at d i k) t)
-    ∙ ap (λ (ps : List ℕ). any (λ k. reaches_by e n (get_or ps k 0) t) (length ps)) (ap (λ (ts : List TypeDef). (get_or ts i (record { kind = 0; name = []; parents = [] })).parents) s))
-
-pub reaches-types : (d e : Diagram) → d.types ≡ e.types → (i t : ℕ) → reaches d i t ≡ reaches e i t
-unfolding reaches
-reaches-types d e s i t = reaches_by-types d e s i i t

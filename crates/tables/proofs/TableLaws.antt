@@ -29,7 +29,8 @@ use Rattle.rules.specs.Instance.{is_instance}
 use Rattle.memory_rules.specs.SiteIn.{site_in}
 use Rattle.tables.specs.Numbers.{counts_as, set_at, slot_at}
 use Rattle.tables.specs.Tables.{AttributeSlots, Instances, RoleSlots}
-use Rattle.tables.proofs.OwnLaws.{is-instance, reaches-types}
+use Rattle.diagrams.proofs.FirstSetLaws.{set-reaches}
+use Rattle.tables.proofs.OwnLaws.{is-instance}
 
 -- ---- a kept set, in the terms of the code's tests
 
@@ -48,10 +49,6 @@ set-unknown sets types n o {i} {j} e q l =
 -- ---- instances
 
 module _ (d : StoredDiagram) (held : Held d) where
-  pub set-reaches : (i k : ℕ) → i < d.types.count → bit k (get_or d.types.sets i 0) ≡ reaches (diagram_of d) i k
-  unfolding diagram_of
-  set-reaches i k l = held.sets.exact i k l ∙ reaches-types (only_types d.types) (diagram_of d) refl i k
-
   pub counts-as-instance : (m : MemoryRecord) (k o : ℕ) → counts_as d.types.sets d.types.count m.types k o ≡ is_instance (diagram_of d) (site_in (diagram_of d) m) k o
   unfolding counts_as set_at both
   counts-as-instance m k o = go (ltb i n) refl ∙ sym (is-instance (diagram_of d) held.wf m k o ∙ ap (λ (c : ℕ). both (ltb i c) (reaches (diagram_of d) i k)) (type-count d))
@@ -63,7 +60,7 @@ module _ (d : StoredDiagram) (held : Held d) where
       n = d.types.count
 
       go : (b : Bool) → ltb i n ≡ b → bit k (cond b (get_or d.types.sets i 0) 0) ≡ both b (reaches (diagram_of d) i k)
-      go true e = set-reaches i k (ltb-true i n e)
+      go true e = set-reaches d held i k (ltb-true i n e)
       go false e = bit-zero k
 
   pub instances-of : (m : MemoryRecord) (masks : List ℕ) → m.count ≤ 8

@@ -20,7 +20,8 @@ use Rattle.diagrams.specs.View.{diagram_of}
 use Rattle.diagrams.specs.Held.{Held}
 use Rattle.diagrams.proofs.ViewLaws.{attribute-count, type-count}
 use Rattle.tables.specs.Tables.{AttributeSlots}
-use Rattle.tables.proofs.TableLaws.{attribute-owner, attribute-type, set-reaches}
+use Rattle.diagrams.proofs.FirstSetLaws.{set-reaches}
+use Rattle.tables.proofs.TableLaws.{attribute-owner, attribute-type}
 use Rattle.type_tables.specs.Due.{declares_for, due, due_among, joined}
 use Rattle.type_tables.specs.TypeTables.{Dues}
 use Rattle.type_tables.specs.ValuesIn.{declares_in, due_at, due_in, due_more}

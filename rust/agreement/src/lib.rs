@@ -10,6 +10,7 @@ pub mod alike;
 pub mod comparing;
 pub mod converting;
 pub mod editions;
+pub mod families;
 pub mod files;
 pub mod heads;
 pub mod judging;

@@ -125,7 +125,7 @@ pub fn edition_of(plan: &DiagramPlan) -> Edition {
 }
 
 /// A load of a text, in short.
-fn load_text(place: u8, text: &[u8]) -> CallPlan {
+pub(crate) fn load_text(place: u8, text: &[u8]) -> CallPlan {
     let text = text.to_vec();
     CallPlan::LoadText { place, text }
 }

@@ -2,7 +2,8 @@
 //! runs them for SOAK_MINUTES minutes.
 
 use agreement::{
-    alike, comparing, converting, editions, files, heads, judging, rows, solving, text_pairs, texts,
+    alike, comparing, converting, editions, families, files, heads, judging, rows, solving,
+    text_pairs, texts,
 };
 use std::time::{Duration, Instant, SystemTime, UNIX_EPOCH};
 
@@ -31,11 +32,14 @@ fn every_check_on_many_seeds() {
     let (mut called, mut read) = (rows::Tally::default(), texts::Tally::default());
     let (mut headed, mut in_both) = (alike::Tally::default(), alike::Tally::default());
     let mut converted = converting::Tally::default();
+    let mut deep = families::Tally::default();
     let (mut solved, mut solving_time) = (solving::Tally::default(), Duration::ZERO);
     while seed == first || start.elapsed() < Duration::from_secs(60 * minutes) {
         files::diagrams_agree(seed, &files::diagram_files(seed), &mut diagrams);
         files::records_agree(seed, &files::record_files(seed), &mut records);
         texts::whole_texts_agree(seed, &mut read);
+        families::families_agree(seed, &mut deep);
+        families::families_without_a_parent_differ(seed, &mut deep);
         texts::texts_agree(seed, &texts::texts_damaged_by_token(seed), &mut read);
         texts::texts_agree(seed, &texts::texts_damaged_by_byte(seed), &mut read);
         judging::judging_agrees(seed, &mut judged);
@@ -68,6 +72,7 @@ fn every_check_on_many_seeds() {
     println!("heads: {headed:?}");
     println!("editions: {in_both:?}");
     println!("converting: {converted:?}");
+    println!("families: {deep:?}");
     println!("solving: {solved:?}");
     println!("rows: {called:?}");
 }

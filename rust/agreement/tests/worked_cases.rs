@@ -25,7 +25,7 @@ fn judging(place: u8, file: &[u8]) -> Call<'_> {
 #[test]
 fn diagram_files() {
     let cases = cases("D");
-    assert!(cases.len() >= 125);
+    assert!(cases.len() >= 138);
     for case in cases {
         let replies = run(&[load(0, &case.files[0])]);
         assert_eq!(said(&replies[0]), case.answers[0], "{}", case.name);
@@ -52,7 +52,7 @@ fn record_files() {
 #[test]
 fn records_judged_and_evaluated() {
     let cases = cases("J");
-    assert!(cases.len() >= 87);
+    assert!(cases.len() >= 118);
     for case in cases {
         let (file, place) = (case.files[1].as_slice(), 1);
         let diagram = load(1, &case.files[0]);

@@ -3,6 +3,7 @@
 use brute::{read_diagram, read_record};
 use generators::diagrams::{diagram, SMALL};
 use generators::edits::edited;
+use generators::families::{family, linked, without_a_parent};
 use generators::limits::full;
 use generators::record_limits::largest;
 use generators::Random;
@@ -17,6 +18,21 @@ fn generated_diagrams_are_accepted() {
             read_diagram(&edited.file()).is_ok(),
             "seed {seed}: {edited:?}"
         );
+    }
+}
+
+#[test]
+fn families_are_accepted() {
+    for seed in 0..500 {
+        let mut random = Random::new(seed);
+        let plan = family(&mut random);
+        for plan in [
+            linked(&mut random, &plan),
+            without_a_parent(&mut random, &plan),
+            plan,
+        ] {
+            assert!(read_diagram(&plan.file()).is_ok(), "seed {seed}: {plan:?}");
+        }
     }
 }
 

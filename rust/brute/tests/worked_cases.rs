@@ -126,7 +126,7 @@ fn run(letters: &str) -> usize {
 
 #[test]
 fn diagram_files() {
-    assert!(run("D") >= 125);
+    assert!(run("D") >= 138);
 }
 
 #[test]
@@ -136,7 +136,7 @@ fn record_files() {
 
 #[test]
 fn records_judged_and_evaluated() {
-    assert!(run("J") >= 2 * 87);
+    assert!(run("J") >= 2 * 118);
 }
 
 #[test]

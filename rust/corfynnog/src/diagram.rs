@@ -203,10 +203,17 @@ impl Diagram {
         self.types.iter().position(|t| t.name == name)
     }
 
-    /// A type is the other one, or the other one is reached from it through parents.
+    /// A type is the other one, or the other one is reached from it through parents. Each type is
+    /// met once: there may be millions of ways up to one.
     pub fn reaches(&self, from: usize, to: usize) -> bool {
-        let mut parents = self.types[from].parents.iter();
-        from == to || parents.any(|&parent| self.reaches(parent, to))
+        let mut reached = vec![false; self.types.len()];
+        let mut open = vec![from];
+        while let Some(of) = open.pop() {
+            if !std::mem::replace(&mut reached[of], true) {
+                open.extend(&self.types[of].parents);
+            }
+        }
+        reached[to]
     }
 
     /// An object of that type name is an instance of the type.
@@ -222,5 +229,50 @@ impl Diagram {
             declared.name == attribute && self.is_instance(type_name, declared.owner)
         });
         asked.map(|(index, _)| index).collect()
+    }
+}
+
+#[cfg(test)]
+mod tests {
+    use super::*;
+
+    /// A diagram of classes with these parents.
+    fn classes(parents: impl Iterator<Item = Vec<usize>>) -> Diagram {
+        let class = |(at, parents)| Type {
+            kind: Kind::Class,
+            name: format!("T{at}"),
+            parents,
+        };
+        Diagram {
+            types: parents.enumerate().map(class).collect(),
+            ..Diagram::default()
+        }
+    }
+
+    #[test]
+    fn a_type_reaches_what_stands_above_it() {
+        let widest = classes((0..24).map(|at: usize| (at.saturating_sub(4)..at).collect()));
+        for from in 0..24 {
+            for to in 0..24 {
+                assert_eq!(widest.reaches(from, to), to <= from, "{from}, {to}");
+            }
+        }
+    }
+
+    #[test]
+    fn a_type_reaches_no_sibling() {
+        let parents = [vec![], vec![0], vec![0], vec![1, 2], vec![2]];
+        let siblings = classes(parents.into_iter());
+        let reached = [
+            vec![0],
+            vec![0, 1],
+            vec![0, 2],
+            vec![0, 1, 2, 3],
+            vec![0, 2, 4],
+        ];
+        for (from, wanted) in reached.iter().enumerate() {
+            let all: Vec<usize> = (0..5).filter(|to| siblings.reaches(from, *to)).collect();
+            assert_eq!(all, *wanted, "{from}");
+        }
     }
 }

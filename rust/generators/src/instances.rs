@@ -9,13 +9,25 @@ pub struct Carried<'a> {
     pub association: &'a Association,
 }
 
-/// Whether an object of type `of` is an instance of `wanted`.
+/// Whether an object of type `of` is an instance of `wanted`, in a plan whose parents stand before
+/// their types.
 pub fn is_instance(plan: &DiagramPlan, of: usize, wanted: usize) -> bool {
-    let parents = &plan.types[of].parents;
-    of == wanted
-        || parents
-            .iter()
-            .any(|parent| is_instance(plan, usize::from(*parent), wanted))
+    reached(plan, of)[wanted]
+}
+
+/// Of each type, whether an object of type `of` is an instance of it, in a plan whose parents stand
+/// before their types: from that one down, each is met after all that lead to it.
+pub fn reached(plan: &DiagramPlan, of: usize) -> Vec<bool> {
+    let mut reached = vec![false; plan.types.len()];
+    reached[of] = true;
+    for at in (0..=of).rev() {
+        if reached[at] {
+            for parent in &plan.types[at].parents {
+                reached[usize::from(*parent)] = true;
+            }
+        }
+    }
+    reached
 }
 
 /// Whether objects may have this type: a class or a singleton class.

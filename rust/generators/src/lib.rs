@@ -13,6 +13,7 @@ pub mod diagrams;
 pub mod edition_faults;
 pub mod editions;
 pub mod edits;
+pub mod families;
 pub mod faults;
 pub mod fields;
 pub mod fillings;

@@ -5,8 +5,10 @@ use generators::diagrams::{diagram, SMALL, TINY};
 use generators::edition_faults::with_edition_fault;
 use generators::editions::{in_edition, NO_UPPER_LIMIT};
 use generators::edits::{edited, redrawn};
+use generators::families::{family, records, without_a_parent};
 use generators::fillings::fillings;
 use generators::heads::headed_pair;
+use generators::instances::reached;
 use generators::notation;
 use generators::records::record;
 use generators::rows::row;
@@ -233,4 +235,69 @@ fn every_part_of_a_diagram_has_its_text() {
          50 00 13 00 03 02 01 FF 04 6D 61 69 6E 01 00 FF 05 75 6E 69 74 73",
     );
     assert_eq!(plan.file(), bytes);
+}
+
+/// How many types stand one above the other at most, up from this type.
+fn depth(plan: &DiagramPlan, of: usize) -> usize {
+    let parents = plan.types[of].parents.iter();
+    let above = parents.map(|parent| depth(plan, usize::from(*parent)));
+    1 + above.max().unwrap_or(0)
+}
+
+#[test]
+fn families_are_deep_and_wide() {
+    let (mut chains, mut widest, mut interfaces, mut changed) = (0, 0, 0, 0);
+    for seed in 0..500 {
+        let plan = family(&mut Random::new(seed));
+        let most = plan.types.iter().map(|of| of.parents.len()).max();
+        if most <= Some(1) {
+            chains += usize::from(depth(&plan, plan.types.len() - 1) == 24);
+        }
+        let mut types = plan.types.iter().enumerate();
+        let all_before = types.all(|(at, of)| of.parents.len() == at.min(4));
+        widest += usize::from(all_before && plan.types.len() == 24);
+        let kind_of = |of: &u8| plan.types[usize::from(*of)].kind;
+        interfaces += plan
+            .types
+            .iter()
+            .filter(|of| of.kind != 2 && of.parents.iter().any(|p| kind_of(p) == 2))
+            .count();
+        changed += usize::from(without_a_parent(&mut Random::new(seed), &plan) != plan);
+    }
+    assert!(
+        chains >= 10 && widest >= 10 && interfaces >= 100 && changed >= 400,
+        "{chains}, {widest}, {interfaces}, {changed}"
+    );
+}
+
+#[test]
+fn a_type_reaches_itself_and_what_is_above_it() {
+    let text = "interface I; interface J extends I; class A; class B extends A implements J;";
+    let plan = notation::diagram(text);
+    let sets: Vec<Vec<bool>> = (0..4).map(|of| reached(&plan, of)).collect();
+    assert_eq!(
+        sets,
+        [
+            [true, false, false, false],
+            [true, true, false, false],
+            [false, false, true, false],
+            [true, true, true, true],
+        ]
+    );
+}
+
+#[test]
+fn records_of_a_family_miss_a_value_or_have_one_more() {
+    let mut plan = family(&mut Random::new(0));
+    plan.types.iter_mut().for_each(|of| of.kind = 0);
+    let count = plan.types.len();
+    let records = records(&mut Random::new(0), &plan);
+    let pairs = &records[count.div_ceil(8)..];
+    assert_eq!(pairs.len(), count * 2);
+    for (of, pair) in pairs.chunks(2).enumerate() {
+        let own = reached(&plan, of).iter().filter(|is| **is).count();
+        let more = usize::from(own < count);
+        assert_eq!(pair[0].values.len(), own - 1);
+        assert_eq!(pair[1].values.len(), own + more);
+    }
 }
