@@ -1,5 +1,5 @@
 pub mod ChainLaws
-pub mod AskLaws
+pub mod SkipLaws
 pub mod RowLaws
 pub mod ColumnLaws
 pub mod SingleLaws

@@ -168,6 +168,15 @@ module _ (x : Sheet) (n i : ℕ) (others : List ℕ) where
             (subst (λ (y : ℕ). InLimits (get_or others i 0 + 1) 8 (tally (λ p. w.link y o p) w.size)) (sym slot)
             (record { least = omega arith; most = few-at x i w h o })))
 
+-- a row that asks for nothing more than the own one is kept
+pub row-kept : (x : Sheet) (n i : ℕ) (targets lows highs : List ℕ) (d : ℕ) → Rest d (get_or x.targets i 0) (get_or targets i 0) → d ≡ 0 → get_or lows i 0 ≤ get_or x.lows i 0
+    → get_or x.highs i 0 ≤ get_or highs i 0 → Throughout x (RowKept targets lows highs i) n
+row-kept x n i targets lows highs d f e l g w h z = record {
+  targets-kept = target_none x n i targets d f e w h z;
+  low-kept = low-none x n i lows l w h z;
+  high-kept = high-none x n i highs g w h z;
+}
+
 -- ---- all rows
 
 module _ (targets lows highs : List ℕ) where

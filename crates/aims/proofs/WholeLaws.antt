@@ -94,6 +94,13 @@ module _ (x : Sheet) (n : ℕ) (c d : Whole) where
         (ap (bit (w.kind p)) z ∙ bit-zero (w.kind p));
   }
 
+  -- no type is a whole by the first, or by the second
+  pub pair-no-whole : c.from ≡ 0 → Throughout x (PairApart c d) n
+  pair-no-whole z w h _ = record { at = λ p o _ _ _ _ _ e _. true-false (whole_from c w p o e) (ap (bit (w.kind o)) z ∙ bit-zero (w.kind o)) }
+
+  pub pair-no-whole-too : d.from ≡ 0 → Throughout x (PairApart c d) n
+  pair-no-whole-too z w h _ = record { at = λ p _ r _ _ _ _ _ e. true-false (whole_from d w p r e) (ap (bit (w.kind r)) z ∙ bit-zero (w.kind r)) }
+
   -- a slot past the last has no links
   pub pair-past : 32 ≤ c.slot → Throughout x (PairApart c d) n
   pair-past l w h _ = record { at = λ p o _ _ _ _ _ e _. true-false (whole-link c w p o e) (h.past c.slot o p l) }

@@ -1,4 +1,5 @@
-// Searches for allowed worlds with given objects in front: each answer says what all allowed worlds avoid.
+// Searches for allowed worlds with given objects in front: each answer says what all allowed worlds avoid. Whether objects can have a type
+// of each set is asked before a query is made: most searches end there.
 ghost use Rattle.std.specs.Prelude.{◌<◌, is_some};
 ghost use Rattle.worlds.specs.Kept.{TypesAvoided, sheet_of};
 ghost use Rattle.worlds.specs.Asked.{Answers, Sane, Solution, world_built};
@@ -9,14 +10,11 @@ use crate::search::Search;
 use worlds::{Query, Site};
 
 impl Search<'_> {
-    // A world that the query asks for. There is none where objects can have none of a seed's types.
+    // A world that the query asks for.
     fn ask(&self, q: &Query) -> Option<Site>
         requires { Sane q.now }
         ensures { Answers (Solution (sheet_of self.now.tables.now) q.now self.now.n) (is_some result) (world_built self.now.n result) }
     {
-        if (0..q.seeds).any(|k| !queries::meets(q.types[usize::from(k)], self.tables.usable)) {
-            return None;
-        }
         growth::find(self.tables, q, self.n)
     }
 
@@ -24,6 +22,9 @@ impl Search<'_> {
     pub fn ask_types(&self, a: u32) -> Option<Site>
         ensures { Finds self.now (TypesAvoided a) result }
     {
+        if !queries::meets(a, self.tables.usable) {
+            return None;
+        }
         self.ask(&queries::with_seeds(1, a, 0, 0))
     }
 
@@ -45,6 +46,9 @@ impl Search<'_> {
     pub fn ask_pairs(&self, a: u32) -> Option<Site>
         ensures { Finds self.now (PairsAvoided a) result }
     {
+        if !queries::meets(a, self.tables.usable) {
+            return None;
+        }
         self.ask(&queries::with_seeds(2, a, a, 0))
     }
 
@@ -53,6 +57,12 @@ impl Search<'_> {
         requires { s < 32 }
         ensures { Finds self.now (LinksAvoided s a b) result }
     {
+        if !queries::meets(a, self.tables.usable) {
+            return None;
+        }
+        if !queries::meets(b, self.tables.usable) {
+            return None;
+        }
         let q = queries::with_seeds(2, a, b, 0);
         self.ask(&queries::with_link(q, s, 0, 1))
     }
@@ -62,6 +72,9 @@ impl Search<'_> {
         requires { s < 32 }
         ensures { Finds self.now (LoopsAvoided s a) result }
     {
+        if !queries::meets(a, self.tables.usable) {
+            return None;
+        }
         let q = queries::with_seeds(1, a, 0, 0);
         self.ask(&queries::with_link(q, s, 0, 0))
     }
@@ -71,6 +84,9 @@ impl Search<'_> {
         requires { s < 32 }
         ensures { Finds self.now (RowsAvoided s a low high) result }
     {
+        if !queries::meets(a, self.tables.usable) {
+            return None;
+        }
         let q = queries::with_seeds(1, a, 0, 0);
         self.ask(&queries::with_row(q, s, low, high))
     }
@@ -80,6 +96,9 @@ impl Search<'_> {
         requires { s < 32 }
         ensures { Finds self.now (ColumnsAvoided s a from low high) result }
     {
+        if !queries::meets(a, self.tables.usable) {
+            return None;
+        }
         let q = queries::with_seeds(1, a, 0, 0);
         self.ask(&queries::with_column(q, s, from, low, high))
     }
@@ -89,6 +108,12 @@ impl Search<'_> {
         requires { (s < 32) × (u < 32) }
         ensures { Finds self.now (HalvesAvoided s u a b) result }
     {
+        if !queries::meets(a, self.tables.usable) {
+            return None;
+        }
+        if !queries::meets(b, self.tables.usable) {
+            return None;
+        }
         let q = queries::with_seeds(2, a, b, 0);
         self.ask(&queries::with_bar(queries::with_link(q, s, 0, 1), u, 1, 0))
     }
@@ -98,6 +123,9 @@ impl Search<'_> {
         requires { (s < 32) × (u < 32) }
         ensures { Finds self.now (HalfLoopsAvoided s u a) result }
     {
+        if !queries::meets(a, self.tables.usable) {
+            return None;
+        }
         let q = queries::with_seeds(1, a, 0, 0);
         self.ask(&queries::with_bar(queries::with_link(q, s, 0, 0), u, 0, 0))
     }
@@ -107,6 +135,15 @@ impl Search<'_> {
         requires { (s < 32) × (u < 32) }
         ensures { Finds self.now (PartsAvoided s u a b c) result }
     {
+        if !queries::meets(a, self.tables.usable) {
+            return None;
+        }
+        if !queries::meets(b, self.tables.usable) {
+            return None;
+        }
+        if !queries::meets(c, self.tables.usable) {
+            return None;
+        }
         let q = queries::with_seeds(3, a, b, c);
         self.ask(&queries::with_link(queries::with_link(q, s, 1, 0), u, 2, 0))
     }
@@ -116,6 +153,12 @@ impl Search<'_> {
         requires { (s < 32) × (u < 32) }
         ensures { Finds self.now (OwnPartsAvoided s u a b) result }
     {
+        if !queries::meets(a, self.tables.usable) {
+            return None;
+        }
+        if !queries::meets(b, self.tables.usable) {
+            return None;
+        }
         let q = queries::with_seeds(2, a, b, 0);
         self.ask(&queries::with_link(queries::with_link(q, s, 0, 0), u, 1, 0))
     }

@@ -1,5 +1,5 @@
 // Rows: the links of each object go to types of the other diagram's masks, and their number lies within its limits.
-ghost use Rattle.std.specs.Prelude.{◌≡◌, ℕ, ◌%◌, ◌/◌, ◌<◌, eqb};
+ghost use Rattle.std.specs.Prelude.{◌≡◌, ℕ, ◌%◌, ◌/◌, ◌<◌, None, eqb, false};
 ghost use Rattle.laws.specs.Bits.{bit};
 ghost use Rattle.worlds.specs.Kept.{RowsKept};
 ghost use Rattle.aims.specs.Finds.{Finds};
@@ -91,10 +91,35 @@ impl Search<'_> {
         self.find_high(i, others)
     }
 
-    // Links that the other diagram does not allow.
+    // Whether row i of the other diagram asks for more than the searched diagram's own.
+    fn is_new_row(&self, i: usize, others: &Others) -> bool
+        requires { i < 768 }
+        ensures { result ≡ false → Finds self.now (RowKept others.now.targets others.now.lows others.now.highs i) None }
+    {
+        if self.tables.targets[i].minus(others.targets[i]) != 0 {
+            return true;
+        }
+        if self.tables.lows[i] < others.lows[i] {
+            return true;
+        }
+        if others.highs[i] < self.tables.highs[i] {
+            return true;
+        }
+        false
+    }
+
+    // Links that the other diagram does not allow. Most of the 768 rows ask for nothing more: the test passes over them, and a chain would
+    // hand on an Option of a whole site for each.
     pub fn find_rows(&self, others: &Others) -> Option<Site>
         ensures { Finds self.now (RowsKept others.now.targets others.now.lows others.now.highs) result }
     {
-        (0..768).find_map(|i| self.find_row(i, others))
+        for i in 0..768 {
+            if self.is_new_row(i, others) {
+                if let Some(site) = self.find_row(i, others) {
+                    return Some(site);
+                }
+            }
+        }
+        None
     }
 }

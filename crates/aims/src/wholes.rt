@@ -26,6 +26,12 @@ impl Search<'_> {
     fn find_pair(&self, one: &Whole, two: &Whole) -> Option<Site>
         ensures { Finds self.now (PairApart one.now two.now) result }
     {
+        if one.from == 0 {
+            return None;
+        }
+        if two.from == 0 {
+            return None;
+        }
         let parts = queries::common(one.to, two.to);
         if parts == 0 {
             return None;

@@ -77,9 +77,9 @@ kept-with : (b : Bench) (p : ℕ) (reply : Reply) (list : List ℕ) → Step (be
 kept-with b p reply list s z = record { step = s; stays = stays_all b (Compile p) (reply_of reply list); zero = z }
 
 module _ (b : Bench) (p : ℕ) where
-  pub compile-place : (y : Refusal) → refused (number_of y) ≡ diagram_at (bench_of b) p → DoesWith b (Compile p) (record { bench = b; reply = Refused y; list = replicate 448 0 })
+  pub compile-place : (y : Refusal) → refused (number_of y) ≡ diagram_at (bench_of b) p → DoesWith b (Compile p) (record { bench = b; reply = Refused (number_of y); list = replicate 448 0 })
   unfolding asking compiled and_then
-  compile-place y k = kept-with b p (Refused y) (replicate 448 0) (rw (← k)) (λ e. refl)
+  compile-place y k = kept-with b p (Refused (number_of y)) (replicate 448 0) (rw (← k)) (λ e. refl)
 
   pub compile-done : (d : ReadDiagram) {l : Compiled} → accepted (diagram_by d) ≡ diagram_at (bench_of b) p → Gives d.stored l
       → DoesWith b (Compile p) (record { bench = b; reply = Records l.number; list = l.list })

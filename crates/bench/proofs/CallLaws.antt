@@ -47,14 +47,14 @@ module _ (b : Bench) (c : Call) where
   pub asks : (a : Answer abstract.Reply) (r : Result Reply Refusal) → said_by r ≡ a → ((o : Outcome) → o ≡ asking (bench_of b) a → Step (bench_of b) c o) → Does b c (asked_in b r) []
   unfolding asking
   asks a (Ok reply) is step = kept reply [] (step _ (rw (← is)))
-  asks a (Err y) is step = kept (Refused y) [] (step _ (rw (← is)))
+  asks a (Err y) is step = kept (Refused (number_of y)) [] (step _ (rw (← is)))
 
   -- a call that sets a place, by what it gives
   pub stores : (p : ℕ) (a : Answer (math.Option Diagram)) (r : Result (Option ReadDiagram) Refusal) → answer_of diagram_in r ≡ a
       → effect c ≡ record { on = at_place p; lends = none } → ((o : Outcome) → o ≡ settling (bench_of b) p a → Step (bench_of b) c o) → Does b c (placed_in b p r) []
   unfolding settling
   stores p a (Ok x) is q step = settles p x q (step _ (rw (← is, settled_is b p x)))
-  stores p a (Err y) is q step = kept (Refused y) [] (step _ (rw (← is)))
+  stores p a (Err y) is q step = kept (Refused (number_of y)) [] (step _ (rw (← is)))
 
   pub whole-asks : (a : Answer abstract.Reply) (r : Result Reply Refusal) {x : Replied} → x ≡ asked_in b r → said_by r ≡ a
       → ((o : Outcome) → o ≡ asking (bench_of b) a → Step (bench_of b) c o) → Does b c x []

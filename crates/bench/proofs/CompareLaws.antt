@@ -44,18 +44,18 @@ step_of b bound o a e s = subst (λ (x : Answer (Diagram × Diagram)). Choosing 
 -- ---- the ways out
 
 module _ (b : Bench) (bound : ℕ) where
-  pub compare-bound : 8 < bound → Does b (Compare bound) (record { bench = b; reply = Refused Bound }) []
+  pub compare-bound : 8 < bound → Does b (Compare bound) (record { bench = b; reply = Refused (number_of Bound) }) []
   unfolding compared in_bound
-  compare-bound h = kept b (Compare bound) (Refused Bound) [] (step_of (bench_of b) bound _ (refused 9) (rw (lt-ltb 8 bound h)) refl)
+  compare-bound h = kept b (Compare bound) (Refused (number_of Bound)) [] (step_of (bench_of b) bound _ (refused 9) (rw (lt-ltb 8 bound h)) refl)
 
-  pub compare-old : bound ≤ 8 → (y : Refusal) → refused (number_of y) ≡ diagram_at (bench_of b) 0 → Does b (Compare bound) (record { bench = b; reply = Refused y }) []
+  pub compare-old : bound ≤ 8 → (y : Refusal) → refused (number_of y) ≡ diagram_at (bench_of b) 0 → Does b (Compare bound) (record { bench = b; reply = Refused (number_of y) }) []
   unfolding compared in_bound and_then
-  compare-old h y k = kept b (Compare bound) (Refused y) [] (step_of (bench_of b) bound _ (refused (number_of y)) (rw (le-ltb 8 bound h, ← k)) refl)
+  compare-old h y k = kept b (Compare bound) (Refused (number_of y)) [] (step_of (bench_of b) bound _ (refused (number_of y)) (rw (le-ltb 8 bound h, ← k)) refl)
 
   pub compare-new : bound ≤ 8 → (d : Diagram) → accepted d ≡ diagram_at (bench_of b) 0 → (y : Refusal) → refused (number_of y) ≡ diagram_at (bench_of b) 1
-      → Does b (Compare bound) (record { bench = b; reply = Refused y }) []
+      → Does b (Compare bound) (record { bench = b; reply = Refused (number_of y) }) []
   unfolding compared in_bound and_then
-  compare-new h d k y m = kept b (Compare bound) (Refused y) [] (step_of (bench_of b) bound _ (refused (number_of y)) (rw (le-ltb 8 bound h, ← k, ← m)) refl)
+  compare-new h d k y m = kept b (Compare bound) (Refused (number_of y)) [] (step_of (bench_of b) bound _ (refused (number_of y)) (rw (le-ltb 8 bound h, ← k, ← m)) refl)
 
   module _ (old new : Diagram) (k : accepted old ≡ diagram_at (bench_of b) 0) (l : accepted new ≡ diagram_at (bench_of b) 1) where
     -- place 0 holds it
@@ -88,10 +88,10 @@ module _ (b : Bench) (bound : ℕ) where
         (tt, chooses b (Compare bound) NoDifference None tt refl refl (step-found math.none _ h c.finds (rw (witness-is b None tt))))
 
 -- what a `?` passes on
-pub refused-chose : (b : Bench) (bound : ℕ) (r : Result (Option MemoryRecord) Refusal) {y : Refusal} → IsErrAnd r (λ z. z ≡ y)
-    → Does b (Compare bound) (record { bench = b; reply = Refused y }) [] → Chose b bound r
-refused-chose b bound (Ok x) h d = absurd h
-refused-chose b bound (Err z) h d = subst (λ (x : Refusal). Does b (Compare bound) (record { bench = b; reply = Refused x }) []) (sym h) d
+pub refused-chose : (b : Bench) (bound : ℕ) (r : Result (Option MemoryRecord) Refusal) (y : Refusal) → IsErrAnd r (λ z. z ≡ y)
+    → Does b (Compare bound) (record { bench = b; reply = Refused (number_of y) }) [] → Chose b bound r
+refused-chose b bound (Ok x) y h d = absurd h
+refused-chose b bound (Err z) y h d = subst (λ (x : Refusal). Does b (Compare bound) (record { bench = b; reply = Refused (number_of x) }) []) (sym h) d
 
 -- the bench with the witness that was chosen
 pub chosen : (b : Bench) (bound : ℕ) (found : Option MemoryRecord) (k : IfSome (witness_by found) (ValidWitness b.old b.new)) {x : Option MemoryRecord}

@@ -8,6 +8,7 @@ use Rattle.std.specs.Prelude.{Result, Ok, Err, IsErrAnd}
 use Rattle.laws.specs.Lists.{over}
 use Rattle.files.specs.Convert.{converted}
 use Rattle.files.specs.Refusal.{accepted}
+use Rattle.fields.specs.Refusal.{number_of}
 use Rattle.fields.specs.declared.Refusal.{Refusal}
 use Rattle.steps.specs.Bench.{Convert}
 use Rattle.steps.specs.Step.{writing}
@@ -21,9 +22,9 @@ use Rattle.bench.specs.declared.Reply.TheVariants.{Refused, Written}
 use Rattle.bench.proofs.CallLaws.{kept}
 
 module _ (b : Bench) (file before after : List ℕ) where
-  refused : (y : Refusal) → Conversion file before (Err y) after → Does b (Convert file before) (record { bench = b; reply = Refused y }) after
+  refused : (y : Refusal) → Conversion file before (Err y) after → Does b (Convert file before) (record { bench = b; reply = Refused (number_of y) }) after
   unfolding writing
-  refused y c = let d = conversion-refused c in kept b (Convert file before) (Refused y) after (rw (d.0, d.1))
+  refused y c = let d = conversion-refused c in kept b (Convert file before) (Refused (number_of y)) after (rw (d.0, d.1))
 
   -- what a `?` passes on
   pub convert-refused : (r : Result Reply Refusal) {y : Refusal} → IsErrAnd r (λ z. z ≡ y) → Conversion file before (Err y) after

@@ -5,6 +5,7 @@ use native.Mathlib.Omega.{arith}
 use mathlib.Core.List.{List}
 use mathlib.Core.Option.{some}
 use Rattle.std.specs.Prelude.{Option, None, Some, IfSome, IsSome, Result, Ok, Err, IsErrAnd, ok_or}
+use Rattle.fields.specs.Refusal.{number_of}
 use Rattle.fields.specs.declared.Refusal.{Refusal}
 use Rattle.fields.specs.declared.Refusal.TheVariants.{Buffer, NoWitness}
 use Rattle.diagrams.specs.declared.ReadDiagram.{ReadDiagram}
@@ -43,7 +44,7 @@ module _ (b : Bench) where
   hand-none s (Ok x) h e = absurd h
   hand-none s (Err z) h e =
       let q = none-asked b.witness e in
-      rw (h ∙ q.1) (kept b (HandOut s) (Refused NoWitness) s (rw q.0))
+      rw (h ∙ q.1) (kept b (HandOut s) (Refused (number_of NoWitness)) s (rw q.0))
 
   module _ (w : Witness) (e : b.witness ≡ Some w) where
     -- by the names of the diagram in its place
@@ -57,9 +58,9 @@ module _ (b : Bench) where
     valid : ValidWitness b.old b.new w
     valid = subst (λ (x : Option Witness). IfSome x (ValidWitness b.old b.new)) e b.fits
 
-    pub hand-short : (s : List ℕ) → length s < 60000 → Does b (HandOut s) (record { bench = b; reply = Refused Buffer }) s
+    pub hand-short : (s : List ℕ) → length s < 60000 → Does b (HandOut s) (record { bench = b; reply = Refused (number_of Buffer) }) s
     unfolding writing handed_out witnessing in_buffer
-    hand-short s l = kept b (HandOut s) (Refused Buffer) s (rw (one-witness, lt-leb 60000 (length s) l))
+    hand-short s l = kept b (HandOut s) (Refused (number_of Buffer)) s (rw (one-witness, lt-leb 60000 (length s) l))
 
     module _ {x : Option ReadDiagram} (d : ReadDiagram) (is : x ≡ place_in b w.place) (full : x ≡ Some d) where
       here : place_in b w.place ≡ Some d

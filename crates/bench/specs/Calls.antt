@@ -1,6 +1,7 @@
 -- What a call on the bench in memory promises: what 01 says of it (`Step`), and what stays of the bench byte for byte.
 -- Assumes nothing.
 use Rattle.std.specs.Prelude.{◌<◌, ◌≤◌, ℕ, false, true, List, [], ◌≡◌, replicate, Option, None, Some, IfSome, Result, Ok, Err}
+use Rattle.fields.specs.Refusal.{number_of}
 use Rattle.fields.specs.declared.Refusal.{Refusal}
 use Rattle.fields.specs.declared.Refusal.TheVariants.{Place}
 use Rattle.diagrams.specs.declared.ReadDiagram.{ReadDiagram}
@@ -68,4 +69,4 @@ told_by None = NoDifference
 abbrev pub Chose : Bench → ℕ → Result (Option MemoryRecord) Refusal → Type 0
 Chose b bound (Ok found) =
     (k : IfSome (witness_by found) (ValidWitness b.old b.new)) × Does b (Compare bound) (record { bench = with_witness_in b (witness_by found) k; reply = told_by found }) []
-Chose b bound (Err r) = Does b (Compare bound) (record { bench = b; reply = Refused r }) []
+Chose b bound (Err r) = Does b (Compare bound) (record { bench = b; reply = Refused (number_of r) }) []

@@ -49,14 +49,14 @@ reply_of (FirstFalse n) list = abstract.first_false n
 reply_of NoDifference list = abstract.no_difference
 reply_of (Difference n) list = abstract.difference n
 reply_of (Written n) list = abstract.written n
-reply_of (Refused r) list = abstract.refusal (number_of r)
+reply_of (Refused n) list = abstract.refusal n
 
 -- ---- what a call gives
 
 -- the reply, or its refusal
 abbrev pub reply_by : Result Reply Refusal → Reply
 reply_by (Ok reply) = reply
-reply_by (Err r) = Refused r
+reply_by (Err r) = Refused (number_of r)
 
 -- as 01 has it
 abbrev pub said_by : Result Reply Refusal → Answer abstract.Reply
@@ -77,4 +77,4 @@ asked_in b r = record { bench = b; reply = reply_by r }
 -- of a call that sets place p
 abbrev pub placed_in : Bench → ℕ → Result (Option ReadDiagram) Refusal → Replied
 placed_in b p (Ok x) = record { bench = settled_in b p x; reply = Done }
-placed_in b p (Err r) = record { bench = b; reply = Refused r }
+placed_in b p (Err r) = record { bench = b; reply = Refused (number_of r) }

@@ -28,7 +28,7 @@ pub enum Reply {
     NoDifference,
     Difference(u8),
     Written(usize),
-    Refused(Refusal),
+    Refused(u8),
 }
 
 #[derive(Clone, Copy)]
@@ -122,7 +122,7 @@ fn cleared(place: u8) -> Result<Option<ReadDiagram>, Refusal>
 fn told(r: Result<Reply, Refusal>) -> Reply
     ensures { result ≡ reply_by r }
 {
-    r.unwrap_or_else(Reply::Refused)
+    r.unwrap_or_else(|refusal| Reply::Refused(refusal.number()))
 }
 
 // ---- calls on a bench that stays where it stands; before each, what it gives where it is not refused
@@ -143,7 +143,7 @@ impl Bench {
                 }
                 Reply::Done
             }
-            Err(refusal) => Reply::Refused(refusal),
+            Err(refusal) => Reply::Refused(refusal.number()),
         }
     }
 
@@ -190,7 +190,7 @@ impl Bench {
                 }
             }
             Err(refusal) => CompileReply {
-                reply: Reply::Refused(refusal),
+                reply: Reply::Refused(refusal.number()),
                 list: [0; 448],
             },
         }
@@ -235,7 +235,7 @@ impl Bench {
                 self.witness = None;
                 Reply::NoDifference
             }
-            Err(refusal) => Reply::Refused(refusal),
+            Err(refusal) => Reply::Refused(refusal.number()),
         }
     }
 

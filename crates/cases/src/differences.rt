@@ -60,7 +60,7 @@ fn load(b: Bench, place: u8, s: &[u8], space: &mut [u8]) -> Replied {
 // A bound and, each behind a slash, the old and the new diagram file.
 pub fn run_compare(c: Case<'_>, bytes: bool, space: &mut [u8]) {
     let bound = pair(laws::byte(c.body, 1), laws::byte(c.body, 2));
-    let files = behind(c.body, b'/');
+    let files = behind(c.line, b'/');
     let b = bench::fresh();
     let old = load(b, 0, ahead(files), space);
     let new = load(old.bench, 1, behind(files, b'/'), space);

@@ -68,9 +68,10 @@ fn ahead(s: &[u8]) -> &[u8] {
     laws::front(s, before(s, b'/'))
 }
 
-// A line: its letter, its name, and what stands behind the colon.
+// A line: all of it, its letter, its name, and what stands behind the colon. Files are parted by the first slash of the line, a name's too.
 #[derive(Clone, Copy)]
 struct Case<'a> {
+    line: &'a [u8],
     letter: u8,
     name: &'a [u8],
     body: &'a [u8],
@@ -79,6 +80,7 @@ struct Case<'a> {
 impl<'a> Case<'a> {
     fn of(line: &'a [u8]) -> Self {
         Case {
+            line,
             letter: laws::byte(line, 0),
             name: laws::past(laws::front(line, before(line, b':')), 2),
             body: behind(line, b':'),
@@ -131,8 +133,9 @@ fn print_replies(c: Case<'_>, d: diagrams::ReadDiagram, file: &[u8]) {
 
 // A diagram file and, behind a slash, a record file.
 fn run_site(c: Case<'_>, space: &mut [u8], other: &mut [u8]) {
-    let n = decode(ahead(c.body), space);
-    let k = decode(behind(c.body, b'/'), other);
+    let first = laws::past(ahead(c.line), before(c.line, b':'));
+    let n = decode(laws::past(first, 1), space);
+    let k = decode(behind(c.line, b'/'), other);
     if let Ok(d) = loading::read_diagram(laws::front(space, n)) {
         print_replies(c, d, laws::front(other, k));
     }

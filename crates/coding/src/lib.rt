@@ -160,7 +160,7 @@ pub fn say(out: &mut [u8], r: Reply, list: &[u8]) -> Option<usize>
         Reply::Records(n) => put(out, &[0, n], list),
         Reply::NoDifference => put(out, &[0, 0], &[]),
         Reply::Difference(n) => put(out, &[0, 1, n], &[]),
-        Reply::Refused(refusal) => put(out, &[refusal.number()], &[]),
+        Reply::Refused(n) => put(out, &[n], &[]),
     }
 }
 
@@ -171,7 +171,7 @@ fn told(r: Reply) -> (u8, usize)
 {
     match r {
         Reply::Written(n) => (0, n),
-        Reply::Refused(refusal) => (refusal.number(), 0),
+        Reply::Refused(n) => (n, 0),
         _ => (0, 0),
     }
 }

@@ -68,8 +68,9 @@ impl Indexed<'_> {
         requires { o < 8 }
         ensures { result ≡ object_known (diagram_of self.now.diagram.now.stored) self.now.memory.now o }
     {
-        (usize::from(self.memory.types[o]) < self.diagram.stored.types.count)
-            & (self.values_known(o) & self.targets_known(o))
+        usize::from(self.memory.types[o]) < self.diagram.stored.types.count
+            && self.values_known(o)
+            && self.targets_known(o)
     }
 }
 

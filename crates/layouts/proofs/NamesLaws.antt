@@ -1,20 +1,21 @@
 -- Loops over a row of names: what is left behind the first i of them, and the names by index.
 -- Assumes nothing.
-use Prim.Native.Nat.{ℕ, ◌+◌}
+use Prim.Native.Nat.{ℕ, ◌+◌, ◌<◌, ◌≤◌}
 use native.Mathlib.Nat.{le_antisymm}
 use native.Mathlib.Numerals.{add-one}
-use mathlib.Core.Bool.{Bool, not}
+use mathlib.Core.Bool.{Bool, true, false, not}
 use mathlib.Core.List.{List, [], ◌∷◌}
 use mathlib.Core.Path.{◌≡◌, refl, sym, ap, ap₂, ◌∙◌}
-use lib.Dec.{leb}
+use lib.Dec.{eqb, leb}
 use lib.ListN.{length, get_or, drop}
 use Rattle.laws.specs.Connective.{both}
 use Rattle.laws.specs.Bounded.{all, any}
 use Rattle.laws.specs.Lists.{joined}
 use Rattle.laws.proofs.BoundedLaws.{all-ext, any-ext}
+use Rattle.laws.proofs.LoopLaws.{all-begin, all-broke, all-next}
 use Rattle.laws.proofs.JoinedLaws.{length-each, get_or-each}
 use Rattle.files.specs.Name.{same_name, differ}
-use Rattle.files.specs.Content.{byte, name_in, past_name, starts_name, past_names}
+use Rattle.files.specs.Content.{byte, name_in, past_name, starts_name, past_names, at_end}
 use Rattle.files.specs.DiagramLayout.{value_type_laid}
 use Rattle.layouts.specs.Names.{names_laid}
 
@@ -29,6 +30,26 @@ unfolding past_names
 past_next c i e f = f ∙ ap past_name e ∙ sym (ap (λ (n : ℕ). past_names n c) (add-one i))
 
 -- ---- whether names stand there
+
+abbrev pub starts : List ℕ → ℕ → Bool
+starts c i = starts_name (past_names i c)
+
+pub starts-begin : (c : List ℕ) → all (starts c) 0 ≡ true
+starts-begin c = all-begin (starts c)
+
+pub starts-next : (c : List ℕ) (i : ℕ) {r : List ℕ} {b : Bool} → all (starts c) i ≡ true → r ≡ past_names i c → b ≡ starts_name r → b ≡ true → all (starts c) (i + 1) ≡ true
+starts-next c i e p q t = all-next (starts c) i e (q ∙ ap starts_name p) t
+
+pub laid-not : (c : List ℕ) (n i : ℕ) {r : List ℕ} {b : Bool} → i < n → r ≡ past_names i c → b ≡ starts_name r → b ≡ false → false ≡ names_laid c n
+unfolding names_laid both
+laid-not c n i h p q t = ap (λ (b : Bool). both b (at_end (past_names n c))) (all-broke (starts c) n i h (q ∙ ap starts_name p) t)
+
+pub laid_end : (c : List ℕ) (n i : ℕ) {r : List ℕ} → i ≤ n → n ≤ i → r ≡ past_names i c → all (starts c) i ≡ true → eqb (length r) 0 ≡ names_laid c n
+unfolding names_laid both at_end
+laid_end c n i h l p e =
+    let q : i ≡ n = le_antisymm h l in
+    ap (λ (s : List ℕ). eqb (length s) 0) (p ∙ ap (λ (k : ℕ). past_names k c) q)
+    ∙ sym (ap (λ (a : Bool). both a (at_end (past_names n c))) (sym (ap (all (starts c)) q) ∙ e))
 
 pub value-type-laid-is : (c : List ℕ)
     → value_type_laid c ≡ both (starts_name c) (both (both (leb 1 (length (past_name c))) (leb (byte (past_name c) 0) 8)) (names_laid (drop 1 (past_name c)) (byte (past_name c) 0)))

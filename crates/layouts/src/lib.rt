@@ -21,11 +21,18 @@ pub fn past_names(c: &[u8], n: u8) -> &[u8]
     (0..n).fold(c, |rest, _| fields::past_name(rest))
 }
 
-// n names, and nothing behind them.
+// n names, and nothing behind them: one walk, up to the first that is no name, since n is a byte of a file that may be refused.
 pub fn names_laid(c: &[u8], n: u8) -> bool
     ensures { result ≡ names_laid c.now n }
 {
-    (0..n).all(|i| fields::starts_name(past_names(c, i))) & past_names(c, n).is_empty()
+    let mut rest = c;
+    for _ in 0..n {
+        if !fields::starts_name(rest) {
+            return false;
+        }
+        rest = fields::past_name(rest);
+    }
+    rest.is_empty()
 }
 
 // Names i and j are the same.

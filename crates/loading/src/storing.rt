@@ -28,9 +28,10 @@ fn store_constants(constants: &mut [u8; 1632], v: usize, c: &[u8], n: u8)
     requires { (v < 12) × ((n ≤ 8) × (all (λ k. starts_name (past_names k c.now)) n ≡ true)) }
     ensures { ConstantsStored constants.old v c.now n constants.new }
 {
+    let mut rest = c;
     for i in 0..n {
-        let at = layouts::past_names(c, i);
-        store_name(constants, v * 8 + usize::from(i), fields::name_in(at));
+        store_name(constants, v * 8 + usize::from(i), fields::name_in(rest));
+        rest = fields::past_name(rest);
     }
 }
 

@@ -1,12 +1,16 @@
-use Rattle.layouts.proofs.names_laid.Goals as goal
-use Rattle.laws.specs.Connective.{both}
-use Rattle.laws.proofs.RangeLaws.{all-range}
-use Rattle.files.specs.Content.{past_names, starts_name, at_end}
-use Rattle.layouts.specs.Names.{names_laid}
 use borrow.Author.Rules.{rules}
 use borrow.Author.Tests.{tests}
-use mathlib.Core.Path.{refl}
+use Rattle.layouts.proofs.NamesLaws.{laid-not, laid_end, past-begin, past_next, starts-begin, starts-next}
+use Rattle.layouts.proofs.names_laid.Goals as goal
+
+pub loop-init : goal.loop-init
+loop-init c = search (past-begin, starts-begin)
+
+pub returns-then-not-starts_name : goal.returns-then-not-starts_name
+returns-then-not-starts_name c = search (rules, tests, laid-not)
+
+pub loop-preserved : goal.loop-preserved
+loop-preserved c = search (rules, tests, past_next, starts-next)
 
 pub returns : goal.returns
-unfolding names_laid both at_end
-returns c = cc (all-range (λ i. starts_name (past_names i c.args.c.now)) c.args.n c.all.ensures.ran refl (λ x b q k. search (rules, tests)))
+returns c = search (rules, tests, laid_end)

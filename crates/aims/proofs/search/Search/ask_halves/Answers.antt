@@ -1,11 +1,21 @@
 -- `ask_halves` meets its contract: what the query asks for is what is to be avoided.
 -- Assumes nothing.
+use Rattle.aims.proofs.ChainLaws.{keeps}
+use Rattle.aims.proofs.SkipLaws.{skip-halves, skip-halves-to}
 use Rattle.queries.proofs.FitLaws.{fit-half, sane-of}
 use Rattle.queries.proofs.PartLaws.{half-said}
 use Rattle.queries.specs.Forms.{barred, linked}
 use Rattle.worlds.specs.declared.Query.{Query}
+use borrow.Author.Tests.{not-true}
+use mathlib.Core.Bool.{not}
 use mathlib.Core.Path.{◌∙◌, ap}
 use Rattle.aims.proofs.search.Search.ask_halves.Goals as goal
+
+pub returns-then-not-meets : goal.returns-then-not-meets
+returns-then-not-meets c = keeps c.args.self.now _ (skip-halves _ _ (c.meets.ensures.1 (not-true c.meets.result (ap not c.if-not-meets.true))) _ _ _)
+
+pub returns-then-not-meets-2 : goal.returns-then-not-meets-2
+returns-then-not-meets-2 c = keeps c.args.self.now _ (skip-halves-to _ _ (c.meets-2.ensures.1 (not-true c.meets-2.result (ap not c.if-not-meets-2.true))) _ _ _)
 
 pub ask-requires : goal.ask-requires
 ask-requires c =

@@ -1,8 +1,14 @@
--- `find_pair` meets its contract: no type is a part by both, or there are no links, or a part of two is searched for.
+-- `find_pair` meets its contract: no type is a whole by one of the two, or none a part by both, or there are no links, or a part of two is searched for.
 -- Assumes nothing.
 use Rattle.aims.proofs.ChainLaws.{keeps}
-use Rattle.aims.proofs.WholeLaws.{pair-empty, pair_found, pair-past, pair-past-too}
+use Rattle.aims.proofs.WholeLaws.{pair-empty, pair_found, pair-no-whole, pair-no-whole-too, pair-past, pair-past-too}
 use Rattle.aims.proofs.search.Search.find_pair.Goals as goal
+
+pub returns-then-one-eq0 : goal.returns-then-one-eq0
+returns-then-one-eq0 c = keeps c.args.self.now _ (pair-no-whole _ _ _ _ c.if-one-eq0.true)
+
+pub returns-then-two-eq0 : goal.returns-then-two-eq0
+returns-then-two-eq0 c = keeps c.args.self.now _ (pair-no-whole-too _ _ _ _ c.if-two-eq0.true)
 
 pub returns-then-parts-eq0 : goal.returns-then-parts-eq0
 returns-then-parts-eq0 c = keeps c.args.self.now _ (pair-empty _ _ _ _ _ c.common-parts.ensures c.if-parts-eq0.true)

@@ -6,12 +6,12 @@ returns-then-bound-gt8 c = compare-bound c.args.self.now c.args.bound c.if-bound
 
 pub returns-in_err-old : goal.returns-in_err-old
 returns-in_err-old c =
-    refused-chose c.args.self.now c.args.bound _ c.from_residual.ensures.1
+    refused-chose c.args.self.now c.args.bound _ _ c.from_residual.ensures.1
     (compare-old c.args.self.now c.args.bound c.if-bound-gt8.false _ c.in_err-old.ensures)
 
 pub returns-in_err-new : goal.returns-in_err-new
 returns-in_err-new c =
-    refused-chose c.args.self.now c.args.bound _ c.from_residual-in_err-new.ensures.1
+    refused-chose c.args.self.now c.args.bound _ _ c.from_residual-in_err-new.ensures.1
     (compare-new c.args.self.now c.args.bound c.if-bound-gt8.false _ c.in_ok-old.ensures _ c.in_err-new.ensures)
 
 pub returns : goal.returns

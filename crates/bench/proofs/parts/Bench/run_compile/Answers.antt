@@ -9,4 +9,4 @@ pub returns-in-Ok : goal.returns-in-Ok
 returns-in-Ok c = compile-done c.args.self.now c.args.place c.in-Ok.d c.in-Ok.ensures c.compile-c.ensures
 
 pub returns-in-Err : goal.returns-in-Err
-returns-in-Err c = compile-place c.args.self.now c.args.place _ c.in-Err.ensures
+returns-in-Err c = rw (c.number.ensures) (compile-place c.args.self.now c.args.place _ c.in-Err.ensures)
