@@ -36,22 +36,13 @@ pub(crate) fn unblanked(s: &[u8]) -> &[u8]
     laws::past(s, blanks)
 }
 
-// A byte of a name. Most are letters, and these are told first, since each walk over a text tests each byte of its words.
-#[tactic(auto, unfolding(laws::specs::Connective::both, laws::specs::Connective::either, files::specs::Name::name_byte))]
-fn is_name_byte(b: u8) -> bool
-    ensures { result ≡ name_byte b }
-{
-    if ((b'A' <= b) & (b <= b'Z')) | ((b'a' <= b) & (b <= b'z')) {
-        return true;
-    }
-    fields::name_byte(b)
-}
-
 // The length of the longest run of name bytes at the front.
 fn run_size(s: &[u8]) -> usize
     ensures { result ≡ length (run s.now) }
 {
-    s.iter().position(|b| !is_name_byte(*b)).unwrap_or(s.len())
+    s.iter()
+        .position(|b| !fields::name_byte(*b))
+        .unwrap_or(s.len())
 }
 
 // ---- words
